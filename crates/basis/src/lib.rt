@@ -1,0 +1,1 @@
+// Little-endian reading of bytes, and sets of keys in a word.

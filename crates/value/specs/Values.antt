@@ -1,0 +1,50 @@
+-- Values: absent, or a signed 32-bit number as its two's complement word; and the five operations on them.
+use Prim.Native.Nat.{ℕ, zero, suc}
+use mathlib.Core.Bool.{Bool, true, false, cond, _&&_}
+use lib.Dec.{eqb}
+use lib.IntN.{ℤ, pos, negsuc, _+ℤ_, _-ℤ_, _*ℤ_}
+use lib.Signed.{leZ, quotZ, remZ}
+use mir.Syntax.{w32}
+use mir.Val.{toZ, ofZ}
+use Rattle.value.specs.declared.Value.{Value}
+use Rattle.value.specs.declared.Value.the-variants.{Absent, Present}
+
+-- the number that a word holds in two's complement
+abbrev pub signed : ℕ → ℤ
+signed w = toZ w32 w
+
+-- from -2,147,483,648 to 2,147,483,647 (`negsuc n` is -(n + 1))
+abbrev pub inRange : ℤ → Bool
+inRange z = leZ (negsuc 2147483647) z && leZ z (pos 2147483647)
+
+-- a number as a value: absent where it does not fit
+abbrev pub fit : ℤ → Value
+fit z = cond (inRange z) (Present (ofZ w32 z)) Absent
+
+abbrev pub isZero : ℤ → Bool
+isZero (pos zero) = true
+isZero (pos (suc n)) = false
+isZero (negsuc n) = false
+
+-- both truncate toward zero
+abbrev pub quotient : ℤ → ℤ → ℤ
+quotient x y = quotZ x y
+
+abbrev pub remainder : ℤ → ℤ → ℤ
+remainder x y = remZ x y
+
+-- node kinds 36 to 40, +, -, ×, divide, remainder, on two numbers; a zero divisor gives absent
+abbrev pub arithmetic : ℕ → ℤ → ℤ → Value
+arithmetic kind x y =
+    cond (eqb kind 36) (fit (x +ℤ y))
+    (cond (eqb kind 37) (fit (x -ℤ y))
+    (cond (eqb kind 38) (fit (x *ℤ y))
+    (cond (eqb kind 39) (cond (isZero y) Absent (fit (quotient x y)))
+    (cond (eqb kind 40) (cond (isZero y) Absent (fit (remainder x y)))
+    Absent))))
+
+-- the same on two values: an absent operand gives absent
+abbrev pub operate : ℕ → Value → Value → Value
+operate kind Absent b = Absent
+operate kind (Present x) Absent = Absent
+operate kind (Present x) (Present y) = arithmetic kind (signed x) (signed y)
