@@ -1,0 +1,103 @@
+-- Act: what agent x's choice needs in the state before, and what it writes.
+use Prim.Native.Nat.{ℕ, _+_, _-_}
+use mathlib.Core.Bool.{Bool, true, false, cond, not, _&&_, _||_}
+use mathlib.Core.List.{List, [], _∷_, _++_}
+use lib.Dec.{eqb, leb, ltb}
+use lib.ListN.{length, getD, set, replicate}
+use Rattle.basis.specs.Numbers.{forEach}
+use Rattle.basis.specs.KeySets.{plusAll}
+use Rattle.value.specs.declared.Value.{Value}
+use Rattle.value.specs.declared.Value.the-variants.{Absent, Present}
+use Rattle.table.specs.Checks.{Check, refuseIf}
+use Rattle.table.specs.Tables.{Table, kindAt, pAt, qAt}
+use Rattle.term.specs.Terms.{Term, Idle, words}
+use Rattle.term.specs.Processes.{Label, ticks, acts, Derivation, derivation, derivations, process, allFew}
+use Rattle.state.specs.declared.Store.{Store}
+use Rattle.state.specs.declared.Store.the-variants.{Environment, Attributes, Entries}
+use Rattle.state.specs.Layout.{clockAt, zcAt, zpAt, lengthAt, residualAt, residualWords, keyLimit, clockOf, stampOf, zcOf, zpOf, termIn, put, addKey}
+use Rattle.state.specs.Evaluation.{valueOf, holds, reads}
+
+-- absent, and the word of a value that is not
+abbrev pub isAbsent : Value → Bool
+isAbsent Absent = true
+isAbsent (Present v) = false
+
+abbrev pub wordIn : Value → ℕ
+wordIn Absent = 0
+wordIn (Present v) = v
+
+-- the stamp that the next write takes
+abbrev pub nextStamp : List ℕ → ℕ
+nextStamp s = clockOf s + 1
+
+-- the residual of agent x becomes these words, and 0 after them
+unfoldable pub leave : ℕ → List ℕ → List ℕ → List ℕ
+leave x ws s =
+    set (forEach (λ (i : ℕ) (u : List ℕ). set u (residualAt x + i) (getD ws i 0)) residualWords s) (lengthAt x) (length ws)
+
+module _ (t : Table) (was : List ℕ) (x : ℕ) where
+  -- the derivations of what is left of its process; choice c is derivation c
+  abbrev pub choices : List Derivation
+  choices = derivations (process t (termIn was x))
+
+  abbrev pub chosen : ℕ → Derivation
+  chosen c = getD choices c (derivation ticks [] Idle)
+
+  abbrev pub allHold : List ℕ → Bool
+  allHold [] = true
+  allHold (b ∷ g) = holds t was x x b && allHold g
+
+  -- the expression's value; a tick has no expression
+  abbrev pub valueFor : ℕ → Value
+  valueFor n = valueOf t was x x (qAt t n)
+
+  abbrev pub lacksValue : Label → Bool
+  lacksValue ticks = false
+  lacksValue (acts n) = isAbsent (valueFor n)
+
+  abbrev pub writesEntry : Label → Bool
+  writesEntry ticks = false
+  writesEntry (acts n) = eqb (kindAt t n) 3
+
+  -- refusals 11 to 17, of choice c
+  abbrev pub actChecks : ℕ → List Check
+  actChecks c =
+      refuseIf 11 (not (eqb (zcOf was x) 0 && eqb (zpOf was x) 0))
+      ∷ refuseIf 12 (not (allFew t (termIn was x)))
+      ∷ refuseIf 13 (leb (length choices) c)
+      ∷ refuseIf 14 (not (allHold (chosen c .guards)))
+      ∷ refuseIf 15 (lacksValue (chosen c .label))
+      ∷ refuseIf 16 (writesEntry (chosen c .label) && leb 65535 (clockOf was))
+      ∷ refuseIf 17 (ltb residualWords (length (words (chosen c .leaving))))
+      ∷ []
+
+  -- a stigmergy key in the guards or the expression
+  abbrev pub guardsRead : List ℕ → ℕ → Bool
+  guardsRead [] k = false
+  guardsRead (b ∷ g) k = reads t b k || guardsRead g k
+
+  abbrev pub labelReads : Label → ℕ → Bool
+  labelReads ticks k = false
+  labelReads (acts n) k = reads t (qAt t n) k
+
+  -- what Zc gains: those that had an entry before (house rule: a key without one could never be confirmed)
+  abbrev pub toConfirm : Derivation → ℕ → Bool
+  toConfirm d k = (guardsRead (d .guards) k || labelReads (d .label) k) && ltb 0 (stampOf was x k)
+
+  -- the store that node n sets: kind 2 an attribute, 3 a stigmergy key, 4 an environment key
+  abbrev pub storeOf : ℕ → Store
+  storeOf n = getD (Attributes x ∷ Entries x ∷ Environment ∷ []) (kindAt t n - 2) Environment
+
+  -- the key is set; a stigmergy write takes the next stamp, which becomes the clock, and puts its key in Zp; a tick sets none
+  unfoldable pub setKey : Label → List ℕ
+  setKey ticks = was
+  setKey (acts n) =
+      cond (eqb (kindAt t n) 3)
+      (set (addKey (zpAt x) (pAt t n) (put (storeOf n) (pAt t n) (wordIn (valueFor n)) (nextStamp was) was)) clockAt (nextStamp was))
+      (put (storeOf n) (pAt t n) (wordIn (valueFor n)) 1 was)
+
+  -- then Zc and the residual
+  unfoldable pub acted : Derivation → List ℕ
+  acted d =
+      let s = setKey (d .label) in
+      leave x (words (d .leaving)) (set s (zcAt x) (plusAll (toConfirm d) keyLimit (zcOf s x)))

@@ -1,0 +1,72 @@
+-- Load and step: for every input, what is answered and the state after.
+use Prim.Native.Nat.{ℕ, zero, suc}
+use mathlib.Core.Bool.{Bool, true, false, not, _&&_, _||_}
+use mathlib.Core.List.{List, [], _∷_, _++_}
+use lib.Dec.{eqb, ltb}
+use lib.ListN.{length}
+use Rattle.basis.specs.KeySets.{has}
+use Rattle.table.specs.Checks.{Check, passes, refuses, refuseIf, firstOf}
+use Rattle.table.specs.Tables.{Table, tableOf}
+use Rattle.term.specs.Acceptance.{lengthChecks, contentChecks}
+use Rattle.state.specs.Layout.{zcOf, zpOf}
+use Rattle.state.specs.WellFormed.{wellFormed, loaded}
+use Rattle.machine.specs.Acts.{actChecks, chosen, acted}
+use Rattle.machine.specs.Offers.{takers, propagated, confirmed}
+
+-- what a call comes to: its check, the number of agents that took an entry, and the state after
+pub record Outcome : Type 0 where
+  pub check : Check
+  pub taken : ℕ
+  pub state : List ℕ
+
+-- a call that is refused leaves the state as it came, and takes nothing
+unfoldable pub outcome : Check → List ℕ → ℕ → List ℕ → Outcome
+outcome passes was taken state = record { check = passes; taken = taken; state = state }
+outcome (refuses number place) was taken state = record { check = refuses number place; taken = 0; state = was }
+
+-- the checks of a table, 1 to 8 (but 8 right after 3), given the lengths of state and scratch
+abbrev pub tableChecks : List ℕ → ℕ → ℕ → List Check
+tableChecks bytes stateLength scratchLength = lengthChecks bytes stateLength scratchLength ++ contentChecks (tableOf bytes)
+
+abbrev pub loadOf : List ℕ → List ℕ → ℕ → Outcome
+loadOf bytes was scratchLength =
+    outcome (firstOf (tableChecks bytes (length was) scratchLength)) was 0 (loaded (tableOf bytes))
+
+module _ (t : Table) (was : List ℕ) where
+  -- 10: kind, agent or key out of range; an act's number is a choice, of which 13 judges
+  abbrev pub outOfRange : ℕ → ℕ → ℕ → Bool
+  outOfRange kind x number =
+      not (ltb kind 3) || (not (ltb x (t .sizes .agents)) || (ltb 0 kind && not (ltb number (t .sizes .stigmergy))))
+
+  -- what is a kind's own: act 11 to 17; propagate and confirm 18
+  abbrev pub ownChecks : ℕ → ℕ → ℕ → List Check
+  ownChecks zero x c = actChecks t was x c
+  ownChecks (suc zero) x k = refuseIf 18 (not (has (zpOf was x) k)) ∷ []
+  ownChecks (suc (suc kind)) x k = refuseIf 18 (not (has (zcOf was x) k)) ∷ []
+
+  abbrev pub takenBy : ℕ → ℕ → ℕ → ℕ
+  takenBy zero x c = 0
+  takenBy (suc kind) x k = takers t was x k (t .sizes .agents)
+
+  abbrev pub after : ℕ → ℕ → ℕ → List ℕ
+  after zero x c = acted t was x (chosen t was x c)
+  after (suc zero) x k = propagated t was x k (t .sizes .agents)
+  after (suc (suc kind)) x k = confirmed t was x k (t .sizes .agents)
+
+  -- a step of an accepted table and a well-formed state
+  unfoldable pub stepIn : ℕ → ℕ → ℕ → Outcome
+  stepIn kind x number =
+      outcome (firstOf (refuseIf 10 (outOfRange kind x number) ∷ ownChecks kind x number)) was
+      (takenBy kind x number) (after kind x number)
+
+-- 9: the state is not well formed
+abbrev pub stateChecks : List ℕ → List ℕ → ℕ → List Check
+stateChecks bytes was scratchLength =
+    tableChecks bytes (length was) scratchLength ++ (refuseIf 9 (not (wellFormed (tableOf bytes) was)) ∷ [])
+
+unfoldable pub stepOf : List ℕ → List ℕ → ℕ → ℕ → ℕ → ℕ → Outcome
+stepOf bytes was scratchLength kind x number =
+    elim (firstOf (stateChecks bytes was scratchLength)) [
+      | passes ↦ stepIn (tableOf bytes) was kind x number
+      | refuses n place ↦ outcome (refuses n place) was 0 was
+    ]

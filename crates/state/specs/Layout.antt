@@ -1,0 +1,109 @@
+-- The state's words: where things stand, what stands there, and how one of them is changed.
+use Prim.Native.Nat.{ℕ, _+_, _*_}
+use mathlib.Core.Bool.{Bool, cond}
+use mathlib.Core.List.{List}
+use lib.Dec.{eqb, ltb}
+use lib.ListN.{getD, set, take, drop}
+use Rattle.basis.specs.KeySets.{plus, minus}
+use Rattle.value.specs.declared.Value.{Value}
+use Rattle.value.specs.declared.Value.the-variants.{Absent, Present}
+use Rattle.term.specs.Terms.{Term, termOf}
+use Rattle.state.specs.declared.Store.{Store}
+use Rattle.state.specs.declared.Store.the-variants.{Environment, Attributes, Entries}
+
+-- PLACES. Clock, A, 16 environment pairs, then agent blocks
+abbrev pub clockAt : ℕ
+clockAt = 0
+
+abbrev pub agentsAt : ℕ
+agentsAt = 1
+
+abbrev pub environmentAt : ℕ
+environmentAt = 2
+
+abbrev pub blockAt : ℕ → ℕ
+blockAt a = 34 + 130 * a
+
+-- a block: 16 attribute pairs, 16 stigmergy pairs, Zc, Zp, residual length, 63 residual words
+abbrev pub attributesAt : ℕ → ℕ
+attributesAt a = blockAt a
+
+abbrev pub entriesAt : ℕ → ℕ
+entriesAt a = blockAt a + 32
+
+abbrev pub zcAt : ℕ → ℕ
+zcAt a = blockAt a + 64
+
+abbrev pub zpAt : ℕ → ℕ
+zpAt a = blockAt a + 65
+
+abbrev pub lengthAt : ℕ → ℕ
+lengthAt a = blockAt a + 66
+
+abbrev pub residualAt : ℕ → ℕ
+residualAt a = blockAt a + 67
+
+abbrev pub residualWords : ℕ
+residualWords = 63
+
+-- keys of a store
+abbrev pub keyLimit : ℕ
+keyLimit = 16
+
+-- the word of a pair that says whether there is a value, present or the stamp; and the word of the value.
+-- Environment and attributes: (present, value); stigmergy entries: (value, stamp)
+abbrev pub markAt : Store → ℕ → ℕ
+markAt Environment k = environmentAt + 2 * k
+markAt (Attributes a) k = attributesAt a + 2 * k
+markAt (Entries a) k = entriesAt a + 2 * k + 1
+
+abbrev pub valueAt : Store → ℕ → ℕ
+valueAt Environment k = environmentAt + 2 * k + 1
+valueAt (Attributes a) k = attributesAt a + 2 * k + 1
+valueAt (Entries a) k = entriesAt a + 2 * k
+
+-- WHAT STANDS THERE
+abbrev pub clockOf : List ℕ → ℕ
+clockOf s = getD s clockAt 0
+
+abbrev pub markOf : List ℕ → Store → ℕ → ℕ
+markOf s store k = getD s (markAt store k) 0
+
+abbrev pub wordOf : List ℕ → Store → ℕ → ℕ
+wordOf s store k = getD s (valueAt store k) 0
+
+abbrev pub stampOf : List ℕ → ℕ → ℕ → ℕ
+stampOf s a k = markOf s (Entries a) k
+
+abbrev pub zcOf : List ℕ → ℕ → ℕ
+zcOf s a = getD s (zcAt a) 0
+
+abbrev pub zpOf : List ℕ → ℕ → ℕ
+zpOf s a = getD s (zpAt a) 0
+
+abbrev pub lengthOf : List ℕ → ℕ → ℕ
+lengthOf s a = getD s (lengthAt a) 0
+
+abbrev pub residualOf : List ℕ → ℕ → List ℕ
+residualOf s a = take residualWords (drop (residualAt a) s)
+
+-- what is left of agent a's process
+abbrev pub termIn : List ℕ → ℕ → Term
+termIn s a = termOf (take (lengthOf s a) (residualOf s a))
+
+-- the value of a key in a store: absent where the mark is 0
+unfoldable pub valueIn : List ℕ → Store → ℕ → Value
+valueIn s store k =
+    cond (ltb k keyLimit)
+    (cond (eqb (markOf s store k) 0) Absent (Present (wordOf s store k)))
+    Absent
+
+-- CHANGES. A pair gets a value and a mark; the set of keys at place i gets key k, or loses it
+unfoldable pub put : Store → ℕ → ℕ → ℕ → List ℕ → List ℕ
+put store k v mark s = set (set s (valueAt store k) v) (markAt store k) mark
+
+unfoldable pub addKey : ℕ → ℕ → List ℕ → List ℕ
+addKey i k s = set s i (plus (getD s i 0) k)
+
+unfoldable pub dropKey : ℕ → ℕ → List ℕ → List ℕ
+dropKey i k s = set s i (minus (getD s i 0) k)

@@ -1,0 +1,59 @@
+-- Refusal 9, and the state that load leaves.
+use Prim.Native.Nat.{ℕ, _^_}
+use mathlib.Core.Bool.{Bool, true, cond, not, _&&_, _||_}
+use mathlib.Core.List.{List, [], _∷_}
+use lib.Dec.{ltb, leb, eqb}
+use lib.ListN.{getD, set, take, drop, replicate}
+use Rattle.basis.specs.Numbers.{every, forEach}
+use Rattle.basis.specs.KeySets.{has}
+use Rattle.table.specs.Tables.{Table, startAt}
+use Rattle.term.specs.Terms.{areTerms}
+use Rattle.term.specs.Acceptance.{stateWords}
+use Rattle.state.specs.declared.Store.{Store}
+use Rattle.state.specs.declared.Store.the-variants.{Environment, Attributes, Entries}
+use Rattle.state.specs.Layout.{agentsAt, blockAt, lengthAt, residualAt, residualWords, keyLimit, clockOf, markOf, wordOf, stampOf, zcOf, zpOf, lengthOf, residualOf}
+
+unfoldable pub allZero : List ℕ → Bool
+allZero [] = true
+allZero (w ∷ ws) = eqb w 0 && allZero ws
+
+module _ (t : Table) (s : List ℕ) where
+  -- pair k of a store of so many keys: no mark is over the highest, absent has value 0, a key that there is not is absent
+  unfoldable pub pairFormed : Store → ℕ → ℕ → ℕ → Bool
+  pairFormed store highest keys k =
+      leb (markOf s store k) highest
+      && cond (eqb (markOf s store k) 0) (eqb (wordOf s store k) 0) (ltb k keys)
+
+  -- a pending key has an entry
+  unfoldable pub pendingFormed : ℕ → ℕ → Bool
+  pendingFormed a k = not (has (zcOf s a) k || has (zpOf s a) k) || ltb 0 (stampOf s a k)
+
+  -- the residual is one whole term, and 0 after it
+  unfoldable pub residualFormed : ℕ → Bool
+  residualFormed a =
+      leb (lengthOf s a) residualWords
+      && (areTerms t 1 (take (lengthOf s a) (residualOf s a)) && allZero (drop (lengthOf s a) (residualOf s a)))
+
+  unfoldable pub agentFormed : ℕ → Bool
+  agentFormed a =
+      every (pairFormed (Attributes a) 1 (t .sizes .attributes)) keyLimit
+      && (every (pairFormed (Entries a) (clockOf s) (t .sizes .stigmergy)) keyLimit
+      && ((ltb (zcOf s a) (2 ^ keyLimit) && ltb (zpOf s a) (2 ^ keyLimit))
+      && (every (pendingFormed a) keyLimit
+      && residualFormed a)))
+
+  -- A agrees with the table, the clock is at most 65,535, and the blocks past agent A - 1 are 0
+  unfoldable pub wellFormed : Bool
+  wellFormed =
+      eqb (getD s agentsAt 0) (t .sizes .agents)
+      && (leb (clockOf s) 65535
+      && (every (pairFormed Environment 1 (t .sizes .environment)) keyLimit
+      && (every agentFormed (t .sizes .agents)
+      && allZero (drop (blockAt (t .sizes .agents)) s))))
+
+-- LOAD: clock 0, A, for each agent length 1 and the node that its root names; every other word is 0
+abbrev pub started : Table → ℕ → List ℕ → List ℕ
+started t a s = set (set s (lengthAt a) 1) (residualAt a) (startAt t a)
+
+unfoldable pub loaded : Table → List ℕ
+loaded t = set (forEach (started t) (t .sizes .agents) (replicate stateWords 0)) agentsAt (t .sizes .agents)

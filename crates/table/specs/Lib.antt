@@ -1,0 +1,4 @@
+pub mod Checks
+pub mod Tables
+pub mod Nodes
+pub mod Reach

@@ -1,0 +1,154 @@
+-- Refusal 4: a node with a bad kind or operand.
+use Prim.Native.Nat.{ℕ}
+use mathlib.Core.Bool.{Bool, true, false, cond, not, _&&_, _||_}
+use mathlib.Core.List.{List, [], _∷_}
+use lib.Dec.{ltb, leb, eqb}
+use Rattle.basis.specs.Numbers.{some}
+use Rattle.table.specs.declared.Field.{Field}
+use Rattle.table.specs.declared.Field.the-variants.{Never, Zero, Attribute, Stigmergy, Environment, Party, Definition, Process, Guard, Expression, Value}
+use Rattle.table.specs.declared.Fields.{Fields}
+use Rattle.table.specs.Tables.{Table, kindAt, pAt, qAt, firstRoot, firstLinkRoot, firstAgentRoot}
+
+-- what p and q hold
+abbrev pub fields : Field → Field → Fields
+fields p q = record { p = p; q = q }
+
+pub data Row : Type 0 where
+  row : ℕ → Field → Field → Row
+
+-- the list of kinds, but for the root: kind, p, q
+unfoldable pub processRows : List Row
+processRows =
+    row 0 Zero Zero  -- idle
+    ∷ row 1 Zero Zero  -- tick
+    ∷ row 2 Attribute Expression  -- set attribute
+    ∷ row 3 Stigmergy Expression  -- set stigmergy key
+    ∷ row 4 Environment Expression  -- set environment key
+    ∷ row 5 Process Process  -- sequence
+    ∷ row 6 Process Process  -- choice
+    ∷ row 7 Guard Process  -- guarded
+    ∷ row 8 Process Process  -- parallel
+    ∷ row 9 Definition Zero  -- call
+    ∷ []
+
+unfoldable pub guardRows : List Row
+guardRows =
+    row 16 Zero Zero  -- true
+    ∷ row 17 Expression Expression  -- equal
+    ∷ row 18 Expression Expression  -- less
+    ∷ row 19 Expression Expression  -- greater
+    ∷ row 20 Guard Zero  -- not
+    ∷ row 21 Guard Guard  -- and
+    ∷ row 22 Guard Guard  -- or
+    ∷ []
+
+unfoldable pub expressionRows : List Row
+expressionRows =
+    row 32 Value Value  -- constant
+    ∷ row 33 Attribute Party  -- attribute
+    ∷ row 34 Stigmergy Party  -- stigmergy key
+    ∷ row 35 Environment Zero  -- environment key
+    ∷ row 36 Expression Expression  -- +
+    ∷ row 37 Expression Expression  -- -
+    ∷ row 38 Expression Expression  -- ×
+    ∷ row 39 Expression Expression  -- divide
+    ∷ row 40 Expression Expression  -- remainder
+    ∷ []
+
+-- the row of a kind; a kind without a row has fields that nothing fits
+unfoldable pub lookup : List Row → ℕ → Fields
+lookup [] kind = fields Never Never
+lookup (row k p q ∷ more) kind = cond (eqb kind k) (fields p q) (lookup more kind)
+
+abbrev pub fieldsOf : ℕ → Fields
+fieldsOf kind =
+    cond (ltb kind 16) (lookup processRows kind)
+    (cond (ltb kind 32) (lookup guardRows kind)
+    (lookup expressionRows kind))
+
+-- kinds of processes, guards and expressions
+abbrev pub isProcess : ℕ → Bool
+isProcess kind = leb kind 9
+
+abbrev pub isGuard : ℕ → Bool
+isGuard kind = leb 16 kind && leb kind 22
+
+abbrev pub isExpression : ℕ → Bool
+isExpression kind = leb 32 kind && leb kind 40
+
+-- a field that names a node
+abbrev pub isNode : Field → Bool
+isNode Never = false
+isNode Zero = false
+isNode Attribute = false
+isNode Stigmergy = false
+isNode Environment = false
+isNode Party = false
+isNode Definition = false
+isNode Process = true
+isNode Guard = true
+isNode Expression = true
+isNode Value = false
+
+module _ (t : Table) where
+  -- node n is no root
+  abbrev pub inner : ℕ → Bool
+  inner n = ltb n (firstRoot t)
+
+  -- roots name the definitions' bodies, then the keys' links, then the agents' starting processes
+  abbrev pub rootNames : ℕ → Field
+  rootNames n = cond (ltb n (firstLinkRoot t)) Process (cond (ltb n (firstAgentRoot t)) Guard Process)
+
+  -- what p and q of node n hold, if it has this kind: the last D + S + A nodes, and no others, are roots
+  unfoldable pub fieldsHere : ℕ → ℕ → Fields
+  fieldsHere n kind =
+      cond (inner n) (fieldsOf kind)
+      (cond (eqb kind 64) (fields (rootNames n) Zero)
+      (fields Never Never))
+
+  abbrev pub fieldsAt : ℕ → Fields
+  fieldsAt n = fieldsHere n (kindAt t n)
+
+  -- what fits a field of node n: a node that it names has a lower number and the right sort
+  unfoldable pub fits : ℕ → Field → ℕ → Bool
+  fits n Never x = false
+  fits n Zero x = eqb x 0
+  fits n Attribute x = ltb x (t .sizes .attributes)
+  fits n Stigmergy x = ltb x (t .sizes .stigmergy)
+  fits n Environment x = ltb x (t .sizes .environment)
+  fits n Party x = leb x 2
+  fits n Definition x = ltb x (t .sizes .definitions)
+  fits n Process x = ltb x n && isProcess (kindAt t x)
+  fits n Guard x = ltb x n && isGuard (kindAt t x)
+  fits n Expression x = ltb x n && isExpression (kindAt t x)
+  fits n Value x = true
+
+  -- both fields of node n are as the list has them
+  unfoldable pub fitting : ℕ → Bool
+  fitting n = fits n (fieldsAt n .p) (pAt t n) && fits n (fieldsAt n .q) (qAt t n)
+
+  -- p, or q, of node n is a node
+  abbrev pub leftNode : ℕ → Bool
+  leftNode n = isNode (fieldsAt n .p)
+
+  abbrev pub rightNode : ℕ → Bool
+  rightNode n = isNode (fieldsAt n .q)
+
+  -- node n names node m
+  abbrev pub names : ℕ → ℕ → Bool
+  names n m = (leftNode n && eqb (pAt t n) m) || (rightNode n && eqb (qAt t n) m)
+
+  -- a node below n, roots aside, names m
+  unfoldable pub named : ℕ → ℕ → Bool
+  named n m = some (λ (k : ℕ). inner k && names k m) n
+
+  -- node n, which is no root, makes a second naming: of a node that a lower one names, or by naming one twice
+  unfoldable pub namesAgain : ℕ → Bool
+  namesAgain n =
+      inner n
+      && ((leftNode n && named n (pAt t n))
+      || ((rightNode n && named n (qAt t n))
+      || (leftNode n && (rightNode n && eqb (pAt t n) (qAt t n)))))
+
+  unfoldable pub badNode : ℕ → Bool
+  badNode n = not (fitting n) || namesAgain n

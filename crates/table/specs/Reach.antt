@@ -1,0 +1,37 @@
+-- Refusal 5: wrong party, or an environment key in a link.
+use Prim.Native.Nat.{ℕ}
+use mathlib.Core.Bool.{Bool, true, false, not, _&&_, _||_}
+use lib.Dec.{ltb, leb, eqb}
+use Rattle.basis.specs.Numbers.{some}
+use Rattle.basis.specs.Below.{below}
+use Rattle.table.specs.Tables.{Table, kindAt, pAt, qAt, firstLinkRoot, firstAgentRoot}
+use Rattle.table.specs.Nodes.{isProcess, leftNode, rightNode}
+
+module _ (t : Table) where
+  -- process nodes, rooted or not; roots of links; attribute, stigmergy and environment keys
+  abbrev pub processNode : ℕ → Bool
+  processNode n = isProcess (kindAt t n)
+
+  abbrev pub linkRoot : ℕ → Bool
+  linkRoot n = leb (firstLinkRoot t) n && ltb n (firstAgentRoot t)
+
+  abbrev pub keyNode : ℕ → Bool
+  keyNode n = leb 33 (kindAt t n) && leb (kindAt t n) 35
+
+  -- node n reaches itself, and what the nodes reach that it names
+  unfoldable pub reachStep : (ℕ → ℕ → Bool) → ℕ → ℕ → Bool
+  reachStep reach n m = eqb n m || ((leftNode t n && reach (pAt t n) m) || (rightNode t n && reach (qAt t n) m))
+
+  abbrev pub reaches : ℕ → ℕ → Bool
+  reaches n m = below reachStep (λ (m : ℕ). false) (t .sizes .nodes) n m
+
+  -- m is reached from a node that passes
+  unfoldable pub reachedFrom : (ℕ → Bool) → ℕ → Bool
+  reachedFrom start m = some (λ (n : ℕ). start n && reaches n m) (t .sizes .nodes)
+
+  -- a key whose party is not 0 where a process node reaches it, or is 0 where a link does; an environment key that a link reaches
+  unfoldable pub wrongKey : ℕ → Bool
+  wrongKey n =
+      keyNode n
+      && ((reachedFrom processNode n && not (eqb (qAt t n) 0))
+      || (reachedFrom linkRoot n && (eqb (kindAt t n) 35 || eqb (qAt t n) 0)))

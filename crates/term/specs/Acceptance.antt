@@ -1,0 +1,37 @@
+-- Which tables are accepted, for a state and a scratch of these lengths: refusals 1, 2, 3, 8, 4, 5, 6 and 7, in this order.
+use Prim.Native.Nat.{ℕ, _+_, _*_}
+use mathlib.Core.Bool.{Bool, not, _&&_, _||_}
+use mathlib.Core.List.{List, [], _∷_}
+use lib.Dec.{ltb, eqb}
+use lib.ListN.{length}
+use Rattle.basis.specs.Numbers.{lowest}
+use Rattle.table.specs.Checks.{Check, refuseIf, refuseAt, firstOf}
+use Rattle.table.specs.Tables.{Table, sizesOf, withinLimits, tableOf, kindAt}
+use Rattle.table.specs.Nodes.{isProcess, badNode}
+use Rattle.table.specs.Reach.{wrongKey}
+use Rattle.term.specs.Processes.{nodeProcess, few}
+use Rattle.term.specs.Exposure.{badCall}
+
+-- how many words a state has
+abbrev pub stateWords : ℕ
+stateWords = 4194
+
+-- a process node with over 65,535 derivations
+abbrev pub overfull : Table → ℕ → Bool
+overfull t n = isProcess (kindAt t n) && not (few (nodeProcess t n))
+
+abbrev pub lengthChecks : List ℕ → ℕ → ℕ → List Check
+lengthChecks bytes stateLength scratchLength =
+    refuseIf 1 (ltb (length bytes) 12)
+    ∷ refuseIf 2 (not (withinLimits (sizesOf bytes)))
+    ∷ refuseIf 3 (not (eqb (length bytes) (12 + 5 * sizesOf bytes .nodes)))
+    ∷ refuseIf 8 (not (eqb stateLength stateWords) || ltb scratchLength (2 * sizesOf bytes .nodes))
+    ∷ []
+
+abbrev pub contentChecks : Table → List Check
+contentChecks t =
+    refuseAt 4 (t .sizes .nodes) (lowest (badNode t) (t .sizes .nodes))
+    ∷ refuseAt 5 (t .sizes .nodes) (lowest (wrongKey t) (t .sizes .nodes))
+    ∷ refuseAt 6 (t .sizes .definitions) (lowest (badCall t) (t .sizes .definitions))
+    ∷ refuseAt 7 (t .sizes .nodes) (lowest (overfull t) (t .sizes .nodes))
+    ∷ []

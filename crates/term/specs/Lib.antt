@@ -1,0 +1,4 @@
+pub mod Terms
+pub mod Processes
+pub mod Exposure
+pub mod Acceptance

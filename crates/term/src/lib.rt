@@ -1,0 +1,1 @@
+// Processes, derivations, counts, choices, residuals.
