@@ -1,10 +1,10 @@
--- The theorems on every list of steps.
+-- The theorems on every list of steps from a start.
 use mathlib.Core.Bool.{Bool}
-use mathlib.Core.List.{List, _++_, List·Memᴰ}
+use mathlib.Core.List.{List, List·Memᴰ}
 use mathlib.Core.Logic.{⊎-elim}
 use mathlib.Core.Path.{_≡_, _∙_, ap}
 use native.Mathlib.Omega.{arith}
-use Prim.Native.Nat.{ℕ, _≤_, _<_}
+use Prim.Native.Nat.{ℕ}
 use lib.Dec.{ltb→lt, lt→ltb}
 use Rattle.agreement.specs.Order.{Order, Comparable}
 use Rattle.agreement.specs.View.{blank}
@@ -18,6 +18,7 @@ use Rattle.agreement.proofs.Stamps.{stamp-order, climbing-comparable}
 use Rattle.agreement.proofs.History.{write-of-stamp, entry-write, numbered-climbing}
 use Rattle.agreement.proofs.Machine.{afterSteps-append, before-propagates, invariant-steps, view-steps, fresh-steps, start-fresh, start-view, writes-numbered, history-entries}
 
+-- for any strict order of entries
 module _ {E : Type 0} {absent : E} {newer : E → E → Bool} (order : Order E newer) (M : Machine absent newer) (s : M .State) (start : Start M s) (xs : List (M .Step)) where
   open Machine M using (State, Step, next, view, turn)
 
@@ -47,13 +48,14 @@ module _ {E : Type 0} {absent : E} {newer : E → E → Bool} (order : Order E n
         (neighbours-map (LinkHeld M s xs k) (λ a b. PropagateLinked a b (turns k)) (λ a b. before-propagates next turn k a b s xs) l h));
   }
 
-module _ {E : Type 0} {absent : E} (stamp : E → ℕ) (none : stamp absent ≡ 0) (M : Machine absent (byStamp stamp)) (H : Writes stamp M)
-    (s : M .State) (start : Start M s) (zero : H .clock s ≡ 0) (xs : List (M .Step)) where
+-- for stamps from one clock, which is 0 at the start; an absent entry has stamp 0
+module _ {E : Type 0} {absent : E} (stamp : E → ℕ) (absent-zero : stamp absent ≡ 0) (M : Machine absent (byStamp stamp)) (H : Writes stamp M)
+    (s : M .State) (start : Start M s) (clock-zero : H .clock s ≡ 0) (xs : List (M .Step)) where
   all : Agreement M s xs
   all = agreement (stamp-order stamp) M s start xs
 
   numbered : Numbered (λ w. stamp (H .entry w)) 0 (allWrites H s xs)
-  numbered = rw zero at (writes-numbered stamp M H s xs (start .invariant))
+  numbered = rw clock-zero at (writes-numbered stamp M H s xs (start .invariant))
 
   -- of two different entries written to a key one is newer
   pub writes-comparable : (k : ℕ) → Comparable (byStamp stamp) (historyOf M s xs k)
@@ -72,11 +74,8 @@ module _ {E : Type 0} {absent : E} (stamp : E → ℕ) (none : stamp absent ≡ 
   stamp-agreement = record {
     numbered = numbered;
     written = λ d k a h. ⊎-elim (λ e. absurd (omega (arith, ap stamp e))) (written-at d k (entryAfter M s xs k a)) (all .written k a);
-    equal = λ k a b e. all .equal k (writes-comparable k) a b
-        (λ t. omega (arith, ltb→lt (stamp (entryAfter M s xs k b)) (stamp (entryAfter M s xs k a)) t))
-        (λ t. omega (arith, ltb→lt (stamp (entryAfter M s xs k a)) (stamp (entryAfter M s xs k b)) t));
-    never-older = λ ys k a. ⊎-elim (λ e. omega (arith, ap stamp e))
-        (λ t. omega (arith, ltb→lt (stamp (entryAfter M s xs k a)) (stamp (entryAfter M s (xs ++ ys) k a)) t)) (all .never-older ys k a);
-    pair = λ k a b h n. all .pair k a b h (lt→ltb (stamp (entryAfter M s xs k b)) (stamp (entryAfter M s xs k a)) n);
+    equal = λ k a b e. all .equal k (writes-comparable k) a b (λ t. omega (arith, ltb→lt)) (λ t. omega (arith, ltb→lt));
+    never-older = λ ys k a. ⊎-elim (λ e. omega (arith, ap stamp e)) (λ t. omega (arith, ltb→lt)) (all .never-older ys k a);
+    pair = λ k a b h n. all .pair k a b h (omega (arith, lt→ltb));
     chain = λ k. all .chain k (writes-comparable k);
   }

@@ -4,12 +4,12 @@ use mathlib.Core.List.{List, [], _∷_, _++_}
 use mathlib.Core.Path.{_≡_, refl, sym, _∙_, ap}
 use Prim.Native.Nat.{ℕ}
 use lib.Dec.{T}
-use Rattle.agreement.specs.View.{View, blank, Neighbours}
+use Rattle.agreement.specs.View.{blank}
 use Rattle.agreement.specs.Moves.{propagate}
-use Rattle.agreement.specs.Turns.{Turn, afterTurn, afterTurns, AllFresh, history, PropagateLinked, Chained}
+use Rattle.agreement.specs.Turns.{Turn, afterTurn, afterTurns, AllFresh, PropagateLinked}
 use Rattle.agreement.specs.Stamps.{byStamp}
 use Rattle.agreement.specs.History.{Numbered, entriesOf}
-use Rattle.agreement.specs.Machine.{afterSteps, Before, turnsOf, writesOf, Machine, Start, Writes, historyOf, allWrites}
+use Rattle.agreement.specs.Machine.{afterSteps, Before, turnsOf, Machine, Start, Writes, historyOf, LinkHeld, allWrites}
 use Rattle.agreement.proofs.History.{numbered-append, entries-append}
 
 module _ {State Step : Type 0} (next : State → Step → State) where
@@ -45,6 +45,10 @@ module _ {E : Type 0} {absent : E} {newer : E → E → Bool} (M : Machine absen
   pub fresh-steps : (s : State) (xs : List Step) (k : ℕ) → Invariant s → AllFresh newer (turnsOf next turn s xs k) (view s k)
   fresh-steps s [] k g = tt
   fresh-steps s (x ∷ xs) k g = (M .fresh-next s x k g, rw (← view-step s x k g) (fresh-steps (next s x) xs k (M .invariant-next s x g)))
+
+  -- a link that held before every step held before every propagate
+  pub link-always : (s : State) (xs : List Step) (k a b : ℕ) → Before next (λ s x. T (turn s x k .link a b)) s xs → LinkHeld M s xs k a b
+  link-always s xs k a b = before-map next _ _ (λ s x l e. l) s xs
 
   -- from a start
   module _ (s : State) (start : Start M s) where

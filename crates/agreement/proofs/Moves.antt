@@ -1,13 +1,13 @@
 -- What one move keeps.
 use mathlib.Core.Bool.{Bool, true, false, cond, not, _&&_, _||_}
-use mathlib.Core.List.{List, [], _∷_, List·Memᴰ, List·Memᴰ·head}
+use mathlib.Core.List.{[], _∷_, List·Memᴰ, List·Memᴰ·head}
 use mathlib.Core.Logic.{_⊎_, inl, inr, ⊎-map, ⊎-elim}
 use mathlib.Core.Path.{_≡_, refl, ap, subst}
 use Prim.Native.Nat.{ℕ}
 use lib.Dec.{T, eqb, eqb→eq}
 use Rattle.agreement.specs.Order.{Order}
 use Rattle.agreement.specs.View.{View}
-use Rattle.agreement.specs.Moves.{Move, quiet, write, propagate, confirm, takes, answers, moved, Fresh, wrote}
+use Rattle.agreement.specs.Moves.{Move, quiet, write, propagate, confirm, reaches, takes, answers, moved, Fresh, wrote}
 
 and-right : (a b : Bool) → T (a && b) → T b
 and-right true b t = t
@@ -42,7 +42,7 @@ module _ {E : Type 0} (newer : E → E → Bool) where
 
   -- who takes an entry had an older one
   taken-newer : (link : ℕ → ℕ → Bool) (v : View E) (x y : ℕ) → T (takes newer link v x y) → T (newer (v .entry x) (v .entry y))
-  taken-newer link v x y t = and-right (not (eqb x y) && link x y) (newer (v .entry x) (v .entry y)) t
+  taken-newer link v x y t = and-right (reaches link x y) (newer (v .entry x) (v .entry y)) t
 
   -- an agent keeps its entry, or has a newer one and the key waits in it
   pub entry-moved : (link : ℕ → ℕ → Bool) (m : Move E) (v : View E) (a : ℕ) → Fresh newer m v
@@ -99,3 +99,15 @@ module _ {E : Type 0} (newer : E → E → Bool) where
       by : (b : Bool) → (y : ℕ) × (cond b (v .entry x) (v .entry a) ≡ v .entry y)
       by true = (x, refl)
       by false = (a, refl)
+
+  -- what holds of every entry before and of what is written holds of every entry after
+  pub entries-moved : (P : E → Type 0) (link : ℕ → ℕ → Bool) (m : Move E) (v : View E) → ((a : ℕ) → P (v .entry a))
+      → ((e : E) → List·Memᴰ e (wrote m) → P e) → (a : ℕ) → P (moved newer link m v .entry a)
+  entries-moved P link m v before new a = ⊎-elim (λ q. rw (q .1) (before (q .0))) (new (moved newer link m v .entry a)) (entry-from link m v a)
+
+  -- a move is fresh if what it writes is newer than every agent's entry
+  pub newest-fresh : (m : Move E) (v : View E) → ((e : E) → List·Memᴰ e (wrote m) → (a : ℕ) → T (newer e (v .entry a))) → Fresh newer m v
+  newest-fresh quiet v h = tt
+  newest-fresh (write x e) v h = h e (List·Memᴰ·head refl) x
+  newest-fresh (propagate x) v h = tt
+  newest-fresh (confirm x) v h = tt

@@ -11,8 +11,8 @@ use Rattle.agreement.specs.Stamps.{byStamp, Climbing}
 module _ {E : Type 0} (stamp : E → ℕ) where
   pub stamp-order : Order E (byStamp stamp)
   stamp-order = record {
-    irreflexive = λ e t. omega (arith, ltb→lt (stamp e) (stamp e) t);
-    transitive = λ e f g t u. lt→ltb (stamp g) (stamp e) (omega (arith, ltb→lt (stamp f) (stamp e) t, ltb→lt (stamp g) (stamp f) u));
+    irreflexive = λ e t. omega (arith, ltb→lt);
+    transitive = λ e f g t u. omega (arith, ltb→lt, lt→ltb);
   }
 
   pub climbing-below : (c d : ℕ) (l : List E) → c ≤ d → Climbing stamp d l → Climbing stamp c l
@@ -30,7 +30,7 @@ module _ {E : Type 0} (stamp : E → ℕ) where
       by (List·Memᴰ·cases-cons m) (List·Memᴰ·cases-cons n) (λ p q. climbing-comparable (stamp g) l (cl .1) e f p q)
     where
       above : (h : E) → List·Memᴰ h l → T (byStamp stamp h g)
-      above h p = lt→ltb (stamp g) (stamp h) (climbing-above (stamp g) l (cl .1) h p)
+      above h p = omega (arith, lt→ltb, climbing-above (stamp g) l (cl .1) h p)
 
       by : (e ≡ g) ⊎ List·Memᴰ e l → (f ≡ g) ⊎ List·Memᴰ f l
           → (List·Memᴰ e l → List·Memᴰ f l → (e ≡ f) ⊎ (T (byStamp stamp e f) ⊎ T (byStamp stamp f e)))

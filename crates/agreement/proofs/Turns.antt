@@ -1,16 +1,17 @@
 -- What every list of turns keeps, for every strict order of entries.
 use mathlib.Core.Bool.{Bool}
-use mathlib.Core.List.{List, [], _∷_, _++_, List·Memᴰ, List·Memᴰ·head, List·Memᴰ·tail, Memᴰ·append-left, Memᴰ·append-right, Memᴰ·cast, List·Memᴰ·eq-of-singleton, List·Memᴰ·cases-cons, List·Memᴰ·not-nil}
+use mathlib.Core.List.{List, [], _∷_, List·Memᴰ, List·Memᴰ·head, List·Memᴰ·tail, Memᴰ·append-left, Memᴰ·append-right, Memᴰ·cast, List·Memᴰ·eq-of-singleton, List·Memᴰ·cases-cons, List·Memᴰ·not-nil}
 use mathlib.Core.Logic.{_⊎_, inl, inr, ⊎-elim}
 use mathlib.Core.Path.{_≡_, refl, sym, _∙_, ap}
 use Prim.Native.Nat.{ℕ}
 use lib.Dec.{T}
 use Rattle.agreement.specs.Order.{Order, NotOlder, Comparable}
 use Rattle.agreement.specs.View.{View, blank, NoneWaits, Agree, Neighbours}
-use Rattle.agreement.specs.Moves.{Move, propagate, Fresh, wrote}
+use Rattle.agreement.specs.Moves.{propagate, Fresh, wrote}
 use Rattle.agreement.specs.Turns.{Turn, afterTurn, afterTurns, AllFresh, history, Linked, PropagateLinked, Chained}
 use Rattle.agreement.proofs.Moves.{entry-moved, waits-moved, propagate-reaches, entry-from}
 
+-- a link that held before every turn held before every propagate
 pub linked-propagate : {E : Type 0} (a b : ℕ) (ts : List (Turn E)) → Linked a b ts → PropagateLinked a b ts
 linked-propagate a b [] h = tt
 linked-propagate a b (t ∷ ts) h = (λ e. h .0, linked-propagate a b ts (h .1))
@@ -21,10 +22,6 @@ neighbours-map R S f (a ∷ []) h = tt
 neighbours-map R S f (a ∷ (b ∷ l)) h = (f a b (h .0), f b a (h .1), neighbours-map R S f (b ∷ l) (h .2))
 
 module _ {E : Type 0} (newer : E → E → Bool) where
-  pub afterTurns-append : (ts us : List (Turn E)) (v : View E) → afterTurns newer (ts ++ us) v ≡ afterTurns newer us (afterTurns newer ts v)
-  afterTurns-append [] us v = refl
-  afterTurns-append (t ∷ ts) us v = afterTurns-append ts us (afterTurn newer t v)
-
   -- (i) an agent's entry was some agent's at the start, or was written
   pub written : (ts : List (Turn E)) (v : View E) (a : ℕ)
       → ((x : ℕ) × (afterTurns newer ts v .entry a ≡ v .entry x)) ⊎ List·Memᴰ (afterTurns newer ts v .entry a) (history ts)

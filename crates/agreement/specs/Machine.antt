@@ -41,7 +41,7 @@ pub record Machine {E : Type 0} (absent : E) (newer : E → E → Bool) : Type 1
   pub view : State → ℕ → View E
   -- what a step is to a key, in the state before it
   pub turn : State → Step → ℕ → Turn E
-  -- what every step keeps, and the facts below may use
+  -- what every step keeps; the facts below are asked only where it holds
   pub Invariant : State → Type 0
   pub invariant-next : (s : State) (x : Step) → Invariant s → Invariant (next s x)
   pub entry-next : (s : State) (x : Step) (k a : ℕ) → Invariant s → view (next s x) k .entry a ≡ afterTurn newer (turn s x k) (view s k) .entry a
@@ -73,7 +73,7 @@ module _ {E : Type 0} {absent : E} {newer : E → E → Bool} (M : Machine absen
   abbrev pub LinkHeld : ℕ → ℕ → ℕ → Type 0
   LinkHeld k a b = Before (M .next) (λ s x. M .turn s x k .move ≡ propagate a → T (M .turn s x k .link a b)) s xs
 
--- the writes of a machine whose stamps come from one clock: each takes the next number
+-- the writes of a machine in which one clock numbers them: each write is one step of the clock, and its entry bears the new number
 pub record Writes {E : Type 0} {absent : E} (stamp : E → ℕ) (M : Machine absent (byStamp stamp)) : Type 1 where
   pub Write : Type 0
   pub key : Write → ℕ

@@ -12,14 +12,18 @@ pub data Move (E : Type 0) : Type 0 where
   propagate : ℕ → Move E
   confirm : ℕ → Move E
 
-module _ {E : Type 0} (newer : E → E → Bool) where
-  -- y is another agent, the link from sender x to receiver y holds, and x's entry is newer: y takes it
-  abbrev pub takes : (ℕ → ℕ → Bool) → View E → ℕ → ℕ → Bool
-  takes link v x y = not (eqb x y) && link x y && newer (v .entry x) (v .entry y)
+-- y is another agent, and the link from sender x to receiver y holds
+abbrev pub reaches : (ℕ → ℕ → Bool) → ℕ → ℕ → Bool
+reaches link x y = not (eqb x y) && link x y
 
-  -- the same, and y's entry is newer: the key will wait in y
+module _ {E : Type 0} (newer : E → E → Bool) where
+  -- x reaches y and has the newer entry, which y takes
+  abbrev pub takes : (ℕ → ℕ → Bool) → View E → ℕ → ℕ → Bool
+  takes link v x y = reaches link x y && newer (v .entry x) (v .entry y)
+
+  -- x reaches y and y has the newer entry, which y will propagate
   abbrev pub answers : (ℕ → ℕ → Bool) → View E → ℕ → ℕ → Bool
-  answers link v x y = not (eqb x y) && link x y && newer (v .entry y) (v .entry x)
+  answers link v x y = reaches link x y && newer (v .entry y) (v .entry x)
 
   -- the view after a move, all links and entries judged before it
   unfoldable pub moved : (ℕ → ℕ → Bool) → Move E → View E → View E
