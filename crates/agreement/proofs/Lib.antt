@@ -1,0 +1,6 @@
+pub mod Moves
+pub mod Turns
+pub mod Stamps
+pub mod History
+pub mod Machine
+pub mod Agreement
