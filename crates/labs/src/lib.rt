@@ -1,0 +1,1 @@
+// LAbS as document 000 publishes it: definitions only, in specs/.
