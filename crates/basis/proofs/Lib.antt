@@ -1,0 +1,4 @@
+pub mod Tests
+pub mod Below
+pub mod Numbers
+pub mod KeySets
