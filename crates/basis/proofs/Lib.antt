@@ -2,3 +2,4 @@ pub mod Tests
 pub mod Below
 pub mod Numbers
 pub mod KeySets
+pub mod Lists
