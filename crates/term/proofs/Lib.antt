@@ -3,3 +3,4 @@ pub mod Counting
 pub mod Words
 pub mod Opened
 pub mod Calls
+pub mod Members
