@@ -1,0 +1,1 @@
+// Refusal 6: whether each definition exposes calls of lower ones only.

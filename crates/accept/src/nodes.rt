@@ -1,0 +1,84 @@
+// The counts of a node, from those of the nodes and the definitions that it names, and of all nodes; refusal 7.
+use basis::u16_at;
+use crate::Counts;
+use crate::sums::{choice, counts, parallel, sequence};
+use crate::words::{pair, store};
+use table::Sizes;
+ghost use mathlib.Core.Path.{_≡_};
+ghost use Prim.Native.Nat.{_+_, _-_, _*_, _≤_, _<_};
+ghost use Rattle.basis.specs.Numbers.{lowest};
+ghost use Rattle.table.specs.Tables.{table, rootsOf, firstRoot};
+ghost use Rattle.term.specs.Acceptance.{overfull};
+ghost use Rattle.accept.specs.Counts.{countsOf};
+ghost use Rattle.accept.specs.Scratch.{processAt, calledAt, Held};
+ghost use lib.ListN.{length};
+
+// The first root, which is also how many nodes are no roots.
+pub fn first_root(sizes: Sizes) -> usize
+    requires { ⌜ (rootsOf sizes ≤ sizes .nodes) × (sizes .nodes ≤ 4096) ⌝ }
+    ensures { λ r. ⌜ r ≡ sizes .nodes - rootsOf sizes ⌝ }
+{
+    sizes.nodes - (sizes.definitions + sizes.stigmergy + sizes.agents)
+}
+
+// The counts of definition d, at its root, and none where it is not below the level.
+fn called(scratch: &[u32], roots: usize, level: usize, d: usize) -> Counts
+    requires { ⌜ (2 * (roots + level) ≤ length (now scratch)) × (roots ≤ 4096) × (level ≤ 4096) ⌝ }
+    ensures { λ r. ⌜ r ≡ calledAt (now (scratch .entry)) roots level d ⌝ }
+{
+    if d < level {
+        return pair(scratch, roots + d);
+    }
+    counts(0, 0)
+}
+
+// The counts of node n, where the definitions below a level may be called.
+fn node(
+    sizes: Sizes,
+    kinds: &[u8],
+    operands: &[u8],
+    scratch: &[u32],
+    level: usize,
+    n: usize,
+) -> Counts
+    requires { ⌜ Held (table sizes (now kinds) (now operands)) level n (now scratch) ⌝ }
+    requires { ⌜ n < firstRoot (table sizes (now kinds) (now operands)) ⌝ }
+    ensures { λ r. ⌜ r ≡ countsOf (processAt (table sizes (now (kinds .entry)) (now (operands .entry))) level n) ⌝ }
+{
+    let kind = kinds[n];
+    let p = u16_at(operands, 4 * n);
+    let q = u16_at(operands, 4 * n + 2);
+    match kind {
+        1 => counts(0, 1),
+        2 => counts(1, 0),
+        3 => counts(1, 0),
+        4 => counts(1, 0),
+        5 => sequence(pair(scratch, p), pair(scratch, q)),
+        6 => choice(pair(scratch, p), pair(scratch, q)),
+        7 => pair(scratch, q),
+        8 => parallel(pair(scratch, p), pair(scratch, q)),
+        9 => called(scratch, first_root(sizes), level, p),
+        _ => counts(0, 0),
+    }
+}
+
+// Counts the nodes below an end, where the definitions below a level may be called.
+pub fn pass(
+    sizes: Sizes,
+    kinds: &[u8],
+    operands: &[u8],
+    scratch: &mut [u32],
+    level: usize,
+    end: usize,
+)
+    requires { ⌜ Held (table sizes (now kinds) (now operands)) level 0 (now scratch) ⌝ }
+    requires { ⌜ end ≤ firstRoot (table sizes (now kinds) (now operands)) ⌝ }
+    ensures { λ r. ⌜ Held (table sizes (now (kinds .entry)) (now (operands .entry))) level end (now (scratch .exit)) ⌝ }
+{
+    let mut n: usize = 0;
+    while n < end {
+        let c = node(sizes, kinds, operands, scratch, level, n);
+        store(scratch, n, c);
+        n += 1;
+    }
+}
