@@ -1,3 +1,4 @@
 pub mod Caps
 pub mod Cells
 pub mod Counting
+pub mod Exposing

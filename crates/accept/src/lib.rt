@@ -1,4 +1,5 @@
 // Which tables are accepted: how many derivations each node has, refusals 6 and 7, and all refusals of a table in order.
+mod reading;
 mod sums; // sums.rt: counts of a choice, a sequence and a parallel
 pub mod words; // words.rt: a node's counts in the lent words
 mod nodes; // nodes.rt: the counts of a node, and of all nodes; refusal 7

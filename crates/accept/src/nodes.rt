@@ -1,25 +1,17 @@
 // The counts of a node, from those of the nodes and the definitions that it names, and of all nodes; refusal 7.
-use basis::u16_at;
 use crate::Counts;
+use crate::reading::{first_root, p_at, q_at};
 use crate::sums::{choice, counts, parallel, sequence};
 use crate::words::{pair, store};
 use table::Sizes;
 ghost use mathlib.Core.Path.{_≡_};
-ghost use Prim.Native.Nat.{_+_, _-_, _*_, _≤_, _<_};
+ghost use Prim.Native.Nat.{_+_, _*_, _≤_, _<_};
 ghost use Rattle.basis.specs.Numbers.{lowest};
-ghost use Rattle.table.specs.Tables.{table, rootsOf, firstRoot};
+ghost use Rattle.table.specs.Tables.{table, firstRoot};
 ghost use Rattle.term.specs.Acceptance.{overfull};
 ghost use Rattle.accept.specs.Counts.{countsOf};
 ghost use Rattle.accept.specs.Scratch.{processAt, calledAt, Held};
 ghost use lib.ListN.{length};
-
-// The first root, which is also how many nodes are no roots.
-pub fn first_root(sizes: Sizes) -> usize
-    requires { ⌜ (rootsOf sizes ≤ sizes .nodes) × (sizes .nodes ≤ 4096) ⌝ }
-    ensures { λ r. ⌜ r ≡ sizes .nodes - rootsOf sizes ⌝ }
-{
-    sizes.nodes - (sizes.definitions + sizes.stigmergy + sizes.agents)
-}
 
 // The counts of definition d, at its root, and none where it is not below the level.
 fn called(scratch: &[u32], roots: usize, level: usize, d: usize) -> Counts
@@ -46,8 +38,8 @@ fn node(
     ensures { λ r. ⌜ r ≡ countsOf (processAt (table sizes (now (kinds .entry)) (now (operands .entry))) level n) ⌝ }
 {
     let kind = kinds[n];
-    let p = u16_at(operands, 4 * n);
-    let q = u16_at(operands, 4 * n + 2);
+    let p = p_at(operands, n);
+    let q = q_at(operands, n);
     match kind {
         1 => counts(0, 1),
         2 => counts(1, 0),
@@ -81,4 +73,21 @@ pub fn pass(
         store(scratch, n, c);
         n += 1;
     }
+}
+
+// The lowest node with over 65,535 derivations, and the number of nodes where there is none.
+pub fn lowest_overfull(sizes: Sizes, kinds: &[u8], operands: &[u8], scratch: &[u32]) -> usize
+    requires { ⌜ Held (table sizes (now kinds) (now operands)) (sizes .definitions) (firstRoot (table sizes (now kinds) (now operands))) (now scratch) ⌝ }
+    ensures { λ r. ⌜ r ≡ lowest (overfull (table sizes (now (kinds .entry)) (now (operands .entry)))) (sizes .nodes) ⌝ }
+{
+    let end = first_root(sizes);
+    let mut n = 0;
+    while n < end {
+        let c = pair(scratch, n);
+        if 65535 < c.actions + c.ticks {
+            return n;
+        }
+        n += 1;
+    }
+    sizes.nodes
 }

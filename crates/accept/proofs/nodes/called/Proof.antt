@@ -17,7 +17,7 @@ pair-requires c κs = search needs
 
 -- src/nodes.rt:30:9
 returns : tie.Need-returns
-returns c = rw (lt-ltb _ _ (c .before .before .if1 .taken)) (c .pair .ensures)
+returns c = rw (lt-ltb _ _ (c .before .if1 .taken)) (c .pair .ensures)
 
 -- src/nodes.rt:32:5
 counts-requires : tie.Need-counts-requires
