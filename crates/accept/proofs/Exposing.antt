@@ -2,16 +2,16 @@
 -- Assumes nothing.
 use Prim.Native.Nat.{ℕ, zero, suc, _+_, _*_, _≤_, _<_}
 use mathlib.Core.Bool.{Bool, true, false, not, _&&_, _||_}
-use mathlib.Core.Path.{_≡_, refl, sym, ap, _∙_}
+use mathlib.Core.Path.{_≡_, refl, sym, ap, subst, _∙_}
 use mathlib.Core.List.{List}
 use native.Mathlib.Omega.{arith}
 use lib.Dec.{ltb}
 use lib.ListN.{length, getD}
 use borrow.Author.Tests.{lt-ltb, le-ltb}
-use Rattle.table.specs.Tables.{Table, kindAt, pAt, qAt, firstRoot}
+use Rattle.table.specs.Tables.{Table, kindAt, pAt, qAt, firstRoot, bodyAt}
 use Rattle.term.specs.Processes.{Process, idle, tick, act, choice, guarded, call, seq, par, byKind, nodeWith, defined}
 use Rattle.term.specs.Choices.{tickCount}
-use Rattle.term.specs.Exposure.{canTick, callsBelow}
+use Rattle.term.specs.Exposure.{canTick, callsBelow, badCall}
 use Rattle.term.proofs.Counting.{can-tick}
 use Rattle.term.proofs.Opened.{sound-lower, node-opened}
 use Rattle.accept.specs.Counts.{capped, countsOf}
@@ -103,3 +103,41 @@ module _ (t : Table) (d n : ℕ) (s : List ℕ) (held : Held t d n s) (low : n <
       by (suc (suc (suc (suc (suc (suc (suc (suc zero)))))))) n5 n6 n7 n8 n9 = absurd (n8 refl)
       by (suc (suc (suc (suc (suc (suc (suc (suc (suc zero))))))))) n5 n6 n7 n8 n9 = absurd (n9 refl)
       by (suc (suc (suc (suc (suc (suc (suc (suc (suc (suc k)))))))))) n5 n6 n7 n8 n9 = none
+
+-- the answer for a node, as code finds it
+module _ {t : Table} {d n : ℕ} {e : Exposed} (x : Exposes t d n e) where
+  pub one-below : {m : ℕ} → e ≡ One m → m < n
+  one-below f = subst (AllBelow n) f (x .lower)
+
+  pub both-below : {l r : ℕ} → e ≡ Both l r → (l < n) × (r < n)
+  both-below f = subst (AllBelow n) f (x .lower)
+
+  abbrev asked : ℕ → Bool
+  asked m = callsBelow d (processAt t d m)
+
+  answers : (f : Exposed) → e ≡ f → answered asked f ≡ asked n
+  answers f g = ap (answered asked) (sym g) ∙ sym (x .is)
+
+  pub answer-settled : {b : Bool} → e ≡ Settled b → b ≡ callsBelow d (processAt t d n)
+  answer-settled {b} f = answers (Settled b) f
+
+  pub answer-one : {m : ℕ} {b : Bool} → e ≡ One m → b ≡ callsBelow d (processAt t d m) → b ≡ callsBelow d (processAt t d n)
+  answer-one {m} f g = g ∙ answers (One m) f
+
+  pub answer-both : {l r : ℕ} {a b : Bool} → e ≡ Both l r → a ≡ callsBelow d (processAt t d l) → a ≡ true → b ≡ callsBelow d (processAt t d r)
+      → b ≡ callsBelow d (processAt t d n)
+  answer-both {l} {r} f g y h =
+      let z : asked l ≡ true = sym g ∙ y in
+      h ∙ sym (ap (λ (w : Bool). w && asked r) z) ∙ answers (Both l r) f
+
+  pub answer-not : {l r : ℕ} {a : Bool} → e ≡ Both l r → a ≡ callsBelow d (processAt t d l) → a ≡ false → false ≡ callsBelow d (processAt t d n)
+  answer-not {l} {r} f g y =
+      let z : asked l ≡ false = sym g ∙ y in
+      sym (ap (λ (w : Bool). w && asked r) z) ∙ answers (Both l r) f
+
+-- the definition of that body
+pub call-bad : (t : Table) (d : ℕ) {b : ℕ} {r : Bool} → b ≡ bodyAt t d → r ≡ callsBelow d (processAt t d b) → r ≡ false → badCall t d ≡ true
+call-bad t d e f g = ap not (ap (λ (n : ℕ). callsBelow d (processAt t d n)) (sym e) ∙ sym f ∙ g)
+
+pub call-good : (t : Table) (d : ℕ) {b : ℕ} {r : Bool} → b ≡ bodyAt t d → r ≡ callsBelow d (processAt t d b) → r ≡ true → badCall t d ≡ false
+call-good t d e f g = ap not (ap (λ (n : ℕ). callsBelow d (processAt t d n)) (sym e) ∙ sym f ∙ g)

@@ -2,3 +2,4 @@ pub mod Caps
 pub mod Cells
 pub mod Counting
 pub mod Exposing
+pub mod Fullness

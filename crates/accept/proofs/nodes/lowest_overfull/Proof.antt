@@ -4,48 +4,79 @@ use Rattle.accept.proofs.nodes.lowest_overfull.Reads as reads
 use Rattle.accept.proofs.nodes.lowest_overfull.Lts as lts
 use Rattle.accept.proofs.reading.first_root.Reads as first-root-reads
 use Rattle.accept.proofs.words.pair.Reads as pair-reads
+use Prim.Native.Nat.{ℕ, _-_, _≤_, _<_}
+use mathlib.Core.Bool.{false}
+use mathlib.Core.Path.{_≡_, sym, _∙_}
+use native.Mathlib.Omega.{arith}
+use borrow.Author.Count.{below-more}
+use Rattle.table.specs.Tables.{table}
+use Rattle.term.specs.Acceptance.{overfull}
+use Rattle.accept.specs.Counts.{Small}
+use Rattle.accept.proofs.Cells.{node-room, held-small}
+use Rattle.accept.proofs.Fullness.{overfull-yes, overfull-no, lowest-full, none-full}
 
 abbrev Inv-loop : tie.InvT-loop
-Inv-loop sizes kinds operands scratch end n₀ n = ?
+Inv-loop sizes kinds operands scratch end n₀ n = 
+    (n ≤ end) × ((k : ℕ) → k < n → overfull (table sizes kinds operands) k ≡ false)
 
 abbrev μ-loop : tie.MeasureT-loop
-μ-loop sizes kinds operands scratch end n₀ n = ?
+μ-loop sizes kinds operands scratch end n₀ n = end - n
+
+abbrev start : tie.After-first-root Inv-loop μ-loop → tie.Start Inv-loop μ-loop
+start c = c .before .before .before .before
 
 -- src/nodes.rt:83:9
 first-root-requires : tie.Need-first-root-requires Inv-loop μ-loop
-first-root-requires c κs = ?
+first-root-requires c κs = c .before .before .before .pre .sound .shaped .limits
 
 -- src/nodes.rt:85:5
 loop-holds : tie.Need-loop-holds Inv-loop μ-loop
-loop-holds c = ?
+loop-holds c = (omega arith, λ k h. absurd (omega arith))
 
 -- src/nodes.rt:86:13
 pair-requires : tie.Need-pair-requires Inv-loop μ-loop
-pair-requires c κs = ?
+pair-requires c κs = 
+    let f = c .before .before .first-root .ensures in
+    node-room (start (c .before .before) .pre) (c .before .loop .n) (omega arith)
 
 -- src/nodes.rt:87:20
 add-if1 : tie.Need-add-if1 Inv-loop μ-loop
-add-if1 c = ?
+add-if1 c = 
+    let f = c .before .before .before .before .first-root .ensures in
+    let w : Small (c .before .pair .result) = rw (c .before .pair .ensures) (held-small (start (c .before .before .before .before) .pre) (c .before .before .before .loop .n) (omega arith)) in
+    omega (arith, w .actions, w .ticks)
 
 -- src/nodes.rt:88:13
 returns : tie.Need-returns Inv-loop μ-loop
-returns c = ?
+returns c = 
+    let r = c .before .before .before .before .before in
+    let f = r .first-root .ensures in
+    let n = c .before .before .before .before .loop .n in
+    let l = c .before .before .before .loop-test .taken in
+    lowest-full (start r .pre) n (omega arith) (overfull-yes (start r .pre) n _ (omega arith) (c .before .before .pair .ensures) (c .if1 .taken)) (λ k h. c .before .before .before .before .loop .inv .1 k h)
 
 -- src/nodes.rt:90:9
 add-n : tie.Need-add-n Inv-loop μ-loop
-add-n c = ?
+add-n c = omega arith
 
 -- src/nodes.rt:85:5
 loop-less : tie.Need-loop-less Inv-loop μ-loop
-loop-less c = ?
+loop-less c = omega arith
 
 -- src/nodes.rt:85:5
 loop-again : tie.Need-loop-again Inv-loop μ-loop
-loop-again c = ?
+loop-again c = 
+    let r = c .before .before .before .before .before in
+    let f = r .first-root .ensures in
+    let n = c .before .before .before .before .loop .n in
+    let l = c .before .before .before .loop-test .taken in
+    (omega arith, below-more _ _ (c .before .before .before .before .loop .inv .1) (overfull-no (start r .pre) n _ (omega arith) (c .before .before .pair .ensures) (c .if1 .left)))
 
 -- src/nodes.rt:79:1
 returns-2 : tie.Need-returns-2 Inv-loop μ-loop
-returns-2 c = ?
+returns-2 c = 
+    let f = c .before .before .first-root .ensures in
+    none-full (start (c .before .before) .pre) (λ k h. c .before .loop .inv .1 k (omega arith))
 
 pub lowest-overfull-spec : {M : Type 1} → statement M
 lowest-overfull-spec =
