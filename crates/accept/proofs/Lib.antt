@@ -3,3 +3,4 @@ pub mod Cells
 pub mod Counting
 pub mod Exposing
 pub mod Fullness
+pub mod Answering

@@ -1,9 +1,8 @@
 // Refusal 6: the lowest definition that exposes a call of one that is not lower.
 use crate::Exposed;
 use crate::nodes::pass;
-use crate::reading::{first_root, p_at, q_at};
 use crate::words::{pair, store};
-use table::Sizes;
+use table::{Sizes, first_root, p_at, q_at};
 ghost use mathlib.Core.Path.{_≡_};
 ghost use Prim.Native.Nat.{_*_, _≤_, _<_};
 ghost use lib.ListN.{length};

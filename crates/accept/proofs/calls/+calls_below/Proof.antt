@@ -27,19 +27,15 @@ calls-below-below t =
 abbrev claims : ℕ → calls-below-lts.Claims
 claims t = (exposed-reads.Asked, exposed-reads.Learnt, calls-below-below t, calls-below.Post)
 
--- src/calls.rt:62:9
 calls-below-exposed-requires : (t : ℕ) → calls-below-lts.Need-exposed-requires (claims t) (calls-below-at t) calls-below.Post
 calls-below-exposed-requires t c κs = c .before .before .before .pre .1
 
--- src/calls.rt:64:26
 calls-below-enum-known-e : (t : ℕ) → calls-below-lts.Need-enum-known-e (claims t) (calls-below-at t) calls-below.Post
 calls-below-enum-known-e t c = search needs
 
--- src/calls.rt:65:22
 calls-below-enum-known-e-2 : (t : ℕ) → calls-below-lts.Need-enum-known-e-2 (claims t) (calls-below-at t) calls-below.Post
 calls-below-enum-known-e-2 t c = search needs
 
--- src/calls.rt:65:28
 calls-below-calls-below-requires : (t : ℕ) → calls-below-lts.Need-calls-below-requires (claims t) (calls-below-at t) calls-below.Post
 calls-below-calls-below-requires t c κs = 
     let a = c .before .before .before .before .before .before .before in
@@ -48,11 +44,9 @@ calls-below-calls-below-requires t c κs =
     let h = one-below (c .before .before .before .exposed .ensures) (c .before .e2 .given .1) in
     (omega arith, (held-fewer (a .pre .1 .0) _ (omega arith), omega arith))
 
--- src/calls.rt:66:23
 calls-below-enum-known-e-3 : (t : ℕ) → calls-below-lts.Need-enum-known-e-3 (claims t) (calls-below-at t) calls-below.Post
 calls-below-enum-known-e-3 t c = search needs
 
--- src/calls.rt:67:16
 calls-below-calls-below-requires-2 : (t : ℕ) → calls-below-lts.Need-calls-below-requires-2 (claims t) (calls-below-at t) calls-below.Post
 calls-below-calls-below-requires-2 t c κs = 
     let a = c .before .before .before .before .before .before .before in
@@ -61,7 +55,6 @@ calls-below-calls-below-requires-2 t c κs =
     let h = both-below (c .before .before .before .exposed .ensures) (c .before .e3 .given .1) .0 in
     (omega arith, (held-fewer (a .pre .1 .0) _ (omega arith), omega arith))
 
--- src/calls.rt:68:17
 calls-below-calls-below-requires-3 : (t : ℕ) → calls-below-lts.Need-calls-below-requires-3 (claims t) (calls-below-at t) calls-below.Post
 calls-below-calls-below-requires-3 t c κs = 
     let a = c .before .before .before .before .before .before .before .before .before in
@@ -70,19 +63,15 @@ calls-below-calls-below-requires-3 t c κs =
     let h = both-below (c .before .before .before .before .before .exposed .ensures) (c .before .before .before .e3 .given .1) .1 in
     (omega arith, (held-fewer (a .pre .1 .0) _ (omega arith), omega arith))
 
--- src/calls.rt:50:1
 calls-below-returns : (t : ℕ) → calls-below-lts.Need-returns (claims t) (calls-below-at t) calls-below.Post
 calls-below-returns t c = answer-settled (c .before .before .before .exposed .ensures) (c .before .e .given .1)
 
--- src/calls.rt:50:1
 calls-below-returns-2 : (t : ℕ) → calls-below-lts.Need-returns-2 (claims t) (calls-below-at t) calls-below.Post
 calls-below-returns-2 t c = answer-one (c .before .before .before .before .exposed .ensures) (c .before .before .e2 .given .1) (c .calls-below .ensures)
 
--- src/calls.rt:50:1
 calls-below-returns-3 : (t : ℕ) → calls-below-lts.Need-returns-3 (claims t) (calls-below-at t) calls-below.Post
 calls-below-returns-3 t c = answer-both (c .before .before .before .before .before .before .exposed .ensures) (c .before .before .before .before .e3 .given .1) (c .before .before .calls-below2 .ensures) (c .before .if1 .taken) (c .calls-below3 .ensures)
 
--- src/calls.rt:50:1
 calls-below-returns-4 : (t : ℕ) → calls-below-lts.Need-returns-4 (claims t) (calls-below-at t) calls-below.Post
 calls-below-returns-4 t c = answer-not (c .before .before .before .before .before .exposed .ensures) (c .before .before .before .e3 .given .1) (c .before .calls-below2 .ensures) (c .if1 .left)
 

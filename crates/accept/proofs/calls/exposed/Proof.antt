@@ -1,11 +1,6 @@
 use borrow.Author.Needs.{needs}
 use Rattle.accept.proofs.calls.exposed.Statement.{statement}
 use Rattle.accept.proofs.calls.exposed.Tie as tie
-use Rattle.accept.proofs.calls.exposed.Reads as reads
-use Rattle.accept.proofs.calls.exposed.Lts as lts
-use Rattle.accept.proofs.reading.p_at.Reads as p-at-reads
-use Rattle.accept.proofs.reading.q_at.Reads as q-at-reads
-use Rattle.accept.proofs.words.pair.Reads as pair-reads
 use Prim.Native.Nat.{ℕ, _+_, _*_, _≤_, _<_}
 use mathlib.Core.Path.{_≡_, refl, sym, ap, ap₂, _∙_}
 use native.Mathlib.Omega.{arith}
@@ -24,19 +19,15 @@ abbrev tableAt : tie.Start → Table
 tableAt a = table (a .args .sizes) (now (a .args .kinds)) (now (a .args .operands))
 
 
--- src/calls.rt:29:16
 shared-slice-read-kind : tie.Need-shared-slice-read-kind
 shared-slice-read-kind c = search needs
 
--- src/calls.rt:30:9
 p-at-requires : tie.Need-p-at-requires
 p-at-requires c κs = search needs
 
--- src/calls.rt:31:9
 q-at-requires : tie.Need-q-at-requires
 q-at-requires c κs = search needs
 
--- src/calls.rt:34:17
 pair-requires : tie.Need-pair-requires
 pair-requires c κs = 
     let w = lower-nodes (tableAt (start (c .before))) (start (c .before) .args .d) (start (c .before) .args .n) (now (start (c .before) .args .scratch)) (start (c .before) .pre .0) (start (c .before) .pre .1) 5 (c .match .keys1) (omega arith) (omega arith) in
@@ -44,31 +35,24 @@ pair-requires c κs =
     let f = c .before .before .p-at .ensures .is in
     node-room (start (c .before) .pre .0) (c .before .before .p-at .result) (omega arith)
 
--- src/calls.rt:17:1
 returns : tie.Need-returns
 returns c = exposes-left (tableAt (start (c .before .before .before .before))) (start (c .before .before .before .before) .args .d) (start (c .before .before .before .before) .args .n) (now (start (c .before .before .before .before) .args .scratch)) (start (c .before .before .before .before) .pre .0) (start (c .before .before .before .before) .pre .1) (c .before .before .before .before .before .p-at .result) (c .before .before .before .before .q-at .result) (c .before .before .before .before .before .p-at .ensures .is) (c .before .before .before .before .q-at .ensures .is) (c .before .before .before .match .keys1) (sym (ap (λ (x : Counts). x .ticks) (c .before .before .pair .ensures)) ∙ c .if1 .taken)
 
--- src/calls.rt:17:1
 returns-2 : tie.Need-returns-2
 returns-2 c = exposes-both (tableAt (start (c .before .before .before .before))) (start (c .before .before .before .before) .args .d) (start (c .before .before .before .before) .args .n) (now (start (c .before .before .before .before) .args .scratch)) (start (c .before .before .before .before) .pre .0) (start (c .before .before .before .before) .pre .1) (c .before .before .before .before .before .p-at .result) (c .before .before .before .before .q-at .result) (c .before .before .before .before .before .p-at .ensures .is) (c .before .before .before .before .q-at .ensures .is) (c .before .before .before .match .keys1) (λ z. c .if1 .left (ap (λ (x : Counts). x .ticks) (c .before .before .pair .ensures) ∙ z))
 
--- src/calls.rt:17:1
 returns-3 : tie.Need-returns-3
 returns-3 c = exposes-choice (tableAt (start (c .before))) (start (c .before) .args .d) (start (c .before) .args .n) (now (start (c .before) .args .scratch)) (start (c .before) .pre .0) (start (c .before) .pre .1) (c .before .before .p-at .result) (c .before .q-at .result) (c .before .before .p-at .ensures .is) (c .before .q-at .ensures .is) (c .match .keys2)
 
--- src/calls.rt:17:1
 returns-4 : tie.Need-returns-4
 returns-4 c = exposes-guarded (tableAt (start (c .before))) (start (c .before) .args .d) (start (c .before) .args .n) (now (start (c .before) .args .scratch)) (start (c .before) .pre .0) (start (c .before) .pre .1) (c .before .before .p-at .result) (c .before .q-at .result) (c .before .before .p-at .ensures .is) (c .before .q-at .ensures .is) (c .match .keys3)
 
--- src/calls.rt:17:1
 returns-5 : tie.Need-returns-5
 returns-5 c = exposes-par (tableAt (start (c .before))) (start (c .before) .args .d) (start (c .before) .args .n) (now (start (c .before) .args .scratch)) (start (c .before) .pre .0) (start (c .before) .pre .1) (c .before .before .p-at .result) (c .before .q-at .result) (c .before .before .p-at .ensures .is) (c .before .q-at .ensures .is) (c .match .keys4)
 
--- src/calls.rt:17:1
 returns-6 : tie.Need-returns-6
 returns-6 c = exposes-call (tableAt (start (c .before))) (start (c .before) .args .d) (start (c .before) .args .n) (now (start (c .before) .args .scratch)) (start (c .before) .pre .0) (start (c .before) .pre .1) (c .before .before .p-at .result) (c .before .q-at .result) (c .before .before .p-at .ensures .is) (c .before .q-at .ensures .is) (c .match .keys5)
 
--- src/calls.rt:17:1
 returns-7 : tie.Need-returns-7
 returns-7 c = exposes-none (tableAt (start (c .before))) (start (c .before) .args .d) (start (c .before) .args .n) (now (start (c .before) .args .scratch)) (start (c .before) .pre .0) (start (c .before) .pre .1) _ refl (c .match .rest .0 .0 .0 .0 .1) (c .match .rest .0 .0 .0 .1) (c .match .rest .0 .0 .1) (c .match .rest .0 .1) (c .match .rest .1)
 

@@ -1,13 +1,5 @@
 use Rattle.accept.proofs.calls.lowest_bad_call.Statement.{statement}
 use Rattle.accept.proofs.calls.lowest_bad_call.Tie as tie
-use Rattle.accept.proofs.calls.lowest_bad_call.Reads as reads
-use Rattle.accept.proofs.calls.lowest_bad_call.Lts as lts
-use Rattle.accept.proofs.calls.calls_below.Reads as calls-below-reads
-use Rattle.accept.proofs.nodes.pass.Reads as pass-reads
-use Rattle.accept.proofs.reading.first_root.Reads as first-root-reads
-use Rattle.accept.proofs.reading.p_at.Reads as p-at-reads
-use Rattle.accept.proofs.words.pair.Reads as pair-reads
-use Rattle.accept.proofs.words.store.Reads as store-reads
 use Prim.Native.Nat.{ℕ, _+_, _*_, _-_, _≤_, _<_}
 use mathlib.Core.Bool.{false}
 use mathlib.Core.List.{List}
@@ -81,45 +73,36 @@ at c = c .before .before
 judged : (c : tie.After-pass Inv-loop μ-loop) → Held (tableAt (loopAt (at c))) (loopAt (at c) .loop .d) (body (at c)) (passed c)
 judged c = held-fewer (c .pass .ensures) (body (at c)) (omega arith)
 
--- src/calls.rt:87:9
 first-root-requires : tie.Need-first-root-requires Inv-loop μ-loop
 first-root-requires c κs = c .before .before .before .pre .0 .shaped .limits
 
--- src/calls.rt:89:5
 loop-holds : tie.Need-loop-holds Inv-loop μ-loop
 loop-holds c = 
     let a = c .before .before .before .before in
     (omega arith, held-start (a .pre .0) (a .pre .1), λ k h. absurd (omega arith), refl)
 
--- src/calls.rt:90:35
 add-p-at : tie.Need-add-p-at Inv-loop μ-loop
 add-p-at c = omega (arith, place c)
 
--- src/calls.rt:90:13
 p-at-requires : tie.Need-p-at-requires Inv-loop μ-loop
 p-at-requires c κs = omega (arith, place c, start (c .before .before) .pre .0 .shaped .operands)
 
--- src/calls.rt:91:50
 add-pass : tie.Need-add-pass Inv-loop μ-loop
 add-pass c = omega (arith, inner-body (c .before))
 
--- src/calls.rt:91:9
 pass-requires : tie.Need-pass-requires Inv-loop μ-loop
 pass-requires c κs = 
     let w = inner-body (c .before) in
     (loopAt (c .before) .loop .inv .1, omega arith)
 
--- src/calls.rt:92:13
 calls-below-requires : tie.Need-calls-below-requires Inv-loop μ-loop
 calls-below-requires c κs = 
     let a = c .before .before .before in
     (judged a, inner-body (at a))
 
--- src/calls.rt:93:13
 same-length : tie.Need-same-length Inv-loop μ-loop
 same-length c = c .before .before .before .before .before .pass .kept .1 .1 .1 .0 ∙ loopAt (at (c .before .before .before .before .before)) .loop .inv .3
 
--- src/calls.rt:93:13
 returns : tie.Need-returns Inv-loop μ-loop
 returns c = 
     let a = c .before .before .before .before .before in
@@ -131,17 +114,14 @@ returns c =
       held = λ e. absurd (omega arith);
     }
 
--- src/calls.rt:95:13
 pair-requires : tie.Need-pair-requires Inv-loop μ-loop
 pair-requires c κs = 
     let a = c .before .before .before .before .before .before in
     node-room (judged a) (body (at a)) (inner-body (at a))
 
--- src/calls.rt:96:24
 add-store : tie.Need-add-store Inv-loop μ-loop
 add-store c = omega (arith, place (at (c .before .before .before .before .before .before .before .before) .before))
 
--- src/calls.rt:96:9
 store-requires : tie.Need-store-requires Inv-loop μ-loop
 store-requires c κs = 
     let a = c .before .before .before .before .before .before .before .before in
@@ -149,15 +129,12 @@ store-requires c κs =
     let z = root-room (judged a) (loopAt (at a) .loop .d) (turn (at a .before)) in
     (omega arith, rw (c .before .pair .ensures) (held-small (a .pass .ensures) (body (at a)) (omega arith)))
 
--- src/calls.rt:97:9
 add-d : tie.Need-add-d Inv-loop μ-loop
 add-d c = omega arith
 
--- src/calls.rt:89:5
 loop-less : tie.Need-loop-less Inv-loop μ-loop
 loop-less c = omega arith
 
--- src/calls.rt:89:5
 loop-again : tie.Need-loop-again Inv-loop μ-loop
 loop-again c = 
     let a = c .before .before .before .before .before .before .before .before .before .before .before in
@@ -175,11 +152,9 @@ loop-again c =
       ap length s ∙ stored-length (passed a) (firstRoot t + d) (p .result) ∙ a .pass .kept .1 .1 .1 .0 ∙ l .loop .inv .3,
     )
 
--- src/calls.rt:78:1
 same-length-2 : tie.Need-same-length-2 Inv-loop μ-loop
 same-length-2 c = c .before .before .loop .inv .3
 
--- src/calls.rt:78:1
 returns-2 : tie.Need-returns-2 Inv-loop μ-loop
 returns-2 c = 
     let l = c .before .before in

@@ -2,28 +2,19 @@ use borrow.Author.Needs.{needs}
 use borrow.Author.Tests.{lt-ltb, le-ltb}
 use Rattle.accept.proofs.nodes.called.Statement.{statement}
 use Rattle.accept.proofs.nodes.called.Tie as tie
-use Rattle.accept.proofs.nodes.called.Reads as reads
-use Rattle.accept.proofs.nodes.called.Lts as lts
-use Rattle.accept.proofs.sums.counts.Reads as counts-reads
-use Rattle.accept.proofs.words.pair.Reads as pair-reads
 
--- src/nodes.rt:30:30
 add-pair : tie.Need-add-pair
 add-pair c = search needs
 
--- src/nodes.rt:30:9
 pair-requires : tie.Need-pair-requires
 pair-requires c κs = search needs
 
--- src/nodes.rt:30:9
 returns : tie.Need-returns
 returns c = rw (lt-ltb _ _ (c .before .if1 .taken)) (c .pair .ensures)
 
--- src/nodes.rt:32:5
 counts-requires : tie.Need-counts-requires
 counts-requires c κs = search needs
 
--- src/nodes.rt:25:1
 returns-2 : tie.Need-returns-2
 returns-2 c = rw (le-ltb _ _ (c .before .if1 .left)) (c .counts .ensures)
 

@@ -1,9 +1,5 @@
 use Rattle.accept.proofs.nodes.lowest_overfull.Statement.{statement}
 use Rattle.accept.proofs.nodes.lowest_overfull.Tie as tie
-use Rattle.accept.proofs.nodes.lowest_overfull.Reads as reads
-use Rattle.accept.proofs.nodes.lowest_overfull.Lts as lts
-use Rattle.accept.proofs.reading.first_root.Reads as first-root-reads
-use Rattle.accept.proofs.words.pair.Reads as pair-reads
 use Prim.Native.Nat.{ℕ, _-_, _≤_, _<_}
 use mathlib.Core.Bool.{false}
 use mathlib.Core.Path.{_≡_, sym, _∙_}
@@ -25,28 +21,23 @@ abbrev μ-loop : tie.MeasureT-loop
 abbrev start : tie.After-first-root Inv-loop μ-loop → tie.Start Inv-loop μ-loop
 start c = c .before .before .before .before
 
--- src/nodes.rt:83:9
 first-root-requires : tie.Need-first-root-requires Inv-loop μ-loop
 first-root-requires c κs = c .before .before .before .pre .sound .shaped .limits
 
--- src/nodes.rt:85:5
 loop-holds : tie.Need-loop-holds Inv-loop μ-loop
 loop-holds c = (omega arith, λ k h. absurd (omega arith))
 
--- src/nodes.rt:86:13
 pair-requires : tie.Need-pair-requires Inv-loop μ-loop
 pair-requires c κs = 
     let f = c .before .before .first-root .ensures in
     node-room (start (c .before .before) .pre) (c .before .loop .n) (omega arith)
 
--- src/nodes.rt:87:20
 add-if1 : tie.Need-add-if1 Inv-loop μ-loop
 add-if1 c = 
     let f = c .before .before .before .before .first-root .ensures in
     let w : Small (c .before .pair .result) = rw (c .before .pair .ensures) (held-small (start (c .before .before .before .before) .pre) (c .before .before .before .loop .n) (omega arith)) in
     omega (arith, w .actions, w .ticks)
 
--- src/nodes.rt:88:13
 returns : tie.Need-returns Inv-loop μ-loop
 returns c = 
     let r = c .before .before .before .before .before in
@@ -55,15 +46,12 @@ returns c =
     let l = c .before .before .before .loop-test .taken in
     lowest-full (start r .pre) n (omega arith) (overfull-yes (start r .pre) n _ (omega arith) (c .before .before .pair .ensures) (c .if1 .taken)) (λ k h. c .before .before .before .before .loop .inv .1 k h)
 
--- src/nodes.rt:90:9
 add-n : tie.Need-add-n Inv-loop μ-loop
 add-n c = omega arith
 
--- src/nodes.rt:85:5
 loop-less : tie.Need-loop-less Inv-loop μ-loop
 loop-less c = omega arith
 
--- src/nodes.rt:85:5
 loop-again : tie.Need-loop-again Inv-loop μ-loop
 loop-again c = 
     let r = c .before .before .before .before .before in
@@ -72,7 +60,6 @@ loop-again c =
     let l = c .before .before .before .loop-test .taken in
     (omega arith, below-more _ _ (c .before .before .before .before .loop .inv .1) (overfull-no (start r .pre) n _ (omega arith) (c .before .before .pair .ensures) (c .if1 .left)))
 
--- src/nodes.rt:79:1
 returns-2 : tie.Need-returns-2 Inv-loop μ-loop
 returns-2 c = 
     let f = c .before .before .first-root .ensures in

@@ -1,17 +1,6 @@
 use borrow.Author.Needs.{needs}
 use Rattle.accept.proofs.nodes.node.Statement.{statement}
 use Rattle.accept.proofs.nodes.node.Tie as tie
-use Rattle.accept.proofs.nodes.node.Reads as reads
-use Rattle.accept.proofs.nodes.node.Lts as lts
-use Rattle.accept.proofs.nodes.called.Reads as called-reads
-use Rattle.accept.proofs.reading.first_root.Reads as first-root-reads
-use Rattle.accept.proofs.reading.p_at.Reads as p-at-reads
-use Rattle.accept.proofs.reading.q_at.Reads as q-at-reads
-use Rattle.accept.proofs.sums.choice.Reads as choice-reads
-use Rattle.accept.proofs.sums.counts.Reads as counts-reads
-use Rattle.accept.proofs.sums.parallel.Reads as parallel-reads
-use Rattle.accept.proofs.sums.sequence.Reads as sequence-reads
-use Rattle.accept.proofs.words.pair.Reads as pair-reads
 use Prim.Native.Nat.{ℕ, _+_, _*_, _≤_, _<_}
 use mathlib.Core.Path.{_≡_, refl, sym, ap, ap₂, _∙_}
 use native.Mathlib.Omega.{arith}
@@ -69,131 +58,101 @@ small c k e a b =
     (held-small (start c .pre .0) (p c) (w .0), held-small (start c .pre .0) (q c) (w .1))
 
 
--- src/nodes.rt:40:16
 shared-slice-read-kind : tie.Need-shared-slice-read-kind
 shared-slice-read-kind c = search needs
 
--- src/nodes.rt:41:9
 p-at-requires : tie.Need-p-at-requires
 p-at-requires c κs = search needs
 
--- src/nodes.rt:42:9
 q-at-requires : tie.Need-q-at-requires
 q-at-requires c κs = search needs
 
--- src/nodes.rt:44:14
 counts-requires : tie.Need-counts-requires
 counts-requires c κs = search needs
 
--- src/nodes.rt:45:14
 counts-requires-2 : tie.Need-counts-requires-2
 counts-requires-2 c κs = search needs
 
--- src/nodes.rt:46:14
 counts-requires-3 : tie.Need-counts-requires-3
 counts-requires-3 c κs = search needs
 
--- src/nodes.rt:47:14
 counts-requires-4 : tie.Need-counts-requires-4
 counts-requires-4 c κs = search needs
 
--- src/nodes.rt:48:23
 pair-requires : tie.Need-pair-requires
 pair-requires c κs = room (c .before) 5 (c .match .keys5) (omega arith) (omega arith) .0
 
--- src/nodes.rt:48:41
 pair-requires-2 : tie.Need-pair-requires-2
 pair-requires-2 c κs = room (c .before .before) 5 (c .before .match .keys5) (omega arith) (omega arith) .1
 
--- src/nodes.rt:48:14
 sequence-requires : tie.Need-sequence-requires
 sequence-requires c κs = 
     let w = small (c .before .before .before) 5 (c .before .before .match .keys5) (omega arith) (omega arith) in
     (rw (c .before .pair .ensures) (w .0), rw (c .pair2 .ensures) (w .1))
 
--- src/nodes.rt:49:21
 pair-requires-3 : tie.Need-pair-requires-3
 pair-requires-3 c κs = room (c .before) 6 (c .match .keys6) (omega arith) (omega arith) .0
 
--- src/nodes.rt:49:39
 pair-requires-4 : tie.Need-pair-requires-4
 pair-requires-4 c κs = room (c .before .before) 6 (c .before .match .keys6) (omega arith) (omega arith) .1
 
--- src/nodes.rt:49:14
 choice-requires : tie.Need-choice-requires
 choice-requires c κs = 
     let w = small (c .before .before .before) 6 (c .before .before .match .keys6) (omega arith) (omega arith) in
     (rw (c .before .pair3 .ensures) (w .0), rw (c .pair4 .ensures) (w .1))
 
--- src/nodes.rt:50:14
 pair-requires-5 : tie.Need-pair-requires-5
 pair-requires-5 c κs = room (c .before) 7 (c .match .keys7) (omega arith) (omega arith) .1
 
--- src/nodes.rt:51:23
 pair-requires-6 : tie.Need-pair-requires-6
 pair-requires-6 c κs = room (c .before) 8 (c .match .keys8) (omega arith) (omega arith) .0
 
--- src/nodes.rt:51:41
 pair-requires-7 : tie.Need-pair-requires-7
 pair-requires-7 c κs = room (c .before .before) 8 (c .before .match .keys8) (omega arith) (omega arith) .1
 
--- src/nodes.rt:51:14
 parallel-requires : tie.Need-parallel-requires
 parallel-requires c κs = 
     let w = small (c .before .before .before) 8 (c .before .before .match .keys8) (omega arith) (omega arith) in
     (rw (c .before .pair6 .ensures) (w .0), rw (c .pair7 .ensures) (w .1))
 
--- src/nodes.rt:52:30
 first-root-requires : tie.Need-first-root-requires
 first-root-requires c κs = search needs
 
--- src/nodes.rt:52:14
 called-requires : tie.Need-called-requires
 called-requires c κs = search needs
 
--- src/nodes.rt:53:14
 counts-requires-5 : tie.Need-counts-requires-5
 counts-requires-5 c κs = search needs
 
--- src/nodes.rt:28:1
 returns : tie.Need-returns
 returns c = c .counts .ensures ∙ found (c .before .before) 1 (c .before .match .keys1)
 
--- src/nodes.rt:28:1
 returns-2 : tie.Need-returns-2
 returns-2 c = c .counts2 .ensures ∙ found (c .before .before) 2 (c .before .match .keys2)
 
--- src/nodes.rt:28:1
 returns-3 : tie.Need-returns-3
 returns-3 c = c .counts3 .ensures ∙ found (c .before .before) 3 (c .before .match .keys3)
 
--- src/nodes.rt:28:1
 returns-4 : tie.Need-returns-4
 returns-4 c = c .counts4 .ensures ∙ found (c .before .before) 4 (c .before .match .keys4)
 
--- src/nodes.rt:28:1
 returns-5 : tie.Need-returns-5
 returns-5 c = c .sequence .ensures ∙ ap₂ seqCounts (c .before .before .pair .ensures) (c .before .pair2 .ensures) ∙ found (c .before .before .before .before) 5 (c .before .before .before .match .keys5)
 
--- src/nodes.rt:28:1
 returns-6 : tie.Need-returns-6
 returns-6 c = c .choice .ensures ∙ ap₂ choiceCounts (c .before .before .pair3 .ensures) (c .before .pair4 .ensures) ∙ found (c .before .before .before .before) 6 (c .before .before .before .match .keys6)
 
--- src/nodes.rt:28:1
 returns-7 : tie.Need-returns-7
 returns-7 c = c .pair5 .ensures ∙ found (c .before .before) 7 (c .before .match .keys7)
 
--- src/nodes.rt:28:1
 returns-8 : tie.Need-returns-8
 returns-8 c = c .parallel .ensures ∙ ap₂ parCounts (c .before .before .pair6 .ensures) (c .before .pair7 .ensures) ∙ found (c .before .before .before .before) 8 (c .before .before .before .match .keys8)
 
--- src/nodes.rt:28:1
 returns-9 : tie.Need-returns-9
 returns-9 c = 
     c .called .ensures ∙ ap (λ (r : ℕ). calledAt (words (c .before .before .before)) r (start (c .before .before .before) .args .level) (p (c .before .before .before))) (c .before .first-root .ensures) ∙
     found (c .before .before .before) 9 (c .before .before .match .keys9)
 
--- src/nodes.rt:28:1
 returns-10 : tie.Need-returns-10
 returns-10 c = 
     c .counts5 .ensures ∙ other-kind (counts 0 0) _ _ _ _ _ _ _ _ _ (kind (c .before .before)) (c .before .match .rest .0 .0 .0 .0 .0 .0 .0 .0 .1) (c .before .match .rest .0 .0 .0 .0 .0 .0 .0 .1) (c .before .match .rest .0 .0 .0 .0 .0 .0 .1) (c .before .match .rest .0 .0 .0 .0 .0 .1) (c .before .match .rest .0 .0 .0 .0 .1) (c .before .match .rest .0 .0 .0 .1) (c .before .match .rest .0 .0 .1) (c .before .match .rest .0 .1) (c .before .match .rest .1) ∙

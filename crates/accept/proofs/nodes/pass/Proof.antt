@@ -1,9 +1,5 @@
 use Rattle.accept.proofs.nodes.pass.Statement.{statement}
 use Rattle.accept.proofs.nodes.pass.Tie as tie
-use Rattle.accept.proofs.nodes.pass.Reads as reads
-use Rattle.accept.proofs.nodes.pass.Lts as lts
-use Rattle.accept.proofs.nodes.node.Reads as node-reads
-use Rattle.accept.proofs.words.store.Reads as store-reads
 use Prim.Native.Nat.{_-_, _≤_}
 use mathlib.Core.Path.{_≡_, refl, _∙_}
 use native.Mathlib.Omega.{arith}
@@ -24,33 +20,27 @@ abbrev μ-loop : tie.MeasureT-loop
 abbrev start : tie.At-loop Inv-loop μ-loop → tie.Start Inv-loop μ-loop
 start c = c .before .before .before .before
 
--- src/nodes.rt:79:5
 loop-holds : tie.Need-loop-holds Inv-loop μ-loop
 loop-holds c = (omega arith, c .before .before .before .pre .0, refl)
 
--- src/nodes.rt:80:13
 node-requires : tie.Need-node-requires Inv-loop μ-loop
 node-requires c κs = 
     let s = start (c .before .before) in
     let l = s .pre .1 in
     (c .before .before .loop .inv .1, omega arith)
 
--- src/nodes.rt:81:9
 store-requires : tie.Need-store-requires Inv-loop μ-loop
 store-requires c κs = 
     let a = c .before .before .before .before in
     let l = start a .pre .1 in
     (node-room (a .loop .inv .1) (a .loop .n) (omega arith), rw (c .before .node .ensures) (counts-small _))
 
--- src/nodes.rt:82:9
 add-n : tie.Need-add-n Inv-loop μ-loop
 add-n c = omega arith
 
--- src/nodes.rt:79:5
 loop-less : tie.Need-loop-less Inv-loop μ-loop
 loop-less c = omega arith
 
--- src/nodes.rt:79:5
 loop-again : tie.Need-loop-again Inv-loop μ-loop
 loop-again c = 
     let a = c .before .before .before .before .before .before .before in
@@ -60,11 +50,9 @@ loop-again c =
       rw (c .before .before .store .ensures) (stored-length _ _ _ ∙ a .loop .inv .2),
     )
 
--- src/nodes.rt:66:1
 same-length : tie.Need-same-length Inv-loop μ-loop
 same-length c = c .before .loop .inv .2
 
--- src/nodes.rt:66:1
 returns : tie.Need-returns Inv-loop μ-loop
 returns c = 
     let e : c .before .loop .n ≡ start (c .before) .args .end = omega arith in

@@ -2,57 +2,40 @@ use borrow.Author.Needs.{needs}
 use Rattle.accept.specs.Counts.{parCounts}
 use Rattle.accept.proofs.sums.parallel.Statement.{statement}
 use Rattle.accept.proofs.sums.parallel.Tie as tie
-use Rattle.accept.proofs.sums.parallel.Reads as reads
-use Rattle.accept.proofs.sums.parallel.Lts as lts
-use Rattle.accept.proofs.sums.cap.Reads as cap-reads
-use Rattle.accept.proofs.sums.counts.Reads as counts-reads
-use Rattle.accept.proofs.sums.times.Reads as times-reads
 
--- src/sums.rt:48:18
 times-requires : tie.Need-times-requires
 times-requires c κs = search needs
 
--- src/sums.rt:48:46
 times-requires-2 : tie.Need-times-requires-2
 times-requires-2 c κs = search needs
 
--- src/sums.rt:48:18
 add-joined : tie.Need-add-joined
 add-joined c = search needs
 
--- src/sums.rt:49:36
 add-cap : tie.Need-add-cap
 add-cap c = search needs
 
--- src/sums.rt:49:23
 add-cap-2 : tie.Need-add-cap-2
 add-cap-2 c = search needs
 
--- src/sums.rt:49:9
 cap-requires : tie.Need-cap-requires
 cap-requires c κs = search needs
 
--- src/sums.rt:50:21
 times-requires-3 : tie.Need-times-requires-3
 times-requires-3 c κs = search needs
 
--- src/sums.rt:50:47
 times-requires-4 : tie.Need-times-requires-4
 times-requires-4 c κs = search needs
 
--- src/sums.rt:50:21
 add-cap-3 : tie.Need-add-cap-3
 add-cap-3 c = search needs
 
--- src/sums.rt:50:9
 cap-requires-2 : tie.Need-cap-requires-2
 cap-requires-2 c κs = search needs
 
--- src/sums.rt:51:5
 counts-requires : tie.Need-counts-requires
 counts-requires c κs = search needs
 
--- src/sums.rt:44:1
 returns : tie.Need-returns
 unfolding parCounts
 returns c = cc

@@ -3,14 +3,10 @@ use Rattle.accept.proofs.Caps.{product-bound}
 use native.Mathlib.Omega.{arith}
 use mathlib.Core.Path.{refl}
 use Rattle.accept.proofs.sums.times.Tie as tie
-use Rattle.accept.proofs.sums.times.Reads as reads
-use Rattle.accept.proofs.sums.times.Lts as lts
 
--- src/sums.rt:23:5
 mul-result : tie.Need-mul-result
 mul-result c = record { fits = omega (arith, product-bound (c .pre .0) (c .pre .1)) }
 
--- src/sums.rt:19:1
 returns : tie.Need-returns
 returns c = (refl, product-bound (c .pre .0) (c .pre .1))
 
