@@ -1,34 +1,29 @@
 -- Answers of checks in order.
 -- Assumes nothing.
 use Prim.Native.Nat.{ℕ, _+_, _-_, _*_, _≤_, _<_}
-use mathlib.Core.Bool.{Bool, true, false, not, _||_}
+use mathlib.Core.Bool.{Bool, false, not, _||_}
 use mathlib.Core.Path.{_≡_, refl, sym, ap, subst, _∙_}
-use mathlib.Core.List.{List, [], _∷_, _++_}
+use mathlib.Core.List.{List, [], _∷_}
 use native.Mathlib.Omega.{arith}
 use lib.Dec.{ltb, eqb}
-use lib.ListN.{length, take, drop, length-drop}
-use lib.Seq.{take-all}
+use lib.ListN.{length, take, drop}
 use borrow.Author.Tests.{lt-ltb, le-ltb, eq-eqb, ne-eqb}
 use Rattle.basis.specs.Numbers.{lowest}
+use Rattle.basis.proofs.Lists.{take-rest}
 use Rattle.basis.proofs.Numbers.{lowest-before, lowest-bound}
-use Rattle.basis.proofs.Tests.{or-right}
 use Rattle.table.specs.declared.Sizes.{Sizes}
 use Rattle.table.specs.declared.Measured.{Measured}
 use Rattle.table.specs.declared.Measured.the-variants.{Fine as MeasuredFine, Refused as MeasuredRefused}
-use Rattle.table.specs.Checks.{Check, passes, refuses, refuseIf, refuseAt, firstOf}
+use Rattle.table.specs.Checks.{Check, passes, refuses, refuseAt, firstOf}
 use Rattle.table.specs.Tables.{Table, table, sizesOf, tableOf, kindsOf, operandsOf}
-use Rattle.table.specs.Nodes.{badNode}
-use Rattle.table.specs.Reach.{wrongKey}
 use Rattle.table.specs.Measuring.{measuredCheck, sizeChecks, Measure}
-use Rattle.table.specs.Sound.{Shaped, Sound}
 use Rattle.table.proofs.Checks.{first-later, first-refuses, append-later, append-refuses, refuseIf-true, refuseIf-false, refuseAt-below, refuseAt-past}
 use Rattle.table.proofs.Limits.{kinds-part}
 use Rattle.term.specs.Exposure.{badCall}
-use Rattle.term.specs.Acceptance.{stateWords, overfull, lengthChecks, contentChecks}
-use Rattle.term.specs.Accepted.{Checked}
+use Rattle.term.specs.Acceptance.{stateWords, contentChecks}
 use Rattle.accept.specs.Scratch.{Held, Counted}
 use Rattle.accept.specs.Calls.{CallsJudged}
-use Rattle.accept.specs.Answers.{checkOf, lentCheck, Judged, Accepts}
+use Rattle.accept.specs.Answers.{lentCheck, Judged, Accepts}
 use Rattle.accept.specs.declared.Acceptance.{Acceptance}
 use Rattle.accept.specs.declared.Acceptance.the-variants.{Accepted, Refused}
 
@@ -66,10 +61,9 @@ held-all {t} j h = j .held (omega (arith, j .is, lowest-bound (badCall t) (t .si
 -- the parts of a table as code lends them
 pub lent-table : (bytes : List ℕ) (n : Sizes) → n ≡ sizesOf bytes
     → table n (take (12 + n .nodes - 12) (drop 12 bytes)) (take (length bytes - (12 + n .nodes)) (drop (12 + n .nodes) bytes)) ≡ tableOf bytes
-lent-table bytes n e = (λ i. table n (kinds-part bytes (n .nodes) i) (operands i)) ∙ ap (λ (m : Sizes). table m (kindsOf bytes (m .nodes)) (operandsOf bytes (m .nodes))) e
-  where
-    operands : take (length bytes - (12 + n .nodes)) (drop (12 + n .nodes) bytes) ≡ operandsOf bytes (n .nodes)
-    operands = take-all (length bytes - (12 + n .nodes)) (drop (12 + n .nodes) bytes) (omega (arith, length-drop (12 + n .nodes) bytes))
+lent-table bytes n e =
+    (λ i. table n (kinds-part bytes (n .nodes) i) (take-rest bytes (12 + n .nodes) i)) ∙
+    ap (λ (m : Sizes). table m (kindsOf bytes (m .nodes)) (operandsOf bytes (m .nodes))) e
 
 -- 8
 module _ (bytes : List ℕ) (stateLength scratchLength : ℕ) where

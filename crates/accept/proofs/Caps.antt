@@ -10,7 +10,6 @@ use Rattle.term.specs.Terms.{Term}
 use Rattle.term.specs.Processes.{Process, idle, tick, act, choice, guarded, call, seq, par}
 use Rattle.term.specs.Choices.{actionCount, tickCount}
 use Rattle.accept.specs.Counts.{capped, counts, Small, choiceCounts, seqCounts, parCounts, countsOf}
-use Rattle.accept.specs.declared.Counts.{Counts}
 
 pub product-bound : {x y : ℕ} → x ≤ 65536 → y ≤ 65536 → x * y ≤ 4294967296
 product-bound h g = mul-le-mul h g

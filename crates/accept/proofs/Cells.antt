@@ -1,17 +1,16 @@
 -- Pairs of words: what is stored at a node is there, and the other pairs stay; what that does to the words that are held.
 -- Assumes nothing.
 use Prim.Native.Nat.{ℕ, _+_, _*_, _≤_, _<_}
-use mathlib.Core.Path.{_≡_, refl, sym, ap, _∙_}
+use mathlib.Core.Path.{_≡_, sym, ap, _∙_}
 use mathlib.Core.Logic.{⊎-elim}
 use mathlib.Core.List.{List}
 use native.Mathlib.Omega.{arith}
 use lib.ListN.{length, getD, set, length-set}
 use lib.Seq.{getD-set-same, getD-set-other}
 use Rattle.basis.proofs.Tests.{below-or-last}
-use Rattle.basis.proofs.Below.{below-same}
 use Rattle.table.specs.Tables.{Table, firstRoot, bodyAt}
 use Rattle.table.specs.Sound.{Sound}
-use Rattle.term.specs.Processes.{Process, nodeWith, defined}
+use Rattle.term.specs.Processes.{defined}
 use Rattle.term.proofs.Calls.{defined-body}
 use Rattle.accept.specs.Counts.{countsOf, Small}
 use Rattle.accept.specs.Scratch.{pairAt, stored, processAt, Held}
@@ -112,9 +111,6 @@ module _ {t : Table} {level n : ℕ} {s : List ℕ} (held : Held t level n s) wh
         nodes = λ k l. absurd (omega arith);
       }
     where
-      root : ℕ
-      root = firstRoot t + level
-
       definitions : (d : ℕ) → d < level + 1 → pairAt (stored s (firstRoot t + level) c) (firstRoot t + d) ≡ countsOf (defined t (level + 1) d)
       definitions d l =
           ⊎-elim

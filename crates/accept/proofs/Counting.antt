@@ -1,17 +1,17 @@
 -- The counts of a node by its kind, from the words of the nodes and definitions that it names.
 -- Assumes nothing.
-use Prim.Native.Nat.{ℕ, zero, suc, _+_, _*_, _≤_, _<_}
+use Prim.Native.Nat.{ℕ, zero, suc, _+_, _≤_, _<_}
 use mathlib.Core.Bool.{Bool, true, false, cond}
 use mathlib.Core.Path.{_≡_, refl, sym, ap, ap₂, _∙_}
 use mathlib.Core.List.{List, [], _∷_}
 use native.Mathlib.Omega.{arith}
 use lib.Dec.{ltb}
-use lib.ListN.{length, getD}
+use lib.ListN.{getD}
 use borrow.Author.Tests.{ltb-true, ltb-false}
 use Rattle.basis.proofs.Below.{below-out}
 use Rattle.table.specs.Tables.{Table, kindAt, pAt, qAt, firstRoot, bodyAt}
 use Rattle.term.specs.Terms.{Node}
-use Rattle.term.specs.Processes.{Process, idle, tick, act, choice, guarded, call, seq, par, byKind, nodeWith, defined}
+use Rattle.term.specs.Processes.{idle, byKind, nodeWith, defined}
 use Rattle.term.proofs.Opened.{sound-lower, node-opened}
 use Rattle.accept.specs.Counts.{counts, choiceCounts, seqCounts, parCounts, countsOf}
 use Rattle.accept.specs.Scratch.{pairAt, calledAt, processAt, Held}

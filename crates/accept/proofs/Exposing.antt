@@ -1,15 +1,15 @@
 -- What a node leaves to ask for refusal 6, by its kind; and the definitions in ascending order.
 -- Assumes nothing.
-use Prim.Native.Nat.{ℕ, zero, suc, _+_, _*_, _≤_, _<_}
+use Prim.Native.Nat.{ℕ, zero, suc, _≤_, _<_}
 use mathlib.Core.Bool.{Bool, true, false, not, _&&_, _||_}
 use mathlib.Core.Path.{_≡_, refl, sym, ap, subst, _∙_}
 use mathlib.Core.List.{List}
 use native.Mathlib.Omega.{arith}
 use lib.Dec.{ltb}
-use lib.ListN.{length, getD}
+use lib.ListN.{getD}
 use borrow.Author.Tests.{lt-ltb, le-ltb}
 use Rattle.table.specs.Tables.{Table, kindAt, pAt, qAt, firstRoot, bodyAt}
-use Rattle.term.specs.Processes.{Process, idle, tick, act, choice, guarded, call, seq, par, byKind, nodeWith, defined}
+use Rattle.term.specs.Processes.{Process, idle, byKind, defined}
 use Rattle.term.specs.Choices.{tickCount}
 use Rattle.term.specs.Exposure.{canTick, callsBelow, badCall}
 use Rattle.term.proofs.Counting.{can-tick}

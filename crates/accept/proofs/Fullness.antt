@@ -1,13 +1,12 @@
 -- Refusal 7 by the counts that are held, and the true counts where no node is over-full.
 -- Assumes nothing.
-use Prim.Native.Nat.{ℕ, _+_, _*_, _≤_, _<_}
-use mathlib.Core.Bool.{Bool, true, false, not, _&&_}
-use mathlib.Core.Path.{_≡_, refl, sym, ap, subst, _∙_}
+use Prim.Native.Nat.{ℕ, _+_, _≤_, _<_}
+use mathlib.Core.Bool.{true, false, not}
+use mathlib.Core.Path.{_≡_, sym, ap, subst, _∙_}
 use mathlib.Core.Logic.{⊎-elim}
 use mathlib.Core.List.{List}
 use native.Mathlib.Omega.{arith}
-use lib.Dec.{ltb, leb}
-use lib.ListN.{length}
+use lib.Dec.{leb}
 use borrow.Author.Tests.{leb-true, le-leb, lt-leb}
 use Rattle.basis.specs.Numbers.{lowest}
 use Rattle.basis.proofs.Tests.{either, lt-or-le}
@@ -15,16 +14,16 @@ use Rattle.basis.proofs.Numbers.{lowest-none, lowest-at}
 use Rattle.table.specs.Tables.{Table, kindAt, firstRoot}
 use Rattle.table.specs.Nodes.{isProcess}
 use Rattle.table.proofs.Promises.{root-kind}
-use Rattle.term.specs.Processes.{Process, idle, nodeProcess, few}
+use Rattle.term.specs.Processes.{Process, nodeProcess, few}
 use Rattle.term.specs.Choices.{actionCount, tickCount}
 use Rattle.term.specs.Acceptance.{overfull}
 use Rattle.term.specs.Accepted.{Checked}
 use Rattle.term.proofs.Counting.{few-count}
 use Rattle.term.proofs.Acceptance.{no-process, nodes-few}
 use Rattle.accept.specs.Counts.{capped, counts, trueCounts, countsOf}
-use Rattle.accept.specs.Scratch.{pairAt, processAt, Held, Counted}
+use Rattle.accept.specs.Scratch.{pairAt, Held, Counted}
 use Rattle.accept.specs.declared.Counts.{Counts}
-use Rattle.accept.proofs.Caps.{counts-idle, counts-small}
+use Rattle.accept.proofs.Caps.{counts-idle}
 
 abbrev sum : Counts → ℕ
 sum c = c .actions + c .ticks

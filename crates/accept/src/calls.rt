@@ -1,8 +1,12 @@
 // Refusal 6: the lowest definition that exposes a call of one that is not lower.
 use crate::Exposed;
 use crate::nodes::pass;
-use crate::words::{pair, store};
-use table::{Sizes, first_root, p_at, q_at};
+use crate::words::pair;
+use crate::words::store;
+use table::Sizes;
+use table::first_root;
+use table::p_at;
+use table::q_at;
 ghost use mathlib.Core.Path.{_≡_};
 ghost use Prim.Native.Nat.{_*_, _≤_, _<_};
 ghost use lib.ListN.{length};
@@ -74,12 +78,7 @@ fn calls_below(
 
 // The lowest definition that exposes a call that is not lower, and the number of definitions where there is none.
 // For each definition the nodes up to its body are counted; the body's counts are kept at the definition's root.
-pub fn lowest_bad_call(
-    sizes: Sizes,
-    kinds: &[u8],
-    operands: &[u8],
-    scratch: &mut [u32],
-) -> usize
+pub fn lowest_bad_call(sizes: Sizes, kinds: &[u8], operands: &[u8], scratch: &mut [u32]) -> usize
     requires { ⌜ Sound (table sizes (now kinds) (now operands)) × (2 * sizes .nodes ≤ length (now scratch)) ⌝ }
     ensures { λ r. ⌜ CallsJudged (table sizes (now (kinds .entry)) (now (operands .entry))) (now (scratch .exit)) r ⌝ }
 {

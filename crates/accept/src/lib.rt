@@ -1,7 +1,13 @@
 // Which tables are accepted: how many derivations each node has, refusals 6 and 7, and all refusals of a table in order.
 use calls::lowest_bad_call;
-use nodes::{lowest_overfull, pass};
-use table::{Measured, Sizes, first_root, lowest_bad, lowest_wrong, measure};
+use nodes::lowest_overfull;
+use nodes::pass;
+use table::Measured;
+use table::Sizes;
+use table::first_root;
+use table::lowest_bad;
+use table::lowest_wrong;
+use table::measure;
 ghost use mathlib.Core.Path.{_≡_};
 ghost use mathlib.Core.List.{_∷_};
 ghost use Prim.Native.Nat.{_*_, _≤_};
@@ -38,12 +44,7 @@ pub enum Acceptance {
 }
 
 // Refusals 6 and 7.
-fn judge_terms(
-    sizes: Sizes,
-    kinds: &[u8],
-    operands: &[u8],
-    scratch: &mut [u32],
-) -> Acceptance
+fn judge_terms(sizes: Sizes, kinds: &[u8], operands: &[u8], scratch: &mut [u32]) -> Acceptance
     requires { ⌜ Sound (tableFrom sizes (now kinds) (now operands)) × (2 * sizes .nodes ≤ length (now scratch)) ⌝ }
     ensures { λ r. ⌜ Judged (tableFrom sizes (now (kinds .entry)) (now (operands .entry))) (termChecks (tableFrom sizes (now (kinds .entry)) (now (operands .entry)))) (now (scratch .exit)) r ⌝ }
 {
@@ -51,7 +52,14 @@ fn judge_terms(
     if call < sizes.definitions {
         return Acceptance::Refused(6, call);
     }
-    pass(sizes, kinds, operands, scratch, sizes.definitions, first_root(sizes));
+    pass(
+        sizes,
+        kinds,
+        operands,
+        scratch,
+        sizes.definitions,
+        first_root(sizes),
+    );
     let full = lowest_overfull(sizes, kinds, operands, scratch);
     if full < sizes.nodes {
         return Acceptance::Refused(7, full);
@@ -76,12 +84,7 @@ fn judge(sizes: Sizes, kinds: &[u8], operands: &[u8], scratch: &mut [u32]) -> Ac
 }
 
 // Refusal 8, of a state of this length and the lent words, and then 4 to 7.
-fn judge_lent(
-    table: &[u8],
-    sizes: Sizes,
-    state_length: usize,
-    scratch: &mut [u32],
-) -> Acceptance
+fn judge_lent(table: &[u8], sizes: Sizes, state_length: usize, scratch: &mut [u32]) -> Acceptance
     requires { ⌜ (firstOf (sizeChecks (now table)) ≡ passes) × (sizes ≡ sizesOf (now table)) ⌝ }
     ensures { λ r. ⌜ Judged (tableOf (now (table .entry))) (lentCheck (now (table .entry)) «state_length» (length (now (scratch .entry))) ∷ contentChecks (tableOf (now (table .entry)))) (now (scratch .exit)) r ⌝ }
 {

@@ -1,8 +1,15 @@
 // The counts of a node, from those of the nodes and the definitions that it names, and of all nodes; refusal 7.
 use crate::Counts;
-use crate::sums::{choice, counts, parallel, sequence};
-use crate::words::{pair, store};
-use table::{Sizes, first_root, p_at, q_at};
+use crate::sums::choice;
+use crate::sums::counts;
+use crate::sums::parallel;
+use crate::sums::sequence;
+use crate::words::pair;
+use crate::words::store;
+use table::Sizes;
+use table::first_root;
+use table::p_at;
+use table::q_at;
 ghost use mathlib.Core.Path.{_≡_};
 ghost use Prim.Native.Nat.{_+_, _*_, _≤_, _<_};
 ghost use Rattle.basis.specs.Numbers.{lowest};

@@ -1,7 +1,7 @@
 // A node's counts in the lent words: its actions at word 2n, its ticks at word 2n + 1.
 use crate::Counts;
 ghost use mathlib.Core.Path.{_≡_};
-ghost use Prim.Native.Nat.{_+_, _*_, _≤_, _<_};
+ghost use Prim.Native.Nat.{_+_, _*_, _<_};
 ghost use lib.ListN.{length};
 ghost use Rattle.accept.specs.Counts.{Small};
 ghost use Rattle.accept.specs.Scratch.{pairAt, stored};

@@ -1,7 +1,9 @@
+-- `accept::accept` meets its contract.
+-- Assumes nothing.
+use mathlib.Core.Path.{refl}
 use borrow.Author.Needs.{needs}
 use Rattle.accept.proofs.accept.Statement.{statement}
 use Rattle.accept.proofs.accept.Tie as tie
-use mathlib.Core.Path.{refl}
 use Rattle.accept.proofs.Answering.{size-passes, accepts-refused, accepts-judged}
 
 measure-requires : tie.Need-measure-requires
@@ -11,7 +13,7 @@ enum-known-measured : tie.Need-enum-known-measured
 enum-known-measured c = search needs
 
 judge-lent-requires : tie.Need-judge-lent-requires
-judge-lent-requires c κs = 
+judge-lent-requires c κs =
     let m = c .before .before .before .before .measure .ensures in
     let e = c .before .before .measured .given .1 in
     (size-passes m e, m .sizes _ e)

@@ -1,17 +1,19 @@
-use borrow.Author.Needs.{needs}
-use Rattle.accept.proofs.judge.Statement.{statement}
-use Rattle.accept.proofs.judge.Tie as tie
+-- `accept::judge` meets its contract.
+-- Assumes nothing.
 use Prim.Native.Nat.{ℕ, _<_}
 use mathlib.Core.Bool.{false}
-use mathlib.Core.Path.{_≡_, refl, sym, ap, subst, _∙_}
+use mathlib.Core.Path.{_≡_}
 use native.Mathlib.Omega.{arith}
 use denote.Ref.{now}
+use borrow.Author.Needs.{needs}
 use Rattle.basis.specs.Numbers.{lowest}
 use Rattle.table.specs.Checks.{passes, refuseAt}
 use Rattle.table.specs.Tables.{Table, table}
 use Rattle.table.specs.Nodes.{badNode}
 use Rattle.table.specs.Reach.{wrongKey}
 use Rattle.table.specs.Sound.{Sound}
+use Rattle.accept.proofs.judge.Statement.{statement}
+use Rattle.accept.proofs.judge.Tie as tie
 use Rattle.accept.proofs.Answering.{judged-refused, judged-later, refuses-at, passes-at, none-at}
 
 abbrev tableAt : tie.Start → Table
@@ -39,7 +41,6 @@ sound c =
 four : (c : tie.Else1) → refuseAt 4 (start c .args .sizes .nodes) (lowest (badNode (tableAt (start c))) (start c .args .sizes .nodes)) ≡ passes
 four c = passes-at 4 (start c .args .sizes .nodes) (badNode (tableAt (start c))) (c .before .before .before .before .lowest-bad .ensures) (c .if1 .left)
 
-
 lowest-bad-requires : tie.Need-lowest-bad-requires
 lowest-bad-requires c κs = search needs
 
@@ -56,7 +57,7 @@ same-length-2 : tie.Need-same-length-2
 same-length-2 c = search needs
 
 returns-2 : tie.Need-returns-2
-returns-2 c = 
+returns-2 c =
     let l = c .before .before .before .before .before .before in
     judged-later (four l) (judged-refused (refuses-at 5 _ (wrongKey (tableAt (start l))) (c .before .before .before .before .lowest-wrong .ensures) (c .if2 .taken)))
 
@@ -67,7 +68,7 @@ same-length-3 : tie.Need-same-length-3
 same-length-3 c = search needs
 
 returns-3 : tie.Need-returns-3
-returns-3 c = 
+returns-3 c =
     let m = c .before .before .before .before in
     let a = start (first m) in
     judged-later (four (first m))

@@ -1,18 +1,20 @@
-use borrow.Author.Needs.{needs}
-use Rattle.accept.proofs.judge_lent.Statement.{statement}
-use Rattle.accept.proofs.judge_lent.Tie as tie
+-- `accept::judge_lent` meets its contract.
+-- Assumes nothing.
 use Prim.Native.Nat.{ℕ, _+_, _-_, _*_}
 use mathlib.Core.List.{List}
-use mathlib.Core.Path.{_≡_, refl, sym, ap, subst, _∙_}
+use mathlib.Core.Path.{_≡_, sym, ap, subst}
 use native.Mathlib.Omega.{arith}
 use denote.Ref.{now}
 use lib.ListN.{length, take, drop}
+use borrow.Author.Needs.{needs}
 use Rattle.table.specs.declared.Sizes.{Sizes}
 use Rattle.table.specs.Tables.{Table, table, sizesOf, tableOf}
 use Rattle.table.specs.Sound.{Shaped}
 use Rattle.table.proofs.Measuring.{measured-length, measured-shape}
 use Rattle.term.specs.Acceptance.{contentChecks}
 use Rattle.accept.specs.Answers.{Judged}
+use Rattle.accept.proofs.judge_lent.Statement.{statement}
+use Rattle.accept.proofs.judge_lent.Tie as tie
 use Rattle.accept.proofs.Answering.{judged-refused, judged-later, lent-table, lent-state, lent-short, lent-enough}
 
 abbrev bytes : tie.Start → List ℕ
@@ -33,7 +35,6 @@ same-nodes a = ap (λ (n : Sizes). n .nodes) (a .pre .1)
 whole : (a : tie.Start) → length (bytes a) ≡ 12 + 5 * N a
 whole a = let e = same-nodes a in let w = measured-length (bytes a) (a .pre .0) in omega arith
 
-
 returns : tie.Need-returns
 returns c = judged-refused (lent-state (bytes (c .before .before .before)) _ _ (c .if1 .taken))
 
@@ -41,7 +42,7 @@ mul-if2 : tie.Need-mul-if2
 mul-if2 c = let w = whole (c .before .before .before .before) in omega arith
 
 returns-2 : tie.Need-returns-2
-returns-2 c = 
+returns-2 c =
     let e = same-nodes (c .before .before .before .before .before) in
     judged-refused (lent-short (bytes (c .before .before .before .before .before)) _ _ (c .before .before .if1 .left) (omega arith))
 
@@ -67,7 +68,7 @@ part-judge-end-2 : tie.Need-part-judge-end-2
 part-judge-end-2 c = search needs
 
 judge-requires : tie.Need-judge-requires
-judge-requires c κs = 
+judge-requires c κs =
     let a = c .before .before .before .before .before .before .before .before .before in
     (subst Shaped (sym (is-table a)) (measured-shape (bytes a) (a .pre .0)), omega arith)
 
@@ -75,7 +76,7 @@ same-length : tie.Need-same-length
 same-length c = search needs
 
 returns-3 : tie.Need-returns-3
-returns-3 c = 
+returns-3 c =
     let a = c .before .before .before .before .before .before .before .before .before .before .before .before in
     let e = same-nodes a in
     judged-later (lent-enough (bytes a) _ _ (c .before .before .before .before .before .before .before .before .before .if1 .left) (omega arith))

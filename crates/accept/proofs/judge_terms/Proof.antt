@@ -1,14 +1,16 @@
-use borrow.Author.Needs.{needs}
-use Rattle.accept.proofs.judge_terms.Statement.{statement}
-use Rattle.accept.proofs.judge_terms.Tie as tie
+-- `accept::judge_terms` meets its contract.
+-- Assumes nothing.
 use Prim.Native.Nat.{ℕ}
-use mathlib.Core.Path.{_≡_, refl, sym, ap, subst, _∙_}
+use mathlib.Core.Path.{subst}
 use native.Mathlib.Omega.{arith}
 use denote.Ref.{now}
+use borrow.Author.Needs.{needs}
 use Rattle.table.specs.Tables.{Table, table, firstRoot}
 use Rattle.term.specs.Exposure.{badCall}
 use Rattle.term.specs.Acceptance.{overfull}
 use Rattle.accept.specs.Scratch.{Held}
+use Rattle.accept.proofs.judge_terms.Statement.{statement}
+use Rattle.accept.proofs.judge_terms.Tie as tie
 use Rattle.accept.proofs.Fullness.{counted}
 use Rattle.accept.proofs.Answering.{judged-refused, judged-later, judged-none, refuses-at, passes-at, none-at, held-all}
 
@@ -29,7 +31,6 @@ D c = start c .args .sizes .definitions
 all : (c : tie.After-pass) → Held (tableAt (start (c .before .before .before))) (D (c .before .before .before)) (firstRoot (tableAt (start (c .before .before .before)))) (c .pass .last .1 .1 .1 .0)
 all c = subst (λ (n : ℕ). Held (tableAt (start (c .before .before .before))) (D (c .before .before .before)) n (c .pass .last .1 .1 .1 .0)) (c .before .first-root .ensures) (c .pass .ensures)
 
-
 lowest-bad-call-requires : tie.Need-lowest-bad-call-requires
 lowest-bad-call-requires c κs = search needs
 
@@ -43,7 +44,7 @@ first-root-requires : tie.Need-first-root-requires
 first-root-requires c κs = c .before .before .before .before .before .before .before .before .before .before .pre .0 .shaped .limits
 
 pass-requires : tie.Need-pass-requires
-pass-requires c κs = 
+pass-requires c κs =
     let f = c .first-root .ensures in
     (held-all (called (c .before .before) .lowest-bad-call .ensures) (c .before .before .if1 .left), omega arith)
 
@@ -54,7 +55,7 @@ same-length-2 : tie.Need-same-length-2
 same-length-2 c = search needs
 
 returns-2 : tie.Need-returns-2
-returns-2 c = 
+returns-2 c =
     let l = c .before .before .before .before .before .before .before .before .before in
     judged-later (passes-at 6 (D l) (badCall (tableAt (start l))) (called l .lowest-bad-call .ensures .is) (l .if1 .left))
     (judged-refused (refuses-at 7 _ (overfull (tableAt (start l))) (c .before .before .lowest-overfull .ensures) (c .if2 .taken)))
@@ -63,7 +64,7 @@ same-length-3 : tie.Need-same-length-3
 same-length-3 c = search needs
 
 returns-3 : tie.Need-returns-3
-returns-3 c = 
+returns-3 c =
     let l = c .before .before .before .before .before .before .before .before .before in
     let t = tableAt (start l) in
     let e = called l .lowest-bad-call .ensures .is in

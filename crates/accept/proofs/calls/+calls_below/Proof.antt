@@ -1,15 +1,16 @@
+-- `accept::calls::calls_below` meets its contract.
+-- Assumes nothing.
 use Prim.Native.Nat.{ℕ, _<_}
+use native.Mathlib.Omega.{arith}
 use borrow.Fn.Kinds.{In}
 use borrow.Fn.PlainCycle.{Measures, is, falls, and}
+use borrow.Author.Needs.{needs}
 use Rattle.accept.proofs.calls.calls_below.Reads as calls-below
 use Rattle.accept.proofs.calls.calls_below.Kinds as calls-below-kinds
 use Rattle.accept.proofs.calls.+calls_below.Lts-calls_below as calls-below-lts
 use Rattle.accept.proofs.calls.exposed.Reads as exposed-reads
 use Rattle.accept.proofs.calls.+calls_below.{statement}
 use Rattle.accept.proofs.calls.+calls_below.Tie.{close}
-use mathlib.Core.Path.{_≡_}
-use native.Mathlib.Omega.{arith}
-use borrow.Author.Needs.{needs}
 use Rattle.accept.proofs.Cells.{held-fewer}
 use Rattle.accept.proofs.Exposing.{one-below, both-below, answer-settled, answer-one, answer-both, answer-not}
 
@@ -37,7 +38,7 @@ calls-below-enum-known-e-2 : (t : ℕ) → calls-below-lts.Need-enum-known-e-2 (
 calls-below-enum-known-e-2 t c = search needs
 
 calls-below-calls-below-requires : (t : ℕ) → calls-below-lts.Need-calls-below-requires (claims t) (calls-below-at t) calls-below.Post
-calls-below-calls-below-requires t c κs = 
+calls-below-calls-below-requires t c κs =
     let a = c .before .before .before .before .before .before .before in
     let m = a .pre .0 in
     let l = a .pre .1 .1 in
@@ -48,7 +49,7 @@ calls-below-enum-known-e-3 : (t : ℕ) → calls-below-lts.Need-enum-known-e-3 (
 calls-below-enum-known-e-3 t c = search needs
 
 calls-below-calls-below-requires-2 : (t : ℕ) → calls-below-lts.Need-calls-below-requires-2 (claims t) (calls-below-at t) calls-below.Post
-calls-below-calls-below-requires-2 t c κs = 
+calls-below-calls-below-requires-2 t c κs =
     let a = c .before .before .before .before .before .before .before in
     let m = a .pre .0 in
     let l = a .pre .1 .1 in
@@ -56,7 +57,7 @@ calls-below-calls-below-requires-2 t c κs =
     (omega arith, (held-fewer (a .pre .1 .0) _ (omega arith), omega arith))
 
 calls-below-calls-below-requires-3 : (t : ℕ) → calls-below-lts.Need-calls-below-requires-3 (claims t) (calls-below-at t) calls-below.Post
-calls-below-calls-below-requires-3 t c κs = 
+calls-below-calls-below-requires-3 t c κs =
     let a = c .before .before .before .before .before .before .before .before .before in
     let m = a .pre .0 in
     let l = a .pre .1 .1 in

@@ -1,13 +1,13 @@
-use borrow.Author.Needs.{needs}
-use Rattle.accept.proofs.calls.exposed.Statement.{statement}
-use Rattle.accept.proofs.calls.exposed.Tie as tie
-use Prim.Native.Nat.{ℕ, _+_, _*_, _≤_, _<_}
-use mathlib.Core.Path.{_≡_, refl, sym, ap, ap₂, _∙_}
+-- `accept::calls::exposed` meets its contract.
+-- Assumes nothing.
+use mathlib.Core.Path.{refl, sym, ap, _∙_}
 use native.Mathlib.Omega.{arith}
 use denote.Ref.{now}
-use lib.ListN.{length, getD}
-use Rattle.table.specs.Tables.{Table, table, kindAt, pAt, qAt, firstRoot}
+use borrow.Author.Needs.{needs}
+use Rattle.table.specs.Tables.{Table, table}
 use Rattle.accept.specs.declared.Counts.{Counts}
+use Rattle.accept.proofs.calls.exposed.Statement.{statement}
+use Rattle.accept.proofs.calls.exposed.Tie as tie
 use Rattle.accept.proofs.Cells.{node-room}
 use Rattle.accept.proofs.Counting.{lower-nodes}
 use Rattle.accept.proofs.Exposing.{exposes-left, exposes-both, exposes-choice, exposes-guarded, exposes-par, exposes-call, exposes-none}
@@ -17,7 +17,6 @@ start c = c .before .before .before .before .before .before
 
 abbrev tableAt : tie.Start → Table
 tableAt a = table (a .args .sizes) (now (a .args .kinds)) (now (a .args .operands))
-
 
 shared-slice-read-kind : tie.Need-shared-slice-read-kind
 shared-slice-read-kind c = search needs
@@ -29,7 +28,7 @@ q-at-requires : tie.Need-q-at-requires
 q-at-requires c κs = search needs
 
 pair-requires : tie.Need-pair-requires
-pair-requires c κs = 
+pair-requires c κs =
     let w = lower-nodes (tableAt (start (c .before))) (start (c .before) .args .d) (start (c .before) .args .n) (now (start (c .before) .args .scratch)) (start (c .before) .pre .0) (start (c .before) .pre .1) 5 (c .match .keys1) (omega arith) (omega arith) in
     let l = start (c .before) .pre .1 in
     let f = c .before .before .p-at .ensures .is in

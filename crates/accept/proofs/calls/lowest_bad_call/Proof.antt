@@ -1,6 +1,6 @@
-use Rattle.accept.proofs.calls.lowest_bad_call.Statement.{statement}
-use Rattle.accept.proofs.calls.lowest_bad_call.Tie as tie
-use Prim.Native.Nat.{ℕ, _+_, _*_, _-_, _≤_, _<_}
+-- `accept::calls::lowest_bad_call` meets its contract.
+-- Assumes nothing.
+use Prim.Native.Nat.{ℕ, _+_, _-_, _≤_, _<_}
 use mathlib.Core.Bool.{false}
 use mathlib.Core.List.{List}
 use mathlib.Core.Path.{_≡_, refl, sym, ap, subst, _∙_}
@@ -15,11 +15,13 @@ use Rattle.table.proofs.Promises.{body-process}
 use Rattle.term.specs.Exposure.{badCall}
 use Rattle.accept.specs.Counts.{countsOf}
 use Rattle.accept.specs.Scratch.{stored, processAt, Held}
+use Rattle.accept.proofs.calls.lowest_bad_call.Statement.{statement}
+use Rattle.accept.proofs.calls.lowest_bad_call.Tie as tie
 use Rattle.accept.proofs.Cells.{stored-length, node-room, root-room, held-small, held-start, held-fewer, held-next}
 use Rattle.accept.proofs.Exposing.{call-bad, call-good}
 
 abbrev Inv-loop : tie.InvT-loop
-Inv-loop sizes kinds operands scratch₀ roots d₀ scratch d = 
+Inv-loop sizes kinds operands scratch₀ roots d₀ scratch d =
     (d ≤ sizes .definitions) × Held (table sizes kinds operands) d 0 scratch ×
     ((k : ℕ) → k < d → badCall (table sizes kinds operands) k ≡ false) × (length scratch ≡ length scratch₀)
 
@@ -77,7 +79,7 @@ first-root-requires : tie.Need-first-root-requires Inv-loop μ-loop
 first-root-requires c κs = c .before .before .before .pre .0 .shaped .limits
 
 loop-holds : tie.Need-loop-holds Inv-loop μ-loop
-loop-holds c = 
+loop-holds c =
     let a = c .before .before .before .before in
     (omega arith, held-start (a .pre .0) (a .pre .1), λ k h. absurd (omega arith), refl)
 
@@ -91,12 +93,12 @@ add-pass : tie.Need-add-pass Inv-loop μ-loop
 add-pass c = omega (arith, inner-body (c .before))
 
 pass-requires : tie.Need-pass-requires Inv-loop μ-loop
-pass-requires c κs = 
+pass-requires c κs =
     let w = inner-body (c .before) in
     (loopAt (c .before) .loop .inv .1, omega arith)
 
 calls-below-requires : tie.Need-calls-below-requires Inv-loop μ-loop
-calls-below-requires c κs = 
+calls-below-requires c κs =
     let a = c .before .before .before in
     (judged a, inner-body (at a))
 
@@ -104,7 +106,7 @@ same-length : tie.Need-same-length Inv-loop μ-loop
 same-length c = c .before .before .before .before .before .pass .kept .1 .1 .1 .0 ∙ loopAt (at (c .before .before .before .before .before)) .loop .inv .3
 
 returns : tie.Need-returns Inv-loop μ-loop
-returns c = 
+returns c =
     let a = c .before .before .before .before .before in
     let l = loopAt (at a) in
     let r = c .before .calls-below in
@@ -115,7 +117,7 @@ returns c =
     }
 
 pair-requires : tie.Need-pair-requires Inv-loop μ-loop
-pair-requires c κs = 
+pair-requires c κs =
     let a = c .before .before .before .before .before .before in
     node-room (judged a) (body (at a)) (inner-body (at a))
 
@@ -123,7 +125,7 @@ add-store : tie.Need-add-store Inv-loop μ-loop
 add-store c = omega (arith, place (at (c .before .before .before .before .before .before .before .before) .before))
 
 store-requires : tie.Need-store-requires Inv-loop μ-loop
-store-requires c κs = 
+store-requires c κs =
     let a = c .before .before .before .before .before .before .before .before in
     let f = first (loopAt (at a)) in
     let z = root-room (judged a) (loopAt (at a) .loop .d) (turn (at a .before)) in
@@ -136,7 +138,7 @@ loop-less : tie.Need-loop-less Inv-loop μ-loop
 loop-less c = omega arith
 
 loop-again : tie.Need-loop-again Inv-loop μ-loop
-loop-again c = 
+loop-again c =
     let a = c .before .before .before .before .before .before .before .before .before .before .before in
     let l = loopAt (at a) in
     let t = tableAt l in
@@ -156,7 +158,7 @@ same-length-2 : tie.Need-same-length-2 Inv-loop μ-loop
 same-length-2 c = c .before .before .loop .inv .3
 
 returns-2 : tie.Need-returns-2 Inv-loop μ-loop
-returns-2 c = 
+returns-2 c =
     let l = c .before .before in
     let e : l .loop .d ≡ start l .args .sizes .definitions = omega arith in
     record {

@@ -1,3 +1,5 @@
+-- `accept::nodes::called` meets its contract.
+-- Assumes nothing.
 use borrow.Author.Needs.{needs}
 use borrow.Author.Tests.{lt-ltb, le-ltb}
 use Rattle.accept.proofs.nodes.called.Statement.{statement}

@@ -1,15 +1,17 @@
-use borrow.Author.Needs.{needs}
-use Rattle.accept.proofs.nodes.node.Statement.{statement}
-use Rattle.accept.proofs.nodes.node.Tie as tie
+-- `accept::nodes::node` meets its contract.
+-- Assumes nothing.
 use Prim.Native.Nat.{ℕ, _+_, _*_, _≤_, _<_}
-use mathlib.Core.Path.{_≡_, refl, sym, ap, ap₂, _∙_}
+use mathlib.Core.Path.{_≡_, refl, ap, ap₂, _∙_}
+use mathlib.Core.List.{List}
 use native.Mathlib.Omega.{arith}
 use denote.Ref.{now}
 use lib.ListN.{length, getD}
-use Rattle.table.specs.Tables.{Table, table, kindAt, pAt, qAt, firstRoot}
-use mathlib.Core.List.{List}
+use borrow.Author.Needs.{needs}
+use Rattle.table.specs.Tables.{Table, table, kindAt, firstRoot}
 use Rattle.accept.specs.Counts.{counts, countsOf, seqCounts, choiceCounts, parCounts, Small}
 use Rattle.accept.specs.Scratch.{pairAt, calledAt, processAt}
+use Rattle.accept.proofs.nodes.node.Statement.{statement}
+use Rattle.accept.proofs.nodes.node.Tie as tie
 use Rattle.accept.proofs.Cells.{node-room, held-small}
 use Rattle.accept.proofs.Counting.{countsByKind, lower-nodes, node-counts, other-kind}
 
@@ -57,7 +59,6 @@ small c k e a b =
     let w = lower c k e a b in
     (held-small (start c .pre .0) (p c) (w .0), held-small (start c .pre .0) (q c) (w .1))
 
-
 shared-slice-read-kind : tie.Need-shared-slice-read-kind
 shared-slice-read-kind c = search needs
 
@@ -86,7 +87,7 @@ pair-requires-2 : tie.Need-pair-requires-2
 pair-requires-2 c κs = room (c .before .before) 5 (c .before .match .keys5) (omega arith) (omega arith) .1
 
 sequence-requires : tie.Need-sequence-requires
-sequence-requires c κs = 
+sequence-requires c κs =
     let w = small (c .before .before .before) 5 (c .before .before .match .keys5) (omega arith) (omega arith) in
     (rw (c .before .pair .ensures) (w .0), rw (c .pair2 .ensures) (w .1))
 
@@ -97,7 +98,7 @@ pair-requires-4 : tie.Need-pair-requires-4
 pair-requires-4 c κs = room (c .before .before) 6 (c .before .match .keys6) (omega arith) (omega arith) .1
 
 choice-requires : tie.Need-choice-requires
-choice-requires c κs = 
+choice-requires c κs =
     let w = small (c .before .before .before) 6 (c .before .before .match .keys6) (omega arith) (omega arith) in
     (rw (c .before .pair3 .ensures) (w .0), rw (c .pair4 .ensures) (w .1))
 
@@ -111,7 +112,7 @@ pair-requires-7 : tie.Need-pair-requires-7
 pair-requires-7 c κs = room (c .before .before) 8 (c .before .match .keys8) (omega arith) (omega arith) .1
 
 parallel-requires : tie.Need-parallel-requires
-parallel-requires c κs = 
+parallel-requires c κs =
     let w = small (c .before .before .before) 8 (c .before .before .match .keys8) (omega arith) (omega arith) in
     (rw (c .before .pair6 .ensures) (w .0), rw (c .pair7 .ensures) (w .1))
 
@@ -149,12 +150,12 @@ returns-8 : tie.Need-returns-8
 returns-8 c = c .parallel .ensures ∙ ap₂ parCounts (c .before .before .pair6 .ensures) (c .before .pair7 .ensures) ∙ found (c .before .before .before .before) 8 (c .before .before .before .match .keys8)
 
 returns-9 : tie.Need-returns-9
-returns-9 c = 
+returns-9 c =
     c .called .ensures ∙ ap (λ (r : ℕ). calledAt (words (c .before .before .before)) r (start (c .before .before .before) .args .level) (p (c .before .before .before))) (c .before .first-root .ensures) ∙
     found (c .before .before .before) 9 (c .before .before .match .keys9)
 
 returns-10 : tie.Need-returns-10
-returns-10 c = 
+returns-10 c =
     c .counts5 .ensures ∙ other-kind (counts 0 0) _ _ _ _ _ _ _ _ _ (kind (c .before .before)) (c .before .match .rest .0 .0 .0 .0 .0 .0 .0 .0 .1) (c .before .match .rest .0 .0 .0 .0 .0 .0 .0 .1) (c .before .match .rest .0 .0 .0 .0 .0 .0 .1) (c .before .match .rest .0 .0 .0 .0 .0 .1) (c .before .match .rest .0 .0 .0 .0 .1) (c .before .match .rest .0 .0 .0 .1) (c .before .match .rest .0 .0 .1) (c .before .match .rest .0 .1) (c .before .match .rest .1) ∙
     found (c .before .before) _ refl
 

@@ -1,3 +1,5 @@
+-- `accept::sums::choice` meets its contract.
+-- Assumes nothing.
 use borrow.Author.Needs.{needs}
 use Rattle.accept.specs.Counts.{choiceCounts}
 use Rattle.accept.proofs.sums.choice.Statement.{statement}

@@ -1,3 +1,5 @@
+-- `accept::sums::parallel` meets its contract.
+-- Assumes nothing.
 use borrow.Author.Needs.{needs}
 use Rattle.accept.specs.Counts.{parCounts}
 use Rattle.accept.proofs.sums.parallel.Statement.{statement}

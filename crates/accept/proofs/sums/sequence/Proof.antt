@@ -1,3 +1,5 @@
+-- `accept::sums::sequence` meets its contract.
+-- Assumes nothing.
 use borrow.Author.Needs.{needs}
 use Rattle.accept.specs.Counts.{seqCounts}
 use Rattle.accept.proofs.sums.sequence.Statement.{statement}

@@ -1,7 +1,9 @@
+-- `accept::sums::times` meets its contract.
+-- Assumes nothing.
+use mathlib.Core.Path.{refl}
+use native.Mathlib.Omega.{arith}
 use Rattle.accept.proofs.sums.times.Statement.{statement}
 use Rattle.accept.proofs.Caps.{product-bound}
-use native.Mathlib.Omega.{arith}
-use mathlib.Core.Path.{refl}
 use Rattle.accept.proofs.sums.times.Tie as tie
 
 mul-result : tie.Need-mul-result

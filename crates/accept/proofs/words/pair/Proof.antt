@@ -1,3 +1,5 @@
+-- `accept::words::pair` meets its contract.
+-- Assumes nothing.
 use borrow.Author.Needs.{needs}
 use Rattle.accept.proofs.words.pair.Statement.{statement}
 use Rattle.accept.proofs.words.pair.Tie as tie

@@ -1,6 +1,8 @@
+-- `accept::words::store` meets its contract.
+-- Assumes nothing.
+use mathlib.Core.Path.{refl}
 use borrow.Author.Needs.{needs}
 use Rattle.accept.specs.Scratch.{stored}
-use mathlib.Core.Path.{refl}
 use Rattle.accept.proofs.words.store.Statement.{statement}
 use Rattle.accept.proofs.words.store.Tie as tie
 
