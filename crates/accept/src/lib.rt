@@ -1,13 +1,21 @@
 // Which tables are accepted: how many derivations each node has, refusals 6 and 7, and all refusals of a table in order.
+mod calls;
+mod nodes;
+mod sums;
+mod words;
+
 use calls::lowest_bad_call;
 use nodes::lowest_overfull;
 use nodes::pass;
+pub use sums::parallel;
+pub use sums::sequence;
 use table::Measured;
 use table::Sizes;
 use table::first_root;
 use table::lowest_bad;
 use table::lowest_wrong;
 use table::measure;
+pub use words::pair;
 ghost use mathlib.Core.Path.{_≡_};
 ghost use mathlib.Core.List.{_∷_};
 ghost use Prim.Native.Nat.{_*_, _≤_};
@@ -18,11 +26,6 @@ ghost use Rattle.table.specs.Sound.{Shaped, Sound};
 ghost use Rattle.table.specs.Tables.{table as tableFrom, sizesOf, tableOf};
 ghost use Rattle.term.specs.Acceptance.{contentChecks};
 ghost use Rattle.accept.specs.Answers.{lentCheck, termChecks, Judged, Accepts};
-
-mod sums; // sums.rt: counts of a choice, a sequence and a parallel
-pub mod words; // words.rt: a node's counts in the lent words
-mod nodes; // nodes.rt: the counts of a node, and of all nodes; refusal 7
-mod calls; // calls.rt: refusal 6
 
 // How many actions and ticks a process has. 65,536 stands for any larger number too.
 pub struct Counts {

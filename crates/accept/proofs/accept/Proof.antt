@@ -22,7 +22,7 @@ enum-known-measured-2 : tie.Need-enum-known-measured-2
 enum-known-measured-2 c = search needs
 
 same-length : tie.Need-same-length
-same-length c = search needs
+same-length c = c .before .before .judge-lent .kept .1 .1 .1 .0
 
 returns : tie.Need-returns
 returns c = accepts-judged (c .before .before .before .before .before .before .before .measure .ensures) _ (c .before .before .judge-lent .kept .1 .1 .1 .0) (c .before .before .before .before .before .measured .given .1) (c .before .before .judge-lent .ensures)

@@ -2,10 +2,9 @@
 -- Assumes nothing.
 use Prim.Native.Nat.{ℕ, _<_}
 use mathlib.Core.Bool.{false}
-use mathlib.Core.Path.{_≡_}
+use mathlib.Core.Path.{_≡_, _∙_}
 use native.Mathlib.Omega.{arith}
 use denote.Ref.{now}
-use borrow.Author.Needs.{needs}
 use Rattle.basis.specs.Numbers.{lowest}
 use Rattle.table.specs.Checks.{passes, refuseAt}
 use Rattle.table.specs.Tables.{Table, table}
@@ -42,10 +41,12 @@ four : (c : tie.Else1) → refuseAt 4 (start c .args .sizes .nodes) (lowest (bad
 four c = passes-at 4 (start c .args .sizes .nodes) (badNode (tableAt (start c))) (c .before .before .before .before .lowest-bad .ensures) (c .if1 .left)
 
 lowest-bad-requires : tie.Need-lowest-bad-requires
-lowest-bad-requires c κs = search needs
+lowest-bad-requires c κs =
+    let a = c .before .before .before .before in
+    (a .pre .0, omega arith)
 
 same-length : tie.Need-same-length
-same-length c = search needs
+same-length c = c .before .before .before .before .lowest-bad .kept .1 .1 .1 .0
 
 returns : tie.Need-returns
 returns c = judged-refused (refuses-at 4 _ (badNode (tableAt (c .before .before .before .before .before .before .before .before .before))) (c .before .before .before .before .lowest-bad .ensures) (c .if1 .taken))
@@ -54,7 +55,7 @@ lowest-wrong-requires : tie.Need-lowest-wrong-requires
 lowest-wrong-requires c κs = (start (c .before) .pre .0, omega arith, fine (c .before))
 
 same-length-2 : tie.Need-same-length-2
-same-length-2 c = search needs
+same-length-2 c = c .before .before .before .before .lowest-wrong .kept .1 .1 .1 .0 ∙ c .before .before .before .before .before .before .before .before .before .before .lowest-bad .kept .1 .1 .1 .0
 
 returns-2 : tie.Need-returns-2
 returns-2 c =
@@ -65,7 +66,7 @@ judge-terms-requires : tie.Need-judge-terms-requires
 judge-terms-requires c κs = (sound (c .before), omega arith)
 
 same-length-3 : tie.Need-same-length-3
-same-length-3 c = search needs
+same-length-3 c = c .before .before .judge-terms .kept .1 .1 .1 .0 ∙ c .before .before .before .before .before .before .before .before .lowest-wrong .kept .1 .1 .1 .0 ∙ c .before .before .before .before .before .before .before .before .before .before .before .before .before .before .lowest-bad .kept .1 .1 .1 .0
 
 returns-3 : tie.Need-returns-3
 returns-3 c =

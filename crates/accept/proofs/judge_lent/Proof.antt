@@ -73,7 +73,7 @@ judge-requires c κs =
     (subst Shaped (sym (is-table a)) (measured-shape (bytes a) (a .pre .0)), omega arith)
 
 same-length : tie.Need-same-length
-same-length c = search needs
+same-length c = c .before .before .judge .kept .1 .1 .1 .0
 
 returns-3 : tie.Need-returns-3
 returns-3 c =

@@ -1,10 +1,9 @@
 -- `accept::judge_terms` meets its contract.
 -- Assumes nothing.
 use Prim.Native.Nat.{ℕ}
-use mathlib.Core.Path.{subst}
+use mathlib.Core.Path.{subst, _∙_}
 use native.Mathlib.Omega.{arith}
 use denote.Ref.{now}
-use borrow.Author.Needs.{needs}
 use Rattle.table.specs.Tables.{Table, table, firstRoot}
 use Rattle.term.specs.Exposure.{badCall}
 use Rattle.term.specs.Acceptance.{overfull}
@@ -32,10 +31,10 @@ all : (c : tie.After-pass) → Held (tableAt (start (c .before .before .before))
 all c = subst (λ (n : ℕ). Held (tableAt (start (c .before .before .before))) (D (c .before .before .before)) n (c .pass .last .1 .1 .1 .0)) (c .before .first-root .ensures) (c .pass .ensures)
 
 lowest-bad-call-requires : tie.Need-lowest-bad-call-requires
-lowest-bad-call-requires c κs = search needs
+lowest-bad-call-requires c κs = c .before .before .before .before .pre
 
 same-length : tie.Need-same-length
-same-length c = search needs
+same-length c = c .before .before .before .before .lowest-bad-call .kept .1 .1 .1 .0
 
 returns : tie.Need-returns
 returns c = judged-refused (refuses-at 6 _ (badCall (tableAt (c .before .before .before .before .before .before .before .before .before))) (c .before .before .before .before .lowest-bad-call .ensures .is) (c .if1 .taken))
@@ -52,7 +51,7 @@ lowest-overfull-requires : tie.Need-lowest-overfull-requires
 lowest-overfull-requires c κs = all (c .before .before .before)
 
 same-length-2 : tie.Need-same-length-2
-same-length-2 c = search needs
+same-length-2 c = c .before .before .before .before .before .before .pass .kept .1 .1 .1 .0 ∙ c .before .before .before .before .before .before .before .before .before .before .before .before .before .lowest-bad-call .kept .1 .1 .1 .0
 
 returns-2 : tie.Need-returns-2
 returns-2 c =
@@ -61,7 +60,7 @@ returns-2 c =
     (judged-refused (refuses-at 7 _ (overfull (tableAt (start l))) (c .before .before .lowest-overfull .ensures) (c .if2 .taken)))
 
 same-length-3 : tie.Need-same-length-3
-same-length-3 c = search needs
+same-length-3 c = c .before .before .before .before .before .before .pass .kept .1 .1 .1 .0 ∙ c .before .before .before .before .before .before .before .before .before .before .before .before .before .lowest-bad-call .kept .1 .1 .1 .0
 
 returns-3 : tie.Need-returns-3
 returns-3 c =

@@ -117,7 +117,7 @@ parallel-requires c κs =
     (rw (c .before .pair6 .ensures) (w .0), rw (c .pair7 .ensures) (w .1))
 
 first-root-requires : tie.Need-first-root-requires
-first-root-requires c κs = search needs
+first-root-requires c κs = start (c .before) .pre .0 .sound .shaped .limits
 
 called-requires : tie.Need-called-requires
 called-requires c κs = search needs
