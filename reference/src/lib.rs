@@ -1,16 +1,21 @@
 //! A second implementation of the LAbS rehearsal machine, to test the first
 //! against. It reads tables into owned trees and states into maps and sets.
 
+pub mod cases;
 pub mod count;
 pub mod derive;
+pub mod draft;
 pub mod expose;
+pub mod generate;
 pub mod history;
 pub mod machine;
 pub mod reach;
 pub mod refusal;
+pub mod rng;
 pub mod schedule;
 pub mod show;
 pub mod state;
+pub mod stats;
 pub mod step;
 pub mod syntax;
 pub mod table;
