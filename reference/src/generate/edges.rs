@@ -14,7 +14,7 @@ use crate::term::{Term, MAX_WORDS, SEQUENCE, TICK};
 type Make = fn(&mut Rng) -> Case;
 
 /// Edges that need few nodes.
-const SMALL: [Make; 16] = [
+const SMALL: [Make; 17] = [
     short_table,
     few_sizes,
     many_agents_in_header,
@@ -23,6 +23,7 @@ const SMALL: [Make; 16] = [
     shallow_doubling,
     over_full_definition,
     over_full_residual,
+    filling_residual,
     last_choice,
     clock_end,
     long_residual,
@@ -303,6 +304,28 @@ fn over_full_residual(rng: &mut Rng) -> Case {
     world.agents[0].residual = residual;
     let choice = *rng.pick(&[0, 4_095, 4_096, 8_191, 8_192, 65_535]);
     case_at(table, &world, Call::Step(Step::act(0, choice)))
+}
+
+/// A process whose nodes have few derivations, but too many after one act:
+/// (write ; 256 ticks) | 256 ticks.
+pub fn filling() -> Draft {
+    let mut draft = squares();
+    draft.attributes = 1;
+    let one = draft.constant(1);
+    let write = draft.set_attribute(0, one);
+    let later = draft.call(3);
+    let left = draft.sequence(write, later);
+    let right = draft.call(3);
+    let both = draft.parallel(left, right);
+    draft.agent(both);
+    draft
+}
+
+fn filling_residual(rng: &mut Rng) -> Case {
+    let (table, fleet) = accept(&filling());
+    let choice = *rng.pick(&[0, 1, 256, 257]);
+    let steps = [Step::act(0, choice), Step::act(0, 0), Step::act(0, 1)];
+    case_at(table, &World::start(&fleet), run_of(&steps))
 }
 
 /// The last choice of a process, and the first that is not there.

@@ -11,6 +11,7 @@ use crate::cases::{Call, Case, FILL};
 use crate::rng::Rng;
 use crate::schedule;
 use crate::state::{World, STATE_WORDS};
+use crate::step::Step;
 use crate::table::{Fleet, MAX_NODES};
 use fleets::Scale;
 
@@ -70,7 +71,14 @@ fn world(rng: &mut Rng, fleet: &Fleet, small: bool) -> World {
 }
 
 fn step(rng: &mut Rng, fleet: &Fleet, world: &World) -> Call {
-    let enabled = schedules::enabled(rng, fleet, world).filter(|_| rng.chance(85));
+    if rng.chance(15) {
+        return Call::Step(schedules::any(rng, fleet));
+    }
+    if rng.chance(10) {
+        // Often too early, with keys pending.
+        return Call::Step(Step::act(rng.below(fleet.sizes.agents) as u16, 0));
+    }
+    let enabled = schedules::enabled(rng, fleet, world);
     Call::Step(enabled.unwrap_or_else(|| schedules::any(rng, fleet)))
 }
 
@@ -101,10 +109,13 @@ fn noise(rng: &mut Rng) -> Case {
             table[2 * i + 1] = 0;
         }
     }
-    let state = (0..STATE_WORDS).map(|_| rng.next() as u32).collect();
+    let mut state = vec![0; STATE_WORDS];
+    for _ in 0..rng.below(20) {
+        state[rng.below(STATE_WORDS)] = rng.next() as u32;
+    }
     let call = match rng.below(3) {
         0 => Call::Load,
-        1 => Call::Step(crate::step::Step {
+        1 => Call::Step(Step {
             kind: rng.next() as u8,
             agent: rng.next() as u16,
             number: rng.next() as u16,
