@@ -95,13 +95,16 @@ pub fn list(term: &Term, fleet: &Fleet) -> Vec<Derivation> {
         }
         View::Body(p) => list(&p, fleet),
         View::Sequence(p, q) => {
-            let (left, right) = (list(&p, fleet), list(&q, fleet));
+            let left = list(&p, fleet);
             let mut all = Vec::new();
             for mut action in actions(&left) {
                 action.residual = Term::sequence(action.residual, q.clone());
                 all.push(action);
             }
-            all.extend(joined(&left, &right));
+            // Without a tick the right is not exposed, and may be recursive.
+            if left.iter().any(|d| d.action.is_none()) {
+                all.extend(joined(&left, &list(&q, fleet)));
+            }
             all
         }
         View::Parallel(p, q) => {

@@ -46,6 +46,7 @@ pub fn random(rng: &mut Rng, scale: Scale) -> Draft {
         links,
         can_tick: Vec::new(),
         budget,
+        ticks: if rng.chance(30) { 20 } else { 4 },
         rng,
     };
     grower.grow(agents);
@@ -76,6 +77,8 @@ struct Grower<'r> {
     can_tick: Vec<bool>,
     /// About how many nodes may still be made.
     budget: usize,
+    /// The weight of ticks among the leaves; actions have 16.
+    ticks: usize,
     rng: &'r mut Rng,
 }
 
@@ -204,7 +207,7 @@ impl Grower<'_> {
             Calls::Any => self.definitions,
         };
         self.spend();
-        match self.rng.weighted(&[1, 4, 16, 8]) {
+        match self.rng.weighted(&[1, self.ticks, 16, 8]) {
             0 => (self.draft.idle(), false),
             3 if callable > 0 => {
                 let d = self.rng.below(callable);

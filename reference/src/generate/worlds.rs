@@ -90,7 +90,7 @@ fn term(rng: &mut Rng, processes: &[Rc<Process>], words: usize) -> Term {
     if words == 1 {
         return match rng.below(8) {
             0 => Term::Idle,
-            1 => Term::Tick,
+            1 | 2 => Term::Tick,
             _ => Term::Process(Rc::clone(rng.pick(processes))),
         };
     }
