@@ -103,7 +103,11 @@ impl Case {
         let mut answers = Vec::new();
         let packed = match &self.call {
             Call::Load => pack(&machine::load(&self.table, &mut state, self.scratch)),
-            Call::Step(Step { kind, agent, number }) => pack(&machine::step(
+            Call::Step(Step {
+                kind,
+                agent,
+                number,
+            }) => pack(&machine::step(
                 &self.table,
                 &mut state,
                 self.scratch,
@@ -111,7 +115,10 @@ impl Case {
                 *agent,
                 *number,
             )),
-            Call::Run { schedule, answers: length } => {
+            Call::Run {
+                schedule,
+                answers: length,
+            } => {
                 answers = vec![ANSWER_FILL; *length];
                 pack(&machine::run(
                     &self.table,

@@ -25,9 +25,18 @@ fn times(a: u32, b: u32) -> u32 {
 }
 
 impl Count {
-    pub const NONE: Count = Count { actions: 0, ticks: 0 };
-    pub const TICK: Count = Count { actions: 0, ticks: 1 };
-    pub const ACTION: Count = Count { actions: 1, ticks: 0 };
+    pub const NONE: Count = Count {
+        actions: 0,
+        ticks: 0,
+    };
+    pub const TICK: Count = Count {
+        actions: 0,
+        ticks: 1,
+    };
+    pub const ACTION: Count = Count {
+        actions: 1,
+        ticks: 0,
+    };
 
     pub fn total(self) -> u32 {
         plus(self.actions, self.ticks)

@@ -161,7 +161,10 @@ impl Draft {
     /// The table.
     pub fn bytes(&self) -> Vec<u8> {
         let named = [&self.definitions, &self.links, &self.agents];
-        let roots = named.into_iter().flatten().map(|&p| Raw { kind: 64, p, q: 0 });
+        let roots = named
+            .into_iter()
+            .flatten()
+            .map(|&p| Raw { kind: 64, p, q: 0 });
         let all: Vec<Raw> = self.nodes.iter().copied().chain(roots).collect();
         let header = [
             all.len() as u16,

@@ -4,7 +4,7 @@
 use std::collections::{BTreeMap, BTreeSet};
 
 use crate::machine::open;
-use crate::refusal::Answer;
+use crate::refusal::{Answer, Reason};
 use crate::state::{World, STATE_WORDS};
 use crate::step::Step;
 use crate::syntax::{Key, Store};
@@ -45,7 +45,7 @@ impl History {
     /// The next step with the length of its scratch; says what it answers.
     pub fn note(&mut self, scratch_words: usize, step: Step) -> Answer<u32> {
         if scratch_words < 2 * self.fleet.sizes.nodes {
-            return Err(crate::refusal::Reason::Room.into());
+            return Err(Reason::Room.into());
         }
         let write = self.write_of(step);
         let answer = self.world.step(&self.fleet, step);
@@ -119,7 +119,7 @@ impl Watch {
     }
 
     /// (i) An entry with stamp n has the key and value of write n.
-    fn entries_are_writes(&self, lent: &World) -> Result<(), String> {
+    pub fn entries_are_writes(&self, lent: &World) -> Result<(), String> {
         for (i, agent) in lent.agents.iter().enumerate() {
             for (&key, entry) in &agent.entries {
                 let write = self.history.writes.get(entry.stamp as usize - 1);
@@ -135,7 +135,7 @@ impl Watch {
     }
 
     /// (ii) Equal stamps for a key mean equal values.
-    fn equal_stamps_agree(&self, lent: &World) -> Result<(), String> {
+    pub fn equal_stamps_agree(&self, lent: &World) -> Result<(), String> {
         let mut values = BTreeMap::new();
         for agent in &lent.agents {
             for (&key, entry) in &agent.entries {
@@ -149,7 +149,7 @@ impl Watch {
     }
 
     /// (iii) An agent's stamp for a key never falls.
-    fn stamps_never_fall(&mut self, lent: &World) -> Result<(), String> {
+    pub fn stamps_never_fall(&mut self, lent: &World) -> Result<(), String> {
         for (i, agent) in lent.agents.iter().enumerate() {
             for key in 0..self.history.fleet.sizes.stigmergy as Key {
                 let stamp = agent.stamp(key);
@@ -164,7 +164,7 @@ impl Watch {
 
     /// (iv) Along a link that held before every step, a key whose entry is
     /// newer at the sender waits there to be propagated.
-    fn newer_waits(&mut self, lent: &World) -> Result<(), String> {
+    pub fn newer_waits(&mut self, lent: &World) -> Result<(), String> {
         for &(key, sender, receiver) in &self.linked {
             let (from, to) = (&lent.agents[sender], &lent.agents[receiver]);
             if from.stamp(key) > to.stamp(key) {

@@ -40,7 +40,14 @@ pub fn step(
     number: u16,
 ) -> Answer<u32> {
     let (fleet, mut world) = open_at(table, state, scratch_words)?;
-    let taken = world.step(&fleet, Step { kind, agent, number })?;
+    let taken = world.step(
+        &fleet,
+        Step {
+            kind,
+            agent,
+            number,
+        },
+    )?;
     world.encode(state);
     Ok(taken)
 }

@@ -33,7 +33,11 @@ fn rehearse(input: &[u8]) -> Answer<String> {
 }
 
 fn lines(totals: Totals, world: &World) -> String {
-    let Totals { done, refused, taken } = totals;
+    let Totals {
+        done,
+        refused,
+        taken,
+    } = totals;
     let mut lines = vec![
         format!("done {done} refused {refused} taken {taken}"),
         format!("clock {}", world.clock),

@@ -86,7 +86,8 @@ impl World {
             return None;
         }
         let clock = words[0];
-        let environment = decode_values(&words[ENVIRONMENT_AT..AGENTS_AT], fleet.sizes.environment)?;
+        let environment =
+            decode_values(&words[ENVIRONMENT_AT..AGENTS_AT], fleet.sizes.environment)?;
         let (used, unused) = words[AGENTS_AT..].split_at(fleet.sizes.agents * AGENT_WORDS);
         let agents = used
             .chunks(AGENT_WORDS)
@@ -106,7 +107,11 @@ impl World {
         words[0] = self.clock;
         words[1] = self.agents.len() as u32;
         encode_values(&self.environment, &mut words[ENVIRONMENT_AT..AGENTS_AT]);
-        for (agent, block) in self.agents.iter().zip(words[AGENTS_AT..].chunks_mut(AGENT_WORDS)) {
+        for (agent, block) in self
+            .agents
+            .iter()
+            .zip(words[AGENTS_AT..].chunks_mut(AGENT_WORDS))
+        {
             encode_agent(agent, block);
         }
     }
@@ -167,7 +172,9 @@ fn decode_entries(words: &[u32], keys: usize, clock: u32) -> Option<BTreeMap<Key
 /// A set of keys, each of which has an entry.
 fn decode_set(word: u32, entries: &BTreeMap<Key, Entry>) -> Option<BTreeSet<Key>> {
     let set: BTreeSet<Key> = (0..32).filter(|bit| word >> bit & 1 == 1).collect();
-    set.iter().all(|key| entries.contains_key(key)).then_some(set)
+    set.iter()
+        .all(|key| entries.contains_key(key))
+        .then_some(set)
 }
 
 fn encode_set(set: &BTreeSet<Key>) -> u32 {

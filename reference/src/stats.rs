@@ -46,7 +46,11 @@ impl fmt::Display for Stats {
     fn fmt(&self, out: &mut fmt::Formatter) -> fmt::Result {
         writeln!(out, "answer      load      step       run    in run")?;
         for answer in 0..=REASONS {
-            let name = if answer == 0 { "done".to_string() } else { answer.to_string() };
+            let name = if answer == 0 {
+                "done".to_string()
+            } else {
+                answer.to_string()
+            };
             writeln!(
                 out,
                 "{name:<6} {:>9} {:>9} {:>9} {:>9}",

@@ -20,15 +20,27 @@ pub struct Step {
 
 impl Step {
     pub fn act(agent: u16, choice: u16) -> Step {
-        Step { kind: 0, agent, number: choice }
+        Step {
+            kind: 0,
+            agent,
+            number: choice,
+        }
     }
 
     pub fn propagate(agent: u16, key: Key) -> Step {
-        Step { kind: 1, agent, number: key }
+        Step {
+            kind: 1,
+            agent,
+            number: key,
+        }
     }
 
     pub fn confirm(agent: u16, key: Key) -> Step {
-        Step { kind: 2, agent, number: key }
+        Step {
+            kind: 2,
+            agent,
+            number: key,
+        }
     }
 }
 

@@ -264,8 +264,18 @@ impl<'a> Reader<'a> {
 
     fn expr_form(&mut self, kind: u8, p: u16, q: u16) -> Option<ExprForm> {
         let operator = match kind {
-            33 => return Some(ExprForm::Attribute(below(p, self.sizes.attributes)?, party(q)?)),
-            34 => return Some(ExprForm::Stigmergy(below(p, self.sizes.stigmergy)?, party(q)?)),
+            33 => {
+                return Some(ExprForm::Attribute(
+                    below(p, self.sizes.attributes)?,
+                    party(q)?,
+                ))
+            }
+            34 => {
+                return Some(ExprForm::Stigmergy(
+                    below(p, self.sizes.stigmergy)?,
+                    party(q)?,
+                ))
+            }
             35 => {
                 zero(q)?;
                 return Some(ExprForm::Environment(below(p, self.sizes.environment)?));

@@ -67,7 +67,11 @@ impl Term {
             Term::Idle => words.push(IDLE),
             Term::Tick => words.push(TICK),
             Term::Sequence(p, q) | Term::Parallel(p, q) => {
-                let head = if let Term::Sequence(..) = self { SEQUENCE } else { PARALLEL };
+                let head = if let Term::Sequence(..) = self {
+                    SEQUENCE
+                } else {
+                    PARALLEL
+                };
                 words.push(head);
                 p.write(words);
                 q.write(words);

@@ -53,12 +53,12 @@ impl Expr {
     pub fn value(&self, scene: Scene) -> Option<i32> {
         match &self.form {
             ExprForm::Constant(value) => Some(*value),
-            ExprForm::Attribute(key, party) => {
-                scene.agent(*party)?.attributes.get(key).copied()
-            }
-            ExprForm::Stigmergy(key, party) => {
-                scene.agent(*party)?.entries.get(key).map(|entry| entry.value)
-            }
+            ExprForm::Attribute(key, party) => scene.agent(*party)?.attributes.get(key).copied(),
+            ExprForm::Stigmergy(key, party) => scene
+                .agent(*party)?
+                .entries
+                .get(key)
+                .map(|entry| entry.value),
             ExprForm::Environment(key) => scene.environment(*key),
             ExprForm::Binary(operator, a, b) => operator.apply(a.value(scene)?, b.value(scene)?),
         }
@@ -94,7 +94,10 @@ impl Guard {
 
     pub fn judge(&self, scene: Scene) -> Judgement {
         match &self.form {
-            GuardForm::True => Judgement { defined: true, holds: true },
+            GuardForm::True => Judgement {
+                defined: true,
+                holds: true,
+            },
             GuardForm::Compare(relation, a, b) => match (a.value(scene), b.value(scene)) {
                 (Some(a), Some(b)) => Judgement {
                     defined: true,
@@ -104,7 +107,10 @@ impl Guard {
                         Relation::Greater => a > b,
                     },
                 },
-                _ => Judgement { defined: false, holds: false },
+                _ => Judgement {
+                    defined: false,
+                    holds: false,
+                },
             },
             GuardForm::Not(b) => {
                 let b = b.judge(scene);

@@ -22,8 +22,15 @@ use reference::term::Term;
 
 /// What tells two derivations apart.
 fn key(d: &Derivation) -> (Option<(u8, u16, u16)>, Vec<u16>, Vec<u32>) {
-    let action = d.action.as_ref().map(|a| (a.store as u8, a.key, a.value.id));
-    (action, d.guards.keys().copied().collect(), d.residual.words())
+    let action = d
+        .action
+        .as_ref()
+        .map(|a| (a.store as u8, a.key, a.value.id));
+    (
+        action,
+        d.guards.keys().copied().collect(),
+        d.residual.words(),
+    )
 }
 
 /// How much the comparisons have seen.
@@ -61,20 +68,33 @@ fn selection_agrees_with_the_list() {
     let rng = &mut Rng::new(5);
     let mut seen = Seen::default();
     for round in 0..1_500 {
-        let scale = if round % 3 == 0 { Scale::Middle } else { Scale::Small };
+        let scale = if round % 3 == 0 {
+            Scale::Middle
+        } else {
+            Scale::Small
+        };
         let (_, fleet) = accepted(rng, scale);
         for agent in invented(rng, &fleet).agents {
             compare(&agent.residual, &fleet, &mut seen);
         }
     }
-    let Seen { terms, ticks, guards, longest } = seen;
+    let Seen {
+        terms,
+        ticks,
+        guards,
+        longest,
+    } = seen;
     assert!(terms > 1_000 && ticks > 500, "{terms} {ticks}");
     assert!(guards > 500 && longest > 50, "{guards} {longest}");
 }
 
 /// A process of mostly guarded ticks, which calls lower definitions.
 fn ticking(rng: &mut Rng, draft: &mut Draft, depth: usize, below: usize) -> u16 {
-    let kind = if depth == 0 { rng.below(3) } else { rng.below(9) };
+    let kind = if depth == 0 {
+        rng.below(3)
+    } else {
+        rng.below(9)
+    };
     match kind {
         0 if below > 0 => draft.call(rng.below(below) as u16),
         1 if rng.chance(30) => {
@@ -116,7 +136,12 @@ fn selection_agrees_where_ticks_abound() {
         compare(&Term::parallel(Term::Tick, top.clone()), &fleet, &mut seen);
         compare(&Term::parallel(top.clone(), top), &fleet, &mut seen);
     }
-    let Seen { terms, ticks, guards, longest } = seen;
+    let Seen {
+        terms,
+        ticks,
+        guards,
+        longest,
+    } = seen;
     assert!(terms > 1_000 && ticks > 20_000, "{terms} {ticks}");
     assert!(guards > 20_000 && longest > 300, "{guards} {longest}");
 }
@@ -142,7 +167,10 @@ fn the_order_of_a_list() {
     let mut draft = Draft::new(1, 0);
     let guards = [draft.truth(), draft.truth(), draft.truth()];
     let values = [draft.constant(1), draft.constant(2)];
-    let (a, b) = (draft.set_attribute(0, values[0]), draft.set_attribute(0, values[1]));
+    let (a, b) = (
+        draft.set_attribute(0, values[0]),
+        draft.set_attribute(0, values[1]),
+    );
     let (ga, gb) = (draft.guarded(guards[0], a), draft.guarded(guards[1], b));
     let (t, u) = (draft.tick(), draft.tick());
     let gt = draft.guarded(guards[2], t);
@@ -199,8 +227,17 @@ fn counts_held_at_the_limit_are_exact_below_it() {
         let mut made: Vec<(Exact, Count)> = (0..4)
             .map(|_| {
                 let (a, t) = (rng.below(40), rng.below(40) * rng.below(2));
-                let exact = Exact { actions: a as u128, ticks: t as u128 };
-                (exact, Count { actions: a as u32, ticks: t as u32 })
+                let exact = Exact {
+                    actions: a as u128,
+                    ticks: t as u128,
+                };
+                (
+                    exact,
+                    Count {
+                        actions: a as u32,
+                        ticks: t as u32,
+                    },
+                )
             })
             .collect();
         for _ in 0..8 {
@@ -218,7 +255,10 @@ fn counts_held_at_the_limit_are_exact_below_it() {
                     Count::choice(held_p, held_q),
                 ),
                 1 => (
-                    Exact { actions: p.actions.saturating_add(joined), ticks: both },
+                    Exact {
+                        actions: p.actions.saturating_add(joined),
+                        ticks: both,
+                    },
                     Count::sequence(held_p, held_q),
                 ),
                 _ => (
@@ -294,8 +334,16 @@ fn other_doublings_end_quickly() {
         let table = {
             let mut draft = draft.clone();
             // The tick becomes "attribute 0 := 0" with a constant below it.
-            draft.nodes[tick] = reference::draft::Raw { kind: 32, p: 0, q: 0 };
-            draft.nodes[lowest] = reference::draft::Raw { kind: 2, p: 0, q: tick as u16 };
+            draft.nodes[tick] = reference::draft::Raw {
+                kind: 32,
+                p: 0,
+                q: 0,
+            };
+            draft.nodes[lowest] = reference::draft::Raw {
+                kind: 2,
+                p: 0,
+                q: tick as u16,
+            };
             draft.bytes()
         };
         assert_eq!(steps(&table, &mut start(&table), Step::act(0, 0)), 17);

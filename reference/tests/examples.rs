@@ -45,7 +45,11 @@ fn exchange(kind: u8, own: (i32, u32), other: Option<(i32, u32)>) -> (u32, World
         before.agents[1].to_confirm.insert(0);
     }
     let mut state = before.words();
-    let step = Step { kind, agent: 0, number: 0 };
+    let step = Step {
+        kind,
+        agent: 0,
+        number: 0,
+    };
     let taken = do_step(&table, &mut state, step).expect("the step is done");
     let after = world(&table, &state);
     assert_eq!(after.agents[0].entries[&0], entry(own));
@@ -95,7 +99,9 @@ fn d_tick_beside_tick_has_two_choices() {
     let fleet = fleet(&table);
     let all = list(&node(&fleet, both), &fleet);
     assert_eq!(all.len(), 2);
-    assert!(all.iter().all(|d| d.action.is_none() && d.residual.words() == [65_532]));
+    assert!(all
+        .iter()
+        .all(|d| d.action.is_none() && d.residual.words() == [65_532]));
     let mut state = start(&table);
     assert_eq!(steps(&table, &mut state, Step::act(0, 2)), 13);
     assert_eq!(steps(&table, &mut state.clone(), Step::act(0, 0)), 0);
@@ -236,9 +242,23 @@ fn a_load_writes_every_word() {
     let table = edges::example().bytes();
     let state = start(&table);
     assert_eq!(state.len(), STATE_WORDS);
-    let set: Vec<(usize, u32)> = state.iter().copied().enumerate().filter(|&(_, w)| w != 0).collect();
+    let set: Vec<(usize, u32)> = state
+        .iter()
+        .copied()
+        .enumerate()
+        .filter(|&(_, w)| w != 0)
+        .collect();
     // A; for each agent length 1 and the node that its root names.
-    assert_eq!(set, [(1, 2), (34 + 66, 1), (34 + 67, 1), (34 + 130 + 66, 1), (34 + 130 + 67, 3)]);
+    assert_eq!(
+        set,
+        [
+            (1, 2),
+            (34 + 66, 1),
+            (34 + 67, 1),
+            (34 + 130 + 66, 1),
+            (34 + 130 + 67, 3)
+        ]
+    );
 }
 
 const EXAMPLE_LINES: &str = "\
@@ -254,7 +274,16 @@ fn the_example_is_printed_as_in_the_paper() {
     // The bytes, spelt out.
     let mut input: Vec<u8> = vec![8, 0, 0, 0, 2, 0, 1, 0, 1, 0, 0, 0];
     input.extend([32, 3, 34, 2, 16, 64, 64, 64]);
-    let operands = [(7u16, 0u16), (0, 0), (0, 0), (0, 2), (0, 0), (4, 0), (1, 0), (3, 0)];
+    let operands = [
+        (7u16, 0u16),
+        (0, 0),
+        (0, 0),
+        (0, 2),
+        (0, 0),
+        (4, 0),
+        (1, 0),
+        (3, 0),
+    ];
     for (p, q) in operands {
         input.extend(p.to_le_bytes());
         input.extend(q.to_le_bytes());
@@ -265,12 +294,22 @@ fn the_example_is_printed_as_in_the_paper() {
     for agent in [1, 0, 0, 0, 1, 1, 1] {
         input.extend([agent, 0, 0, 0]);
     }
-    assert_eq!(input[table.len()..], schedule::write(&edges::example_steps()));
+    assert_eq!(
+        input[table.len()..],
+        schedule::write(&edges::example_steps())
+    );
     assert_eq!(show(&input), EXAMPLE_LINES);
 
     let mut state = start(&table);
     let (totals, answers) = runs(&table, &mut state, &edges::example_steps());
-    assert_eq!(totals, Ok(Totals { done: 5, refused: 2, taken: 1 }));
+    assert_eq!(
+        totals,
+        Ok(Totals {
+            done: 5,
+            refused: 2,
+            taken: 1
+        })
+    );
     assert_eq!(answers, [15, 0, 11, 0, 0, 0, 0]);
 }
 
@@ -366,7 +405,11 @@ fn the_clock_ends_at_65535() {
     while state[0] < 65_530 {
         let left = (65_530 - state[0]) as usize;
         let round = [Step::act(0, 0), Step::propagate(0, 0)];
-        let list: Vec<Step> = round.into_iter().cycle().take((2 * left).min(8_192)).collect();
+        let list: Vec<Step> = round
+            .into_iter()
+            .cycle()
+            .take((2 * left).min(8_192))
+            .collect();
         let (totals, _) = runs(&table, &mut state, &list);
         done += totals.unwrap().done;
     }
@@ -388,7 +431,10 @@ fn a_residual_may_have_63_words() {
     let mut state = start(&table);
     for words in (3..=63).step_by(2) {
         assert_eq!(steps(&table, &mut state, Step::act(0, 0)), 0);
-        assert_eq!(world(&table, &state).agents[0].residual.words().len(), words);
+        assert_eq!(
+            world(&table, &state).agents[0].residual.words().len(),
+            words
+        );
     }
     assert_eq!(steps(&table, &mut state, Step::act(0, 0)), 17);
 }

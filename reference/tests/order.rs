@@ -92,7 +92,11 @@ fn acts() {
         draft.attributes = 1;
         let guard = draft.truth();
         let guard = if has(14) { draft.not(guard) } else { guard };
-        let value = if has(15) { draft.attribute(0, 0) } else { draft.constant(1) };
+        let value = if has(15) {
+            draft.attribute(0, 0)
+        } else {
+            draft.constant(1)
+        };
         let write = draft.set_stigmergy(0, value);
         let tick = draft.tick();
         let body = draft.sequence(write, tick);
@@ -135,7 +139,11 @@ fn propagate_and_confirm() {
     // 10 for an agent or key, and only then 18.
     for kind in [1, 2] {
         for (agent, number, want) in [(2, 0, 10), (0, 1, 10), (2, 1, 10), (0, 0, 18)] {
-            let step = Step { kind, agent, number };
+            let step = Step {
+                kind,
+                agent,
+                number,
+            };
             assert_eq!(steps(&table, &mut state, step), want);
         }
     }
@@ -166,7 +174,10 @@ fn runs_check_before_any_step() {
     // n over 8,192 is a 19 although the buffer is short too.
     let mut state = sound.clone();
     let long = schedule::write(&vec![Step::act(0, 0); 8_193]);
-    assert_eq!(brief(run(&table, &mut state, SCRATCH, &long, &mut [])), (19, 0));
+    assert_eq!(
+        brief(run(&table, &mut state, SCRATCH, &long, &mut [])),
+        (19, 0)
+    );
 }
 
 #[test]

@@ -194,13 +194,20 @@ fn r4_sorts_of_named_nodes() {
         for p in 0..8 {
             for q in 0..8 {
                 let fine = first.contains(&p) && second.contains(&q) && p != q;
-                assert_eq!(sixth(kind, p, q), if fine { FINE } else { BAD }, "{kind} {p} {q}");
+                assert_eq!(
+                    sixth(kind, p, q),
+                    if fine { FINE } else { BAD },
+                    "{kind} {p} {q}"
+                );
             }
         }
     }
     for kind in [2, 3, 4] {
         for q in 0..8 {
-            assert_eq!(sixth(kind, 1, q), if expr.contains(&q) { FINE } else { BAD });
+            assert_eq!(
+                sixth(kind, 1, q),
+                if expr.contains(&q) { FINE } else { BAD }
+            );
         }
     }
     for p in 0..8 {
@@ -489,10 +496,18 @@ fn r6_lowest_definition_and_agents_free() {
     }
     draft.agent(calls[1]);
     assert_eq!(draft_loads(&draft), (6, 0));
-    draft.nodes[0] = reference::draft::Raw { kind: 1, p: 0, q: 0 };
+    draft.nodes[0] = reference::draft::Raw {
+        kind: 1,
+        p: 0,
+        q: 0,
+    };
     assert_eq!(draft_loads(&draft), (6, 1));
     draft.nodes[1].p = 0;
-    assert_eq!(draft_loads(&draft), (0, 0), "an agent's process may call any");
+    assert_eq!(
+        draft_loads(&draft),
+        (0, 0),
+        "an agent's process may call any"
+    );
 }
 
 #[test]
@@ -591,14 +606,30 @@ fn r8_room() {
         assert!(fine || state.iter().all(|&word| word == 0));
         let before = state.clone();
         let mut answers = [9; 7];
-        assert_eq!(brief(step(&table, &mut state.clone(), scratch, kind, agent, number)), want);
-        assert_eq!(brief(run(&table, &mut state, scratch, &list, &mut answers)), want);
+        assert_eq!(
+            brief(step(
+                &table,
+                &mut state.clone(),
+                scratch,
+                kind,
+                agent,
+                number
+            )),
+            want
+        );
+        assert_eq!(
+            brief(run(&table, &mut state, scratch, &list, &mut answers)),
+            want
+        );
         assert_eq!(before == state, !fine);
         assert_eq!(answers == [9; 7], !fine);
     }
     let large = filled(4_096).bytes();
     for (scratch, want) in [(8_191, (8, 0)), (8_192, (0, 0))] {
-        assert_eq!(brief(load(&large, &mut vec![0; STATE_WORDS], scratch)), want);
+        assert_eq!(
+            brief(load(&large, &mut vec![0; STATE_WORDS], scratch)),
+            want
+        );
     }
 }
 
@@ -606,7 +637,17 @@ fn r8_room() {
 fn r10_ranges() {
     let table = edges::example().bytes();
     let mut state = start(&table);
-    let mut at = |kind, agent, number| steps(&table, &mut state, Step { kind, agent, number });
+    let mut at = |kind, agent, number| {
+        steps(
+            &table,
+            &mut state,
+            Step {
+                kind,
+                agent,
+                number,
+            },
+        )
+    };
     assert_eq!(at(3, 0, 0), 10);
     assert_eq!(at(255, 0, 0), 10);
     assert_eq!(at(0, 2, 0), 10);
@@ -712,7 +753,10 @@ fn r13_choices() {
     let table = draft.bytes();
     let state = start(&table);
     for (choice, want) in [(0, 0), (1, 0), (2, 13), (3, 13), (65_535, 13)] {
-        assert_eq!(steps(&table, &mut state.clone(), Step::act(0, choice)), want);
+        assert_eq!(
+            steps(&table, &mut state.clone(), Step::act(0, choice)),
+            want
+        );
     }
     assert_eq!(act_with(&draft, |_| Term::Idle, 0), 13);
     assert_eq!(act_with(&draft, |_| Term::Tick, 0), 0);
@@ -780,7 +824,9 @@ fn r15_absent_in_every_store() {
         world.clock = 1;
         assert_eq!(steps(&table, &mut world.words(), Step::act(0, 0)), 15);
         world.agents[0].attributes.insert(0, 3);
-        world.agents[0].entries.insert(0, Entry { value: 3, stamp: 1 });
+        world.agents[0]
+            .entries
+            .insert(0, Entry { value: 3, stamp: 1 });
         world.environment.insert(0, 3);
         assert_eq!(steps(&table, &mut world.words(), Step::act(0, 0)), 0);
     }
@@ -876,7 +922,10 @@ fn r20_answers() {
     }
     // No steps need no buffer.
     let mut after = state.clone();
-    assert_eq!(run(&table, &mut after, SCRATCH, &[0, 0], &mut []), Ok(Totals::default()));
+    assert_eq!(
+        run(&table, &mut after, SCRATCH, &[0, 0], &mut []),
+        Ok(Totals::default())
+    );
     assert_eq!(after, state);
 }
 
@@ -884,10 +933,17 @@ fn r20_answers() {
 fn answers_are_packed() {
     let refused = |reason, place| Err::<u32, _>(Refusal::at(reason, place));
     assert_eq!(pack(&refused(Reason::TableShort, 0)), (1 << 63) + 1);
-    assert_eq!(pack(&refused(Reason::BadNode, 4_095)), (1 << 63) + 65_536 * 4_095 + 4);
+    assert_eq!(
+        pack(&refused(Reason::BadNode, 4_095)),
+        (1 << 63) + 65_536 * 4_095 + 4
+    );
     assert_eq!(pack(&Ok(())), 0);
     assert_eq!(pack(&Ok(31u32)), 31);
-    let totals = Totals { done: 5, refused: 2, taken: 1 };
+    let totals = Totals {
+        done: 5,
+        refused: 2,
+        taken: 1,
+    };
     assert_eq!(pack(&Ok(totals)), 5 + 2 * 65_536 + (1 << 32));
 }
 

@@ -33,7 +33,13 @@ fn sound() -> World {
     world.clock = 10;
     world.environment.insert(1, -1);
     world.agents[1].attributes.insert(0, 5);
-    world.agents[1].entries.insert(1, Entry { value: 0, stamp: 10 });
+    world.agents[1].entries.insert(
+        1,
+        Entry {
+            value: 0,
+            stamp: 10,
+        },
+    );
     world.agents[1].to_confirm.insert(1);
     world.agents[1].to_propagate.insert(1);
     world.agents[1].residual = Term::sequence(Term::Tick, node(&fleet, 1));
@@ -149,7 +155,20 @@ fn residuals() {
     assert!(residual(1, &[1]));
     assert!(residual(1, &[TICK]));
     assert!(residual(1, &[IDLE]));
-    for word in [2, 3, 4, 5, 6, 7, 8, 4_095, 65_531, 65_536, 65_536 + 1, u32::MAX] {
+    for word in [
+        2,
+        3,
+        4,
+        5,
+        6,
+        7,
+        8,
+        4_095,
+        65_531,
+        65_536,
+        65_536 + 1,
+        u32::MAX,
+    ] {
         assert!(!residual(1, &[word]), "{word} is no process node");
     }
     assert!(!residual(0, &[0]), "an empty residual is no term");

@@ -26,7 +26,9 @@ fn alone(process: impl Fn(&mut Draft) -> u16) -> (Vec<u8>, Fleet, World) {
     world.clock = 20;
     for key in 1..4 {
         let stamp = 10 + u32::from(key);
-        world.agents[0].entries.insert(key, entry(i32::from(key), stamp));
+        world.agents[0]
+            .entries
+            .insert(key, entry(i32::from(key), stamp));
     }
     (table, fleet, world)
 }
@@ -197,7 +199,15 @@ fn links_have_a_direction() {
     before.agents[4].entries.insert(0, entry(1, 5));
     before.agents[4].to_confirm.insert(0);
     for kind in [1, 2] {
-        let (taken, after) = after(&table, &before, Step { kind, agent: 0, number: 0 });
+        let (taken, after) = after(
+            &table,
+            &before,
+            Step {
+                kind,
+                agent: 0,
+                number: 0,
+            },
+        );
         // Agents 2 and 4 are linked from 0; 1 and 3 are not.
         let mut same = before.clone();
         if kind == 1 {
@@ -218,7 +228,11 @@ fn links_have_a_direction() {
 #[test]
 fn a_link_may_read_what_is_sent() {
     let (table, mut before) = linked(&[1, 1, 1]);
-    for (agent, own) in before.agents.iter_mut().zip([entry(7, 8), entry(3, 2), entry(6, 2)]) {
+    for (agent, own) in before
+        .agents
+        .iter_mut()
+        .zip([entry(7, 8), entry(3, 2), entry(6, 2)])
+    {
         agent.entries.insert(1, own);
     }
     before.agents[0].to_propagate.insert(1);
@@ -239,7 +253,13 @@ fn a_link_may_read_what_is_sent() {
 #[test]
 fn a_confirm_asks_linked_agents_only() {
     let (table, mut before) = linked(&[3, 2, 4, 5, 6]);
-    let entries = [entry(0, 5), entry(1, 9), entry(2, 9), entry(3, 5), entry(4, 4)];
+    let entries = [
+        entry(0, 5),
+        entry(1, 9),
+        entry(2, 9),
+        entry(3, 5),
+        entry(4, 4),
+    ];
     for (agent, own) in before.agents.iter_mut().zip(entries) {
         agent.entries.insert(0, own);
         agent.to_confirm.insert(0);

@@ -47,7 +47,11 @@ const LARGE: [Make; 8] = [
 ];
 
 pub fn edge(rng: &mut Rng, small: bool) -> Case {
-    let which = rng.below(if small { SMALL.len() } else { SMALL.len() + LARGE.len() });
+    let which = rng.below(if small {
+        SMALL.len()
+    } else {
+        SMALL.len() + LARGE.len()
+    });
     match SMALL.get(which) {
         Some(make) => make(rng),
         None => LARGE[which - SMALL.len()](rng),
@@ -226,7 +230,8 @@ fn short_table(rng: &mut Rng) -> Case {
 
 /// N or A of 0; as many roots as nodes, or more.
 fn few_sizes(rng: &mut Rng) -> Case {
-    let (nodes, definitions, agents) = *rng.pick(&[(0, 0, 0), (1, 0, 0), (1, 0, 1), (1, 1, 1), (2, 2, 1)]);
+    let (nodes, definitions, agents) =
+        *rng.pick(&[(0, 0, 0), (1, 0, 0), (1, 0, 1), (1, 1, 1), (2, 2, 1)]);
     let mut table: Vec<u8> = vec![nodes, 0, definitions, 0, agents, 0, 0, 0, 0, 0, 0, 0];
     table.resize(12 + 5 * usize::from(nodes), 0);
     table[12..12 + usize::from(nodes)].fill(64);
@@ -237,7 +242,14 @@ fn few_sizes(rng: &mut Rng) -> Case {
 fn many_agents_in_header(rng: &mut Rng) -> Case {
     let mut table = example().bytes();
     let field = rng.below(6);
-    let limit = [MAX_NODES, MAX_DEFINITIONS, MAX_AGENTS, MAX_KEYS, MAX_KEYS, MAX_KEYS][field];
+    let limit = [
+        MAX_NODES,
+        MAX_DEFINITIONS,
+        MAX_AGENTS,
+        MAX_KEYS,
+        MAX_KEYS,
+        MAX_KEYS,
+    ][field];
     let value = *rng.pick(&[limit, limit + 1, 65_535]) as u16;
     table[2 * field..2 * field + 2].copy_from_slice(&value.to_le_bytes());
     any_call(rng, table)
@@ -246,7 +258,8 @@ fn many_agents_in_header(rng: &mut Rng) -> Case {
 fn table_length(rng: &mut Rng) -> Case {
     let mut case = load_case(example().bytes());
     let length = case.table.len();
-    case.table.resize(*rng.pick(&[length - 1, length, length + 1]), 0);
+    case.table
+        .resize(*rng.pick(&[length - 1, length, length + 1]), 0);
     case
 }
 
@@ -293,7 +306,11 @@ fn over_full_residual(rng: &mut Rng) -> Case {
     draft.agent(full);
     let (table, fleet) = accept(&draft);
     let node = |number| Term::Process(fleet.process(u32::from(number)).expect("a process"));
-    let other = if rng.chance(60) { node(full) } else { node(few) };
+    let other = if rng.chance(60) {
+        node(full)
+    } else {
+        node(few)
+    };
     let pair = Term::sequence(node(full), other);
     let residual = match rng.below(4) {
         0 => Term::sequence(Term::Idle, pair),
@@ -397,14 +414,22 @@ fn schedule_length(rng: &mut Rng) -> Case {
     }
     // A buffer that is too short as well, at times: 19 comes before 20.
     let answers = *rng.pick(&[0, 7]);
-    case_at(table, &World::start(&fleet), Call::Run { schedule, answers })
+    case_at(
+        table,
+        &World::start(&fleet),
+        Call::Run { schedule, answers },
+    )
 }
 
 fn answers_length(rng: &mut Rng) -> Case {
     let (table, fleet) = accept(&example());
     let schedule = schedule::write(&example_steps());
     let answers = *rng.pick(&[0, 6, 7, 8]);
-    case_at(table, &World::start(&fleet), Call::Run { schedule, answers })
+    case_at(
+        table,
+        &World::start(&fleet),
+        Call::Run { schedule, answers },
+    )
 }
 
 /// Definitions 0 and 1 where one exposes a call that is lower or not.
@@ -426,7 +451,11 @@ fn exposed_call(rng: &mut Rng) -> Case {
         1 => draft.parallel(left, call),
         _ => draft.sequence(left, call),
     };
-    let (first, second) = if rng.chance(70) { (tick, body) } else { (body, tick) };
+    let (first, second) = if rng.chance(70) {
+        (tick, body)
+    } else {
+        (body, tick)
+    };
     draft.define(first);
     draft.define(second);
     draft.define(tick);
@@ -447,7 +476,11 @@ fn wrong_party(rng: &mut Rng) -> Case {
     let tick = draft.tick();
     let other = draft.truth();
     let from_process = rng.chance(40);
-    let start = if from_process { draft.guarded(guard, tick) } else { tick };
+    let start = if from_process {
+        draft.guarded(guard, tick)
+    } else {
+        tick
+    };
     draft.link(if rng.chance(50) { guard } else { other });
     draft.agent(start);
     any_call(rng, draft.bytes())

@@ -43,7 +43,10 @@ fn likely(rng: &mut Rng, fleet: &Fleet, world: &World) -> Step {
     let agent = &world.agents[who];
     let who = who as u16;
     let confirm = agent.to_confirm.iter().map(|&key| Step::confirm(who, key));
-    let propagate = agent.to_propagate.iter().map(|&key| Step::propagate(who, key));
+    let propagate = agent
+        .to_propagate
+        .iter()
+        .map(|&key| Step::propagate(who, key));
     let pending: Vec<Step> = confirm.chain(propagate).collect();
     if !pending.is_empty() {
         return *rng.pick(&pending);

@@ -67,7 +67,11 @@ pub fn do_step(table: &[u8], state: &mut [u32], s: Step) -> Answer<u32> {
 }
 
 /// Runs a schedule given as steps, with a buffer that is just long enough.
-pub fn runs(table: &[u8], state: &mut [u32], steps: &[Step]) -> (Answer<reference::Totals>, Vec<u8>) {
+pub fn runs(
+    table: &[u8],
+    state: &mut [u32],
+    steps: &[Step],
+) -> (Answer<reference::Totals>, Vec<u8>) {
     let mut answers = vec![99; steps.len()];
     let schedule = reference::schedule::write(steps);
     let totals = run(table, state, SCRATCH, &schedule, &mut answers);
