@@ -13,11 +13,11 @@ impl Rng {
     /// A generator of its own for each index under a seed.
     pub fn for_index(seed: u64, index: u64) -> Rng {
         let mut rng = Rng::new(seed);
-        let mixed = rng.next() ^ index.wrapping_mul(0xd134_2543_de82_ef95);
+        let mixed = rng.word() ^ index.wrapping_mul(0xd134_2543_de82_ef95);
         Rng::new(mixed)
     }
 
-    pub fn next(&mut self) -> u64 {
+    pub fn word(&mut self) -> u64 {
         self.state = self.state.wrapping_add(0x9e37_79b9_7f4a_7c15);
         let mut z = self.state;
         z = (z ^ (z >> 30)).wrapping_mul(0xbf58_476d_1ce4_e5b9);
@@ -27,7 +27,7 @@ impl Rng {
 
     /// A number below `bound`, which is above 0.
     pub fn below(&mut self, bound: usize) -> usize {
-        (self.next() % bound as u64) as usize
+        (self.word() % bound as u64) as usize
     }
 
     /// A number from `low` to `high`, both included.

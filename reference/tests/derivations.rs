@@ -20,8 +20,11 @@ use reference::step::Step;
 use reference::table::Fleet;
 use reference::term::Term;
 
+/// Store, key and expression of an action; guards; words of the residual.
+type Told = (Option<(u8, u16, u16)>, Vec<u16>, Vec<u32>);
+
 /// What tells two derivations apart.
-fn key(d: &Derivation) -> (Option<(u8, u16, u16)>, Vec<u16>, Vec<u32>) {
+fn key(d: &Derivation) -> Told {
     let action = d
         .action
         .as_ref()

@@ -42,7 +42,7 @@ fn damage_table(rng: &mut Rng, table: &mut Vec<u8>, sizes: Sizes) {
         0 => {
             let at = rng.below(table.len());
             table[at] = if rng.chance(50) {
-                rng.next() as u8
+                rng.word() as u8
             } else {
                 table[at].wrapping_add(1)
             };
@@ -114,7 +114,7 @@ fn damage_state(rng: &mut Rng, state: &mut [u32], sizes: Sizes) {
         IDLE,
         IDLE - 1,
         65_536,
-        rng.next() as u32,
+        rng.word() as u32,
     ];
     state[at] = *rng.pick(&values);
 }
@@ -135,7 +135,7 @@ fn damage_schedule(rng: &mut Rng, case: &mut Case) {
         }
         _ => {
             let at = rng.below(schedule.len());
-            schedule[at] = rng.next() as u8;
+            schedule[at] = rng.word() as u8;
         }
     }
 }

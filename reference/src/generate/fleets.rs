@@ -334,7 +334,7 @@ pub fn value(rng: &mut Rng) -> i32 {
         0 => i32::MAX,
         1 => i32::MIN,
         2 => i32::MAX - rng.below(3) as i32,
-        3 => rng.next() as i32,
+        3 => rng.word() as i32,
         _ => rng.below(6) as i32 - 1,
     }
 }

@@ -102,7 +102,7 @@ fn noise(rng: &mut Rng) -> Case {
     let mut table = bytes(rng, 120);
     if rng.chance(60) {
         let nodes = rng.between(1, 20);
-        table = (0..12 + 5 * nodes).map(|_| rng.next() as u8).collect();
+        table = (0..12 + 5 * nodes).map(|_| rng.word() as u8).collect();
         let header = [nodes, rng.below(3), rng.between(1, 3), 4, rng.below(3), 4];
         for (i, field) in header.into_iter().enumerate() {
             table[2 * i] = field as u8;
@@ -111,14 +111,14 @@ fn noise(rng: &mut Rng) -> Case {
     }
     let mut state = vec![0; STATE_WORDS];
     for _ in 0..rng.below(20) {
-        state[rng.below(STATE_WORDS)] = rng.next() as u32;
+        state[rng.below(STATE_WORDS)] = rng.word() as u32;
     }
     let call = match rng.below(3) {
         0 => Call::Load,
         1 => Call::Step(Step {
-            kind: rng.next() as u8,
-            agent: rng.next() as u16,
-            number: rng.next() as u16,
+            kind: rng.word() as u8,
+            agent: rng.word() as u16,
+            number: rng.word() as u16,
         }),
         _ => Call::Run {
             schedule: bytes(rng, 60),
@@ -136,5 +136,5 @@ fn noise(rng: &mut Rng) -> Case {
 
 fn bytes(rng: &mut Rng, most: usize) -> Vec<u8> {
     let length = rng.below(most + 1);
-    (0..length).map(|_| rng.next() as u8).collect()
+    (0..length).map(|_| rng.word() as u8).collect()
 }

@@ -62,9 +62,9 @@ fn likely(rng: &mut Rng, fleet: &Fleet, world: &World) -> Step {
 pub fn any(rng: &mut Rng, fleet: &Fleet) -> Step {
     if rng.chance(5) {
         return Step {
-            kind: rng.next() as u8,
-            agent: rng.next() as u16,
-            number: rng.next() as u16,
+            kind: rng.word() as u8,
+            agent: rng.word() as u16,
+            number: rng.word() as u16,
         };
     }
     // One past the range, at times.
