@@ -4,6 +4,7 @@
 pub mod cases;
 pub mod count;
 pub mod derive;
+pub mod describe;
 pub mod draft;
 pub mod expose;
 pub mod generate;

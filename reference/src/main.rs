@@ -1,10 +1,11 @@
-//! The programs `show`, `example`, `cases`, `answer` and `stats`.
+//! The programs `show`, `example`, `cases`, `answer`, `describe` and `stats`.
 
 use std::fs;
 use std::io::{self, BufWriter, Read, Write};
 use std::process::ExitCode;
 
 use reference::cases::read_all;
+use reference::describe::describe;
 use reference::generate::{case, edges};
 use reference::show::show;
 use reference::stats::Stats;
@@ -16,8 +17,9 @@ usage: reference show                      table and schedule on standard input
        reference cases SEED COUNT [FILE]   writes inputs; expected lines to FILE
        reference cases --expected SEED COUNT   writes the expected lines
        reference answer                    cases on standard input, lines out
+       reference describe SEED INDEX       one case in words
        reference stats SEED COUNT          how often each answer occurs
---small, with cases and stats: at most 24 nodes";
+--small, with cases, describe and stats: at most 24 nodes";
 
 fn main() -> ExitCode {
     let arguments: Vec<String> = std::env::args().skip(1).collect();
@@ -58,6 +60,10 @@ fn command(mut arguments: Vec<String>) -> io::Result<()> {
                 out.write_all(case.outcome().line().as_bytes())?;
             }
             out.flush()
+        }
+        ["describe", seed, index] => {
+            let case = case(number(seed)?, number(index)?, small);
+            print(describe(&case).as_bytes())
         }
         ["stats", seed, count] => {
             let (seed, count) = (number(seed)?, number(count)?);

@@ -17,7 +17,7 @@ type Make = fn(&mut Rng) -> Case;
 const SMALL: [Make; 17] = [
     short_table,
     few_sizes,
-    many_agents_in_header,
+    sizes_in_header,
     table_length,
     room,
     shallow_doubling,
@@ -239,7 +239,7 @@ fn few_sizes(rng: &mut Rng) -> Case {
 }
 
 /// A header that says too much, whatever follows.
-fn many_agents_in_header(rng: &mut Rng) -> Case {
+fn sizes_in_header(rng: &mut Rng) -> Case {
     let mut table = example().bytes();
     let field = rng.below(6);
     let limit = [

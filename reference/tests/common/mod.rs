@@ -1,4 +1,4 @@
-//! Helpers of the tests.
+//! What the tests share.
 #![allow(dead_code)]
 
 use reference::draft::Draft;
