@@ -32,12 +32,11 @@ fn watch(rng: &mut Rng, table: &[u8], length: usize, seen: &mut Seen) {
     watch.after(&World::decode(&lent, &fleet).unwrap()).unwrap();
     for _ in 0..length {
         let before = World::decode(&lent, &fleet).expect("the state is well formed");
-        let chosen = if rng.chance(80) {
-            enabled(rng, &fleet, &before)
-        } else {
-            None
+        let next = match enabled(rng, &fleet, &before) {
+            Some(step) if rng.chance(85) => step,
+            None if rng.chance(30) => break,
+            _ => any(rng, &fleet),
         };
-        let next = chosen.unwrap_or_else(|| any(rng, &fleet));
         let scratch = if rng.chance(5) {
             rng.below(2 * fleet.sizes.nodes)
         } else {
@@ -76,7 +75,7 @@ fn watch(rng: &mut Rng, table: &[u8], length: usize, seen: &mut Seen) {
 fn holds_along_random_lists() {
     let rng = &mut Rng::new(11);
     let mut seen = Seen::default();
-    for round in 0..260 {
+    for round in 0..400 {
         let scale = match round % 13 {
             0 => Scale::Large,
             1..=4 => Scale::Small,

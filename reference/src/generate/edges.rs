@@ -86,7 +86,7 @@ fn case_at(table: Vec<u8>, world: &World, call: Call) -> Case {
 fn any_call(rng: &mut Rng, table: Vec<u8>) -> Case {
     let Ok(fleet) = open(&table, STATE_WORDS, usize::MAX) else {
         let mut case = load_case(table);
-        case.call = match rng.below(4) {
+        case.call = match rng.below(3) {
             0 => Call::Step(Step::act(0, 0)),
             1 => run_of(&[Step::act(0, 0)]),
             _ => Call::Load,

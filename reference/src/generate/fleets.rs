@@ -46,7 +46,9 @@ pub fn random(rng: &mut Rng, scale: Scale) -> Draft {
         links,
         can_tick: Vec::new(),
         budget,
-        ticks: if rng.chance(30) { 20 } else { 4 },
+        idles: rng.below(3),
+        ticks: if rng.chance(30) { 40 } else { 8 },
+        constants: if rng.chance(50) { 20 } else { 5 },
         rng,
     };
     grower.grow(agents);
@@ -77,8 +79,12 @@ struct Grower<'r> {
     can_tick: Vec<bool>,
     /// About how many nodes may still be made.
     budget: usize,
-    /// The weight of ticks among the leaves; actions have 16.
+    /// The weights of idle and tick among the leaves; actions have 32.
+    idles: usize,
     ticks: usize,
+    /// The weight of constants among the expressions of processes; keys of a
+    /// store have up to 2. What is read is often absent, and ends a process.
+    constants: usize,
     rng: &'r mut Rng,
 }
 
@@ -160,7 +166,7 @@ impl Grower<'_> {
         if depth == 0 || self.budget < 6 {
             return self.leaf(calls);
         }
-        match self.rng.weighted(&[4, 5, 3, 4, 2, 4]) {
+        match self.rng.weighted(&[4, 5, 4, 3, 2, 4]) {
             0 => self.leaf(calls),
             1 => {
                 let (p, left) = self.process(depth - 1, calls);
@@ -207,7 +213,7 @@ impl Grower<'_> {
             Calls::Any => self.definitions,
         };
         self.spend();
-        match self.rng.weighted(&[1, self.ticks, 16, 8]) {
+        match self.rng.weighted(&[self.idles, self.ticks, 32, 16]) {
             0 => (self.draft.idle(), false),
             3 if callable > 0 => {
                 let d = self.rng.below(callable);
@@ -285,7 +291,11 @@ impl Grower<'_> {
             usize::from(self.draft.environment)
         };
         let deeper = if depth > 0 && self.budget >= 6 { 3 } else { 0 };
-        let constant = if place == Place::Process { 6 } else { 3 };
+        let constant = if place == Place::Process {
+            self.constants
+        } else {
+            3
+        };
         let weights = [
             constant,
             attributes.min(2),

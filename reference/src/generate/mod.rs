@@ -44,7 +44,14 @@ fn sound(rng: &mut Rng, small: bool) -> Case {
     let (state, fill, call) = match rng.weighted(&[2, 4, 4]) {
         0 => (vec![FILL; STATE_WORDS], FILL, Call::Load),
         kind => {
-            let world = world(rng, &fleet, small);
+            // Runs start early, while there is much to do.
+            let most_steps = match (small, kind) {
+                (true, 1) => 12,
+                (true, _) => 3,
+                (false, 1) => 60,
+                (false, _) => 12,
+            };
+            let world = world(rng, &fleet, most_steps);
             let call = if kind == 1 {
                 step(rng, &fleet, &world)
             } else {
@@ -62,9 +69,9 @@ fn sound(rng: &mut Rng, small: bool) -> Case {
     }
 }
 
-fn world(rng: &mut Rng, fleet: &Fleet, small: bool) -> World {
+fn world(rng: &mut Rng, fleet: &Fleet, most_steps: usize) -> World {
     if rng.chance(60) {
-        worlds::reached(rng, fleet, if small { 12 } else { 60 })
+        worlds::reached(rng, fleet, most_steps)
     } else {
         worlds::invented(rng, fleet)
     }
