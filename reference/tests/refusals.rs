@@ -810,6 +810,39 @@ fn r14_guards_count_wherever_they_stand() {
 }
 
 #[test]
+fn r14_every_guard_must_hold() {
+    // (g0 -> tick | g1 -> tick) ; g2 -> g3 -> act, with one guard false.
+    for wrong in 0..5 {
+        let mut draft = Draft::new(1, 0);
+        let guards = [0, 1, 2, 3].map(|i| {
+            let truth = draft.truth();
+            if i == wrong {
+                draft.not(truth)
+            } else {
+                truth
+            }
+        });
+        let (t0, t1) = (draft.tick(), draft.tick());
+        let p = draft.guarded(guards[0], t0);
+        let q = draft.guarded(guards[1], t1);
+        let both = draft.parallel(p, q);
+        let last = act(&mut draft);
+        let inner = draft.guarded(guards[3], last);
+        let outer = draft.guarded(guards[2], inner);
+        let start_at = draft.sequence(both, outer);
+        draft.agent(start_at);
+        let table = draft.bytes();
+        let state = start(&table);
+        // Both ways to join the ticks collect all four.
+        for choice in 0..2 {
+            let want = if wrong < 4 { 14 } else { 0 };
+            let step = Step::act(0, choice);
+            assert_eq!(steps(&table, &mut state.clone(), step), want);
+        }
+    }
+}
+
+#[test]
 fn r15_absent_in_every_store() {
     for kind in [33, 34, 35] {
         let mut draft = Draft::new(1, 1);
