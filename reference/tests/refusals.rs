@@ -270,6 +270,13 @@ fn r4_roots() {
     assert_eq!(with(7, 64, 7, 0), (4, 7));
     assert_eq!(with(7, 64, 8, 0), (4, 7));
     assert_eq!(with(7, 64, 65_535, 0), (4, 7));
+    // A sound root, but among the first.
+    assert_eq!(sixth(64, 2, 0), BAD);
+    let mut draft = Draft::new(0, 0);
+    let tick = draft.tick();
+    draft.node(64, tick, 0);
+    draft.agent(tick);
+    assert_eq!(draft_loads(&draft), (4, 1));
     // Order of the roots: definitions, links, agents.
     let mut draft = sorts();
     draft.definitions[0] = 1;
