@@ -6,6 +6,7 @@ pub mod count;
 pub mod derive;
 pub mod describe;
 pub mod draft;
+pub mod equations;
 pub mod expose;
 pub mod generate;
 pub mod history;

@@ -1,4 +1,4 @@
-//! The programs `show`, `example`, `cases`, `answer`, `describe` and `stats`.
+//! The programs `show`, `example`, `cases`, `answer`, `describe`, `stats` and `equations`.
 
 use std::fs;
 use std::io::{self, BufWriter, Read, Write};
@@ -6,6 +6,7 @@ use std::process::ExitCode;
 
 use reference::cases::read_all;
 use reference::describe::describe;
+use reference::equations::equations;
 use reference::generate::{case, edges};
 use reference::show::show;
 use reference::stats::Stats;
@@ -19,6 +20,7 @@ usage: reference show                      table and schedule on standard input
        reference answer                    cases on standard input, lines out
        reference describe SEED INDEX       one case in words
        reference stats SEED COUNT          how often each answer occurs
+       reference equations SEED            small rehearsals, as definitions to compute
 --small, with cases, describe and stats: at most 24 nodes";
 
 fn main() -> ExitCode {
@@ -73,6 +75,7 @@ fn command(mut arguments: Vec<String>) -> io::Result<()> {
             }
             print(stats.to_string().as_bytes())
         }
+        ["equations", seed] => print(equations(number(seed)?).as_bytes()),
         _ => Err(fault(USAGE)),
     }
 }
