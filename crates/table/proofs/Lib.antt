@@ -1,0 +1,4 @@
+pub mod Checks
+pub mod Limits
+pub mod Operands
+pub mod Reaches
