@@ -1,3 +1,4 @@
 pub mod Places
 pub mod Frames
 pub mod Residuals
+pub mod Formed
