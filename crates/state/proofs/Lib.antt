@@ -2,3 +2,4 @@ pub mod Places
 pub mod Frames
 pub mod Residuals
 pub mod Formed
+pub mod Exact
