@@ -3,19 +3,20 @@
 use Prim.Native.Nat.{ℕ, zero, suc, _+_, _*_, _<_, _≤_, zero-le}
 use mathlib.Core.Bool.{Bool, true, false, not, _&&_, _||_}
 use mathlib.Core.Logic.{_↔_}
-use mathlib.Core.Option.{Option, none, some}
+use mathlib.Core.Option.{none, some}
 use mathlib.Core.Path.{_≡_, refl, sym, ap, ap₂, _∙_, fun-ext}
 use mathlib.Core.List.{List, [], _∷_, _++_, map}
 use native.Mathlib.Nat.{zero-add, zero-mul, mul-zero}
 use native.Mathlib.Omega.{arith}
-use lib.Dec.{ltb}
-use lib.ListN.{length, getElem?, length-append, length-map}
+use lib.Dec.{ltb, leb}
+use lib.ListN.{length, getD, getElem?, length-append, length-map}
 use borrow.Author.Tests.{lt-ltb, ltb-true, ltb-false}
+use Rattle.basis.proofs.Lists.{nth-in, nth-past}
 use Rattle.term.specs.declared.Mode.{Mode}
 use Rattle.term.specs.declared.Mode.the-variants.{Any, Actions, Ticks}
-use Rattle.term.specs.Terms.{Term}
+use Rattle.term.specs.Terms.{Term, Idle}
 use Rattle.term.specs.Processes.{Process, idle, tick, act, choice, guarded, call, seq, par}
-use Rattle.term.specs.Processes.{Label, Derivation, derivations, keep, isTick, isAction, labelTicks}
+use Rattle.term.specs.Processes.{Label, ticks, Derivation, derivation, derivations, few, keep, isTick, isAction, labelTicks}
 use Rattle.term.specs.Processes.{under, before, besideRight, besideLeft, join, joins}
 use Rattle.term.specs.Choices.{tickCount, actionCount, wanted, choices, count, actionsOf, mapped, split, pairs, select}
 use Rattle.term.specs.Exposure.{canTick}
@@ -192,6 +193,9 @@ choices-any P = keep-all (derivations P)
 pub length-derivations : (P : Process) → length (derivations P) ≡ actionCount P + tickCount P
 length-derivations P = ap length (sym (choices-any P)) ∙ length-choices P Any
 
+pub few-count : (P : Process) → few P ≡ leb (actionCount P + tickCount P) 65535
+few-count P = rw (length-derivations P)
+
 -- What stands at a place of the list.
 
 places-append : (xs ys : List Derivation) → getElem? (xs ++ ys) ≡ split (length xs) (getElem? xs) (getElem? ys)
@@ -255,6 +259,15 @@ select-choices (par P p Q q) m =
 -- choice c is derivation c
 pub select-any : (P : Process) (c : ℕ) → select Any P c ≡ getElem? (derivations P) c
 select-any P c = rw (select-choices P Any, choices-any)
+
+-- there is a choice for each number below the count, and no other
+pub select-some : (P : Process) (m : Mode) (c : ℕ) → c < count m P → (d : Derivation) × (select m P c ≡ some d)
+select-some P m c h =
+    let x : Derivation = derivation ticks [] Idle in
+    (getD (choices m P) c x, rw (select-choices P m) (nth-in (choices m P) c x (rw (length-choices P m) h)))
+
+pub select-none : (P : Process) (m : Mode) (c : ℕ) → count m P ≤ c → select m P c ≡ none
+select-none P m c h = rw (select-choices P m) (nth-past (choices m P) c (rw (length-choices P m) h))
 
 -- A process can tick if it has a tick.
 
