@@ -1,20 +1,22 @@
 -- What stands where after an offer: each agent is as its own offer leaves it, and nothing else changes.
 -- Assumes nothing.
 use Prim.Native.Nat.{ℕ, _<_, _≤_}
-use mathlib.Core.Bool.{Bool, true, false, cond, _&&_}
+use mathlib.Core.Bool.{Bool, true, false, cond, not, _&&_, _||_}
 use mathlib.Core.Path.{_≡_, refl, sym, ap, ap₂, _∙_}
 use mathlib.Core.List.{List}
 use native.Mathlib.Omega.{arith}
 use lib.Dec.{eqb}
 use lib.ListN.{length}
+use borrow.Author.Tests.{eq-eqb}
 use Rattle.basis.specs.Numbers.{forEach}
-use Rattle.basis.specs.KeySets.{plus, minus}
+use Rattle.basis.specs.KeySets.{has, plus, minus}
+use Rattle.basis.proofs.KeySets.{has-plus, has-minus}
 use Rattle.basis.proofs.Numbers.{forEach-same, forEach-at}
-use Rattle.basis.proofs.Tests.{is-false, cond-cases, cond-into}
+use Rattle.basis.proofs.Tests.{is-false, cond-cases}
 use Rattle.table.specs.Tables.{Table}
 use Rattle.term.specs.Acceptance.{stateWords}
 use Rattle.state.specs.declared.Store.the-variants.{Entries}
-use Rattle.state.specs.Layout.{keyLimit, zcAt, zpAt, wordOf, stampOf, put, addKey, dropKey}
+use Rattle.state.specs.Layout.{keyLimit, zcAt, zpAt, wordOf, stampOf, zcOf, zpOf, put, addKey, dropKey}
 use Rattle.state.proofs.Places.{Place, mark, value, waiting, confirms, propagates, Inside, kindOf, agentOf, same, same-one}
 use Rattle.state.proofs.Frames.{wordAt, SameAt, put-length, put-other, put-word, add-length, add-other, add-word, drop-length, drop-other, drop-word}
 use Rattle.machine.specs.Offers.{takeEntry, takes, answers, offer, offered}
@@ -119,3 +121,50 @@ module _ (t : Table) (was : List ℕ) (x k : ℕ) (asks : Bool) where
           forEach-at (offer t was x k asks) (λ (u : List ℕ). wordAt u q) y agents l (λ z j d s. offer-other z s q h (λ c. absurd (d (sym c ∙ e)))) was
           ∙ offer-word y (offered t was x k asks y) (offered-length y ∙ whole) (omega arith) q h
           ∙ rw (untouched y (waiting propagates y) tt refl, untouched y (waiting confirms y) tt refl, untouched y q h e)
+
+      -- its entries and sets after all offers
+      module _ (y : ℕ) (there : y < agents) where
+        abbrev T : Bool
+        T = takes t was x k y
+
+        abbrev N : Bool
+        N = asks && answers t was x k y
+
+        abbrev Y : Bool
+        Y = eqb y y
+
+        picked : (a b c d : Bool) → d ≡ true → (m w : ℕ) → cond a (cond (c && d) m w) (cond b w w) ≡ cond (a && c) m w
+        picked true b true d e m w = rw e
+        picked true b false d e m w = refl
+        picked false true c d e m w = refl
+        picked false false c d e m w = refl
+
+        pub offered-stamp : (j : ℕ) → j < keyLimit → stampOf (offered t was x k asks agents) y j ≡ cond (takes t was x k y && eqb j k) (stampOf was x k) (stampOf was y j)
+        offered-stamp j l = offered-word y there (mark (Entries y) j) l refl ∙ picked T N (eqb j k) Y (eq-eqb y y refl) (stampOf was x k) (stampOf was y j)
+
+        pub offered-value : (j : ℕ) → j < keyLimit
+            → wordOf (offered t was x k asks agents) (Entries y) j ≡ cond (takes t was x k y && eqb j k) (wordOf was (Entries x) k) (wordOf was (Entries y) j)
+        offered-value j l = offered-word y there (value (Entries y) j) l refl ∙ picked T N (eqb j k) Y (eq-eqb y y refl) (wordOf was (Entries x) k) (wordOf was (Entries y) j)
+
+        pub offered-zp : (j : ℕ)
+            → has (zpOf (offered t was x k asks agents) y) j ≡ (((takes t was x k y || (asks && answers t was x k y)) && eqb k j) || has (zpOf was y) j)
+        offered-zp j = ap (λ (w : ℕ). has w j) (offered-word y there (waiting propagates y) tt refl) ∙ by T N Y (eq-eqb y y refl) _
+          where
+            z : ℕ
+            z = zpOf was y
+
+            by : (a b d : Bool) → d ≡ true → (u : ℕ) → has (cond a (cond d (plus z k) u) (cond b (cond d (plus z k) z) z)) j ≡ (((a || b) && eqb k j) || has z j)
+            by true b d e u = rw e (has-plus z k j)
+            by false true d e u = rw e (has-plus z k j)
+            by false false d e u = refl
+
+        pub offered-zc : (j : ℕ) → has (zcOf (offered t was x k asks agents) y) j ≡ (not (takes t was x k y && eqb k j) && has (zcOf was y) j)
+        offered-zc j = ap (λ (w : ℕ). has w j) (offered-word y there (waiting confirms y) tt refl) ∙ by T N Y (eq-eqb y y refl) _
+          where
+            z : ℕ
+            z = zcOf was y
+
+            by : (a b d : Bool) → d ≡ true → (u : ℕ) → has (cond a (cond d (minus z k) u) (cond b z z)) j ≡ (not (a && eqb k j) && has z j)
+            by true b d e u = rw e (has-minus z k j)
+            by false true d e u = refl
+            by false false d e u = refl
