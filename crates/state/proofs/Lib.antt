@@ -3,3 +3,4 @@ pub mod Frames
 pub mod Residuals
 pub mod Formed
 pub mod Exact
+pub mod Evaluation
