@@ -18,15 +18,15 @@ use Rattle.basis.proofs.Tests.{and-left, and-right, and-both, or-left, or-right
 use Rattle.table.specs.Tables.{Table, firstRoot}
 use Rattle.table.specs.Sound.{Limits}
 use Rattle.term.specs.Acceptance.{stateWords}
-use Rattle.term.specs.Terms.{words, areTerms}
-use Rattle.term.proofs.Words.{Over, over-whole, whole-read}
+use Rattle.term.specs.Terms.{Term, words, areTerms}
+use Rattle.term.proofs.Words.{Over, over-low, over-whole, whole-read}
 use Rattle.state.specs.declared.Store.{Store}
 use Rattle.state.specs.declared.Store.the-variants.{Environment, Attributes, Entries}
 use Rattle.state.specs.Layout.{agentsAt, blockAt, keyLimit, residualWords, clockOf, markOf, wordOf, stampOf, zcOf, zpOf, lengthOf, residualOf, termIn}
 use Rattle.state.specs.WellFormed.{allZero, pairFormed, pendingFormed, residualFormed, agentFormed, wellFormed}
 use Rattle.state.proofs.Places.{KeySet, Zc, Zp, Waits, Residual}
 use Rattle.state.proofs.Frames.{wordAt}
-use Rattle.state.proofs.Residuals.{zero-at, at-zero, residual-length, residual-front, residual-rest, residual-reads}
+use Rattle.state.proofs.Residuals.{zero-at, at-zero, residual-length, residual-front, residual-rest, residual-reads, term-read}
 
 -- pair k of a store of so many keys: no mark is over the highest, absent has value 0, a key that there is not is absent
 pub record PairFormed (s : List ℕ) (store : Store) (highest keys k : ℕ) : Type 0 where
@@ -145,6 +145,13 @@ module _ (t : Table) (few : firstRoot t ≤ 65532) (s : List ℕ) (whole : lengt
         reads = residual-reads s a (words (termIn s a)) (ap (λ (m : ℕ). take m (residualOf s a)) (sym long) ∙ sym (r .1))
             (ap (λ (m : ℕ). allZero (drop m (residualOf s a))) (sym long) ∙ and-right (areTerms t 1 ws) _ f);
       }
+
+  -- the words of a term, and 0 after them
+  pub residual-formed : (T : Term) → Over t T → lengthOf s a ≡ length (words T) → length (words T) ≤ residualWords
+      → ((i : ℕ) → i < residualWords → wordAt s (Residual a i) ≡ getD (words T) i 0) → ResidualFormed t s a
+  residual-formed T o l m r =
+      let e = term-read s a whole there T (over-low t few T o) m l r in
+      record { over = rw e o; long = rw e l; short = omega arith; reads = rw e r }
 
   residual-test : ResidualFormed t s a → residualFormed t s a ≡ true
   unfolding residualFormed

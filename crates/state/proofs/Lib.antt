@@ -4,3 +4,4 @@ pub mod Residuals
 pub mod Formed
 pub mod Exact
 pub mod Evaluation
+pub mod Load

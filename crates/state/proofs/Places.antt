@@ -10,7 +10,7 @@ use native.Mathlib.Omega.{arith}
 use lib.Dec.{eqb, ltb}
 use lib.ListN.{getD}
 use borrow.Author.Tests.{eqb-true, eq-eqb, lt-ltb, le-ltb, ne-eqb}
-use Rattle.basis.proofs.Tests.{and-left, and-right, lt-or-le, same-test}
+use Rattle.basis.proofs.Tests.{is-false, and-left, and-right, lt-or-le, same-test}
 use Rattle.term.specs.Acceptance.{stateWords}
 use Rattle.state.specs.declared.Store.{Store}
 use Rattle.state.specs.declared.Store.the-variants.{Environment, Attributes, Entries}
@@ -140,6 +140,13 @@ same-one p q e =
 
 pub same-self : (p : Place) → same p p ≡ true
 same-self p = rw (eq-eqb (placeSort p) (placeSort p) refl, eq-eqb (placeIndex p) (placeIndex p) refl, eq-eqb (placeKind p) (placeKind p) refl, eq-eqb (placeAgent p) (placeAgent p) refl)
+
+pub same-not : (p q : Place) → (p ≡ q → ⊥) → same p q ≡ false
+same-not p q d = is-false (same p q) (λ e. d (same-one p q e))
+
+-- places of different agents
+pub other-agent : (p q : Place) → (placeAgent p ≡ placeAgent q → ⊥) → same p q ≡ false
+other-agent p q d = same-not p q (λ e. d (ap placeAgent e))
 
 -- THE PLACE OF A NUMBER. Pair k of a store stands at two places in a row; `late` is the second of them
 abbrev inPair : Store → ℕ → Bool → Place
