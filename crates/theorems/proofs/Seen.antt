@@ -11,7 +11,7 @@ use lib.ListN.{length}
 use borrow.Author.Tests.{eqb-true, eq-eqb, ne-eqb, lt-ltb, le-ltb}
 use Rattle.basis.specs.KeySets.{has, plus, minus}
 use Rattle.basis.proofs.KeySets.{has-plus, has-minus}
-use Rattle.basis.proofs.Tests.{is-false, same-test, same-or-other, lt-or-le}
+use Rattle.basis.proofs.Tests.{same-test, same-or-other, lt-or-le}
 use Rattle.agreement.specs.View.{View}
 use Rattle.agreement.specs.Stamps.{byStamp}
 use Rattle.agreement.specs.Moves.{Move, quiet, write, propagate, confirm, takes, answers, moved}
@@ -23,7 +23,7 @@ use Rattle.state.specs.declared.Store.{Store}
 use Rattle.state.specs.declared.Store.the-variants.{Entries}
 use Rattle.state.specs.Layout.{keyLimit, wordOf, stampOf, zpOf, zcAt, zpAt, dropKey}
 use Rattle.state.specs.Evaluation.{linkHolds}
-use Rattle.state.proofs.Places.{Place, mark, value, waiting, confirms, propagates, Inside, kindOf, agentOf, same, same-one}
+use Rattle.state.proofs.Places.{Place, Zp, Zc, Mark, Word, Waits, Inside, placeKind, placeAgent, same, same-not}
 use Rattle.state.proofs.Frames.{wordAt, SameAt, put-other, drop-other, drop-word}
 use Rattle.machine.specs.Acts.{nextStamp, wordIn, valueFor, storeOf, setKey, acted}
 use Rattle.machine.specs.Offers.{takes as takesEntry, answers as answersEntry, hears, offered, propagated, confirmed}
@@ -63,7 +63,7 @@ pub record Shows (s : List ℕ) (k : ℕ) (v : View Pair) (a : ℕ) : Type 0 whe
   pub waits : seen s k .waits a ≡ v .waits a
 
 -- words that are the same show the same
-pub shows-same : (s u : List ℕ) (k : ℕ) (v : View Pair) (a : ℕ) → SameAt s u (value (Entries a) k) → SameAt s u (mark (Entries a) k) → SameAt s u (waiting propagates a)
+pub shows-same : (s u : List ℕ) (k : ℕ) (v : View Pair) (a : ℕ) → SameAt s u (Word (Entries a) k) → SameAt s u (Mark (Entries a) k) → SameAt s u (Waits Zp a)
     → Shows u k v a → Shows s k v a
 shows-same s u k v a p q r w = record { entry = pair-same p q ∙ w .entry; waits = ap (λ (z : ℕ). has z k) r ∙ w .waits }
 
@@ -105,8 +105,8 @@ module _ (t : Table) (s : List ℕ) (x j : ℕ) where
     write-shows n e key a =
         let after = entry-word t s x n whole there e key in
         record {
-          entry = pair-same (after (value (Entries a) j) low) (after (mark (Entries a) j) low) ∙ rw (eqb-swap j k, eqb-swap a x) (entry (eqb k j));
-          waits = ap (λ (w : ℕ). has w j) (after (waiting propagates a) tt) ∙ rw (eqb-swap a x) (gained (eqb x a) refl) ∙ waits (eqb k j);
+          entry = pair-same (after (Word (Entries a) j) low) (after (Mark (Entries a) j) low) ∙ rw (eqb-swap j k, eqb-swap a x) (entry (eqb k j));
+          waits = ap (λ (w : ℕ). has w j) (after (Waits Zp a) tt) ∙ rw (eqb-swap a x) (gained (eqb x a) refl) ∙ waits (eqb k j);
         }
       where
         k : ℕ
@@ -132,17 +132,17 @@ module _ (t : Table) (s : List ℕ) (x j : ℕ) where
     value-shows : (n : ℕ) → ActionNode t n → (kindAt t n ≡ 3 → ⊥) → pAt t n < keyLimit → (a : ℕ) → Shows (setKey t s x (acts n)) j (seen s j) a
     value-shows n i d key a =
         shows-same (setKey t s x (acts n)) s j (seen s j) a
-        (kept (value (Entries a) j) low refl (apart (value (Entries a) j) (value store (pAt t n)) (λ e. store-other t s x n i d (sym e))))
-        (kept (mark (Entries a) j) low (apart (mark (Entries a) j) (mark store (pAt t n)) (λ e. store-other t s x n i d (sym e))) refl)
-        (kept (waiting propagates a) tt refl refl) (shows-itself s j a)
+        (kept (Word (Entries a) j) low refl (apart (Word (Entries a) j) (Word store (pAt t n)) (λ e. store-other t s x n i d (sym e))))
+        (kept (Mark (Entries a) j) low (apart (Mark (Entries a) j) (Mark store (pAt t n)) (λ e. store-other t s x n i d (sym e))) refl)
+        (kept (Waits Zp a) tt refl refl) (shows-itself s j a)
       where
         store : Store
         store = storeOf t s x n
 
-        apart : (q p : Place) → (kindOf q ≡ kindOf p → ⊥) → same q p ≡ false
-        apart q p f = is-false (same q p) (λ e. f (ap kindOf (same-one q p e)))
+        apart : (q p : Place) → (placeKind q ≡ placeKind p → ⊥) → same q p ≡ false
+        apart q p f = same-not q p (λ e. f (ap placeKind e))
 
-        kept : (q : Place) → Inside q → same q (mark store (pAt t n)) ≡ false → same q (value store (pAt t n)) ≡ false → SameAt (setKey t s x (acts n)) s q
+        kept : (q : Place) → Inside q → same q (Mark store (pAt t n)) ≡ false → same q (Word store (pAt t n)) ≡ false → SameAt (setKey t s x (acts n)) s q
         kept q h e f = ap (λ (u : List ℕ). wordAt u q) (set-value t s x n d) ∙ put-other store (pAt t n) (wordIn (valueFor t s x n)) 1 s key q h e f
 
     set-shows : (l : Label) → Labelled t l → ((n : ℕ) → ActionNode t n → pAt t n < keyLimit) → (a : ℕ) → Shows (setKey t s x l) j (moved newer (links t s j) (actMove l) (seen s j)) a
@@ -156,9 +156,9 @@ module _ (t : Table) (s : List ℕ) (x j : ℕ) where
         → Shows (acted t s x d) j (moved newer (links t s j) (actMove (d .label)) (seen s j)) a
     act-shows d i key a =
         shows-same (acted t s x d) (setKey t s x (d .label)) j _ a
-        (acted-other t s x d (value (Entries a) j) low refl refl (λ i l. refl))
-        (acted-other t s x d (mark (Entries a) j) low refl refl (λ i l. refl))
-        (acted-other t s x d (waiting propagates a) tt refl refl (λ i l. refl))
+        (acted-other t s x d (Word (Entries a) j) low refl refl (λ i l. refl))
+        (acted-other t s x d (Mark (Entries a) j) low refl refl (λ i l. refl))
+        (acted-other t s x d (Waits Zp a) tt refl refl (λ i l. refl))
         (set-shows (d .label) i key a)
 
 -- AN OFFER of agent x's entry for key k
@@ -204,10 +204,10 @@ module _ (t : Table) (s : List ℕ) (x k : ℕ) where
     -- an agent that there is not
     past-shows : (a : ℕ) → A ≤ a → (j : ℕ) → j < keyLimit → Shows after j (seen s j) a
     past-shows a l j low =
-        shows-same after s j (seen s j) a (kept (value (Entries a) j) low (λ h. absurd (omega arith)))
-        (kept (mark (Entries a) j) low (λ h. absurd (omega arith))) (kept (waiting propagates a) tt (λ h. absurd (omega arith))) (shows-itself s j a)
+        shows-same after s j (seen s j) a (kept (Word (Entries a) j) low (λ h. absurd (omega arith)))
+        (kept (Mark (Entries a) j) low (λ h. absurd (omega arith))) (kept (Waits Zp a) tt (λ h. absurd (omega arith))) (shows-itself s j a)
       where
-        kept : (q : Place) → Inside q → (agentOf q < A → kindOf q ≡ 0) → SameAt after s q
+        kept : (q : Place) → Inside q → (placeAgent q < A → placeKind q ≡ 0) → SameAt after s q
         kept = offered-other t s x k asks key A
 
     offered-shows : (a : ℕ) → Shows after k (given asks) a
@@ -269,8 +269,8 @@ module _ (t : Table) (s : List ℕ) (x k : ℕ) where
 
         kept : (i : ℕ) → i < keyLimit → (v : View Pair) → Shows all i v a → Shows (confirmed t s x k A) i v a
         kept i l v w =
-            shows-same (confirmed t s x k A) all i v a (drop-other confirms x k all (value (Entries a) i) l refl)
-            (drop-other confirms x k all (mark (Entries a) i) l refl) (drop-other confirms x k all (waiting propagates a) tt refl) w
+            shows-same (confirmed t s x k A) all i v a (drop-other Zc x k all (Word (Entries a) i) l refl)
+            (drop-other Zc x k all (Mark (Entries a) i) l refl) (drop-other Zc x k all (Waits Zp a) tt refl) w
 
         own : k ≡ j → Shows (confirmed t s x k A) j (moved newer (links t s j) (cond (eqb k j) (confirm x) quiet) (seen s j)) a
         own e =
@@ -291,12 +291,12 @@ module _ (t : Table) (s : List ℕ) (x k : ℕ) where
 
         kept : (i : ℕ) → i < keyLimit → (v : View Pair) → Shows all i v a → seen (propagated t s x k A) i .entry a ≡ v .entry a
         kept i l v w =
-            pair-same (drop-other propagates x k all (value (Entries a) i) l refl) (drop-other propagates x k all (mark (Entries a) i) l refl) ∙ w .entry
+            pair-same (drop-other Zp x k all (Word (Entries a) i) l refl) (drop-other Zp x k all (Mark (Entries a) i) l refl) ∙ w .entry
 
         -- x loses the key
         lost : (i : ℕ) → has (zpOf (propagated t s x k A) a) i ≡ (not (eqb k i && eqb a x) && has (zpOf all a) i)
         lost i =
-            ap (λ (w : ℕ). has w i) (drop-word propagates x k all (offered-length t s x k false A ∙ whole) (omega arith) (waiting propagates a) tt)
+            ap (λ (w : ℕ). has w i) (drop-word Zp x k all (offered-length t s x k false A ∙ whole) (omega arith) (Waits Zp a) tt)
             ∙ by (eqb a x) refl
           where
             by : (b : Bool) → eqb a x ≡ b → has (cond b (minus (zpOf all x) k) (zpOf all a)) i ≡ (not (eqb k i && b) && has (zpOf all a) i)
