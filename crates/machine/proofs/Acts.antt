@@ -1,13 +1,12 @@
 -- What a choice of an accepted table is, and what stands where after an act.
 -- Assumes nothing.
-use Prim.Native.Nat.{ℕ, zero, suc, _-_, _<_, _≤_}
-use mathlib.Core.Bool.{Bool, true, false, cond}
-use mathlib.Core.Path.{_≡_, refl, sym, ap, ap₂, _∙_}
+use Prim.Native.Nat.{ℕ, zero, suc, _<_, _≤_}
+use mathlib.Core.Bool.{false, cond}
+use mathlib.Core.Path.{_≡_, refl, ap, ap₂, _∙_}
 use mathlib.Core.Logic.{⊎-elim}
-use mathlib.Core.List.{List, [], _∷_}
+use mathlib.Core.List.{List, []}
 use native.Mathlib.Omega.{arith}
-use lib.Dec.{eqb}
-use lib.ListN.{length, getD, set, length-set}
+use lib.ListN.{length, set, length-set}
 use borrow.Author.Tests.{eq-eqb, ne-eqb}
 use Rattle.basis.specs.KeySets.{plus, plusAll}
 use Rattle.basis.proofs.Lists.{nth-in}
@@ -16,17 +15,16 @@ use Rattle.table.specs.Tables.{Table, kindAt, pAt}
 use Rattle.table.specs.Sound.{Sound}
 use Rattle.table.proofs.Promises.{attribute-set-operands, stigmergy-set-operands, environment-set-operands}
 use Rattle.term.specs.Terms.{words, Idle}
-use Rattle.term.specs.Processes.{Label, ticks, acts, Derivation, derivation, process}
+use Rattle.term.specs.Processes.{Label, ticks, acts, Derivation, derivation}
 use Rattle.term.specs.Acceptance.{stateWords}
 use Rattle.term.proofs.Words.{Over}
 use Rattle.term.proofs.Members.{place-in}
 use Rattle.term.proofs.Inside.{ActionNode, Inside as InsideTable, derivation-inside}
-use Rattle.state.specs.declared.Store.{Store}
 use Rattle.state.specs.declared.Store.the-variants.{Environment, Attributes, Entries}
 use Rattle.state.specs.Layout.{clockAt, zcAt, zpAt, keyLimit, residualWords, zcOf, zpOf, termIn, put, addKey}
 use Rattle.state.proofs.Places.{Place, Zc, Zp, Clock, Mark, Word, Waits, Length, Residual, Inside, storeKind, same}
 use Rattle.state.proofs.Frames.{wordAt, SameAt, set-other, set-word, put-length, put-other, put-word, add-length, add-word}
-use Rattle.machine.specs.Acts.{nextStamp, wordIn, leave, choices, chosen, valueFor, toConfirm, storeOf, setKey, acted}
+use Rattle.machine.specs.Acts.{nextStamp, wordIn, choices, chosen, valueFor, toConfirm, storeOf, setKey, acted}
 use Rattle.machine.proofs.Leave.{leave-length, leave-other}
 
 module _ (t : Table) (was : List ℕ) (x : ℕ) where

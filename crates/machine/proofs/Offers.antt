@@ -8,7 +8,6 @@ use native.Mathlib.Omega.{arith}
 use lib.Dec.{eqb}
 use lib.ListN.{length}
 use borrow.Author.Tests.{eq-eqb}
-use Rattle.basis.specs.Numbers.{forEach}
 use Rattle.basis.specs.KeySets.{has, plus, minus}
 use Rattle.basis.proofs.KeySets.{has-plus, has-minus}
 use Rattle.basis.proofs.Numbers.{forEach-same, forEach-at}

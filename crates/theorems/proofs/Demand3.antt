@@ -1,10 +1,9 @@
 -- Demand 3: the words are a machine of agreement, every step a turn to every key.
 -- Assumes nothing.
-use Prim.Native.Nat.{ℕ, suc, _+_, _-_, _<_, _≤_}
-use mathlib.Core.Bool.{Bool, true, false, cond, _&&_}
+use Prim.Native.Nat.{ℕ, _+_, _-_, _<_, _≤_}
+use mathlib.Core.Bool.{Bool, true, false, cond}
 use mathlib.Core.Path.{_≡_, refl, sym, ap, subst, _∙_}
-use mathlib.Core.Logic.{⊎-elim}
-use mathlib.Core.List.{List, [], _∷_, _++_}
+use mathlib.Core.List.{List, _++_}
 use native.Mathlib.Omega.{arith}
 use lib.Dec.{T, ltb}
 use lib.ListN.{length, getD}
@@ -22,22 +21,21 @@ use Rattle.agreement.proofs.Machine.{before-map}
 use Rattle.agreement.proofs.Agreement.{stamp-agreement}
 use Rattle.table.specs.Checks.{Check, passes, refuses}
 use Rattle.table.specs.Tables.{Table, tableOf}
-use Rattle.term.specs.Accepted.{Accepted}
 use Rattle.state.specs.declared.Store.the-variants.{Entries}
-use Rattle.state.specs.Layout.{keyLimit, clockOf, wordOf, stampOf, zpOf}
+use Rattle.state.specs.Layout.{keyLimit, clockOf, wordOf, stampOf}
 use Rattle.state.specs.Evaluation.{linkHolds}
 use Rattle.state.specs.WellFormed.{loaded}
 use Rattle.state.proofs.Places.{Zp, Word}
 use Rattle.state.proofs.Load.{loaded-zero, loaded-clock, loaded-mark, loaded-set}
-use Rattle.machine.specs.Steps.{Outcome, after, stepOf, loadOf}
+use Rattle.machine.specs.Steps.{Outcome, after}
 use Rattle.machine.proofs.Steps.{Done, load-accepted, accepted-load, done-step, step-done, step-refused}
 use Rattle.theorems.specs.Demand3.{Step, Write, outcomeOf, next, stateAfter, ifDone, adds, history, noWrite, Demand-3, Demand-3-holds}
-use Rattle.theorems.proofs.Seen.{Pair, absent, stampIn, newer, pairOf, pair-same, seen, links, Shows}
+use Rattle.theorems.proofs.Views.{Pair, absent, stampIn, newer, pairOf, pair-same, seen, links}
 use Rattle.theorems.proofs.Turns.{stepMove, stepAdds, after-shows, quiet-past, step-fresh, step-clock, written, adds-numbered, adds-entries}
 
-T-true : (b : Bool) → T b → b ≡ true
-T-true true h = refl
-T-true false h = absurd h
+is-true : (b : Bool) → T b → b ≡ true
+is-true true h = refl
+is-true false h = absurd h
 
 module _ (bytes : List ℕ) where
   abbrev t : Table
@@ -62,64 +60,71 @@ module _ (bytes : List ℕ) where
   turn s x k = record { link = links t s k; move = ifPassed (outcomeOf bytes s x .check) (moveOf s x k) }
 
   module _ (s : List ℕ) (x : Step) where
-    -- what holds of a done step and the state after it, and of a refused step and the state before it, holds
-    decided : (P : Check → List ℕ → Type 0)
-        → (Done bytes s (x .scratch) (x .kind) (x .agent) (x .number) → P passes (after t s (x .kind) (x .agent) (x .number)))
-        → ((number place : ℕ) → P (refuses number place) s)
-        → P (outcomeOf bytes s x .check) (next bytes s x)
+    open Step x using (kind, agent, number, scratch)
+
+    abbrev IsDone : Type 0
+    IsDone = Done bytes s scratch kind agent number
+
+    abbrev left : List ℕ
+    left = after t s kind agent number
+
+    -- what a done step has with the state that it leaves, and every refused one with the state before it, the step has
+    decided : (P : Check → List ℕ → Type 0) → (IsDone → P passes left) → ((n place : ℕ) → P (refuses n place) s) → P (outcomeOf bytes s x .check) (next bytes s x)
     decided P f g = by (outcomeOf bytes s x .check) refl
       where
         comes : (o : Outcome) → outcomeOf bytes s x ≡ o → P (o .check) (o .state) → P (outcomeOf bytes s x .check) (next bytes s x)
         comes o e = subst (λ (o : Outcome). P (o .check) (o .state)) (sym e)
 
         by : (c : Check) → outcomeOf bytes s x .check ≡ c → P (outcomeOf bytes s x .check) (next bytes s x)
-        by passes e =
-            let d = done-step bytes s (x .scratch) (x .kind) (x .agent) (x .number) e in
-            comes _ (step-done bytes s (x .scratch) (x .kind) (x .agent) (x .number) d) (f d)
-        by (refuses number place) e = comes _ (step-refused bytes s (x .scratch) (x .kind) (x .agent) (x .number) e) (g number place)
+        by passes e = let d = done-step bytes s scratch kind agent number e in comes _ (step-done bytes s scratch kind agent number d) (f d)
+        by (refuses n place) e = comes _ (step-refused bytes s scratch kind agent number e) (g n place)
+
+    -- to a key that there is not a done step is quiet
+    quiet-key : IsDone → (k : ℕ) → ltb k S ≡ false → moveOf s x k ≡ quiet
+    quiet-key d k e = quiet-past bytes s scratch kind agent number d k (ltb-false k S e)
 
     -- the key's view after the step is the one before it after its turn
     entry-next : (k a : ℕ) → view (next bytes s x) k .entry a ≡ afterTurn newer (turn s x k) (view s k) .entry a
     unfolding moved
     entry-next k a =
         decided (λ c u. view u k .entry a ≡ moved newer (links t s k) (ifPassed c (moveOf s x k)) (view s k) .entry a)
-        (λ d. by d (ltb k S) refl) (λ number place. refl)
+        (λ d. by d (ltb k S) refl) (λ n place. refl)
       where
-        by : Done bytes s (x .scratch) (x .kind) (x .agent) (x .number) → (b : Bool) → ltb k S ≡ b
-            → cond b (seen (after t s (x .kind) (x .agent) (x .number)) k) (blank absent) .entry a ≡ moved newer (links t s k) (moveOf s x k) (cond b (seen s k) (blank absent)) .entry a
-        by d true e = after-shows bytes s (x .scratch) (x .kind) (x .agent) (x .number) d k (ltb-true k S e) a .entry
-        by d false e = rw (quiet-past bytes s (x .scratch) (x .kind) (x .agent) (x .number) d k (ltb-false k S e))
+        by : IsDone → (b : Bool) → ltb k S ≡ b → cond b (seen left k) (blank absent) .entry a ≡ moved newer (links t s k) (moveOf s x k) (cond b (seen s k) (blank absent)) .entry a
+        by d true e = after-shows bytes s scratch kind agent number d k (ltb-true k S e) a .entry
+        by d false e = rw (quiet-key d k e)
 
     waits-next : (k a : ℕ) → view (next bytes s x) k .waits a ≡ afterTurn newer (turn s x k) (view s k) .waits a
     unfolding moved
     waits-next k a =
         decided (λ c u. view u k .waits a ≡ moved newer (links t s k) (ifPassed c (moveOf s x k)) (view s k) .waits a)
-        (λ d. by d (ltb k S) refl) (λ number place. refl)
+        (λ d. by d (ltb k S) refl) (λ n place. refl)
       where
-        by : Done bytes s (x .scratch) (x .kind) (x .agent) (x .number) → (b : Bool) → ltb k S ≡ b
-            → cond b (seen (after t s (x .kind) (x .agent) (x .number)) k) (blank absent) .waits a ≡ moved newer (links t s k) (moveOf s x k) (cond b (seen s k) (blank absent)) .waits a
-        by d true e = after-shows bytes s (x .scratch) (x .kind) (x .agent) (x .number) d k (ltb-true k S e) a .waits
-        by d false e = rw (quiet-past bytes s (x .scratch) (x .kind) (x .agent) (x .number) d k (ltb-false k S e))
+        by : IsDone → (b : Bool) → ltb k S ≡ b → cond b (seen left k) (blank absent) .waits a ≡ moved newer (links t s k) (moveOf s x k) (cond b (seen s k) (blank absent)) .waits a
+        by d true e = after-shows bytes s scratch kind agent number d k (ltb-true k S e) a .waits
+        by d false e = rw (quiet-key d k e)
 
     fresh-next : (k : ℕ) → Fresh newer (turn s x k .move) (view s k)
-    fresh-next k = decided (λ c u. Fresh newer (ifPassed c (moveOf s x k)) (view s k)) (λ d. by d (ltb k S) refl) (λ number place. tt)
+    fresh-next k = decided (λ c u. Fresh newer (ifPassed c (moveOf s x k)) (view s k)) (λ d. by d (ltb k S) refl) (λ n place. tt)
       where
-        by : Done bytes s (x .scratch) (x .kind) (x .agent) (x .number) → (b : Bool) → ltb k S ≡ b → Fresh newer (moveOf s x k) (cond b (seen s k) (blank absent))
-        by d true e = step-fresh bytes s (x .scratch) (x .kind) (x .agent) (x .number) d k (ltb-true k S e)
-        by d false e = rw (quiet-past bytes s (x .scratch) (x .kind) (x .agent) (x .number) d k (ltb-false k S e)) tt
+        by : IsDone → (b : Bool) → ltb k S ≡ b → Fresh newer (moveOf s x k) (cond b (seen s k) (blank absent))
+        by d true e = step-fresh bytes s scratch kind agent number d k (ltb-true k S e)
+        by d false e = rw (quiet-key d k e) tt
 
     -- and its writes
+    abbrev new : List Write
+    new = stepAdds bytes s kind agent number
+
     numbered-next : Numbered (λ (w : Write). w .stamp) (clockOf s) (adds bytes s x)
-    numbered-next = decided (λ c u. Numbered (λ (w : Write). w .stamp) (clockOf s) (ifDone bytes c (stepAdds bytes s (x .kind) (x .agent) (x .number))))
-        (λ d. adds-numbered bytes s (x .kind) (x .agent) (x .number)) (λ number place. tt)
+    numbered-next = decided (λ c u. Numbered (λ (w : Write). w .stamp) (clockOf s) (ifDone bytes c new)) (λ d. adds-numbered bytes s kind agent number) (λ n place. tt)
 
     clock-next : clockOf (next bytes s x) ≡ clockOf s + length (adds bytes s x)
-    clock-next = decided (λ c u. clockOf u ≡ clockOf s + length (ifDone bytes c (stepAdds bytes s (x .kind) (x .agent) (x .number))))
-        (λ d. step-clock bytes s (x .scratch) (x .kind) (x .agent) (x .number) d) (λ number place. omega arith)
+    clock-next = decided (λ c u. clockOf u ≡ clockOf s + length (ifDone bytes c new)) (λ d. step-clock bytes s scratch kind agent number d) (λ n place. omega arith)
 
     entries-next : (k : ℕ) → wrote (turn s x k .move) ≡ entriesOf (λ (w : Write). w .key) written k (adds bytes s x)
-    entries-next k = decided (λ c u. wrote (ifPassed c (moveOf s x k)) ≡ entriesOf (λ (w : Write). w .key) written k (ifDone bytes c (stepAdds bytes s (x .kind) (x .agent) (x .number))))
-        (λ d. adds-entries bytes s (x .kind) (x .agent) (x .number) k) (λ number place. refl)
+    entries-next k =
+        decided (λ c u. wrote (ifPassed c (moveOf s x k)) ≡ entriesOf (λ (w : Write). w .key) written k (ifDone bytes c new))
+        (λ d. adds-entries bytes s kind agent number k) (λ n place. refl)
 
   abbrev machine : Machine absent newer
   machine = record {
@@ -186,7 +191,7 @@ module _ (bytes : List ℕ) where
       never-fall = λ ys a k h l. omega (arith, agreed xs .never-older ys k a, ap stampIn (entry-there xs k a l), ap stampIn (entry-there (xs ++ ys) k a l));
       pair = λ a b k h i l held e.
           let w = agreed xs .pair k a b (linked k a b i held) (omega (arith, ap stampIn (entry-there xs k a l), ap stampIn (entry-there xs k b l))) in
-          T-true _ (subst (λ (v : View Pair). T (v .waits a)) (view-there (stateAfter bytes xs) k l) w);
+          is-true _ (subst (λ (v : View Pair). T (v .waits a)) (view-there (stateAfter bytes xs) k l) w);
     }
       where
         written-there : (k a : ℕ) → k < S → 0 < stampOf (stateAfter bytes xs) a k

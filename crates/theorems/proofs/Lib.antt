@@ -1,4 +1,6 @@
 pub mod Examples
-pub mod Seen
+pub mod Views
+pub mod ActViews
+pub mod OfferViews
 pub mod Turns
 pub mod Demand3

@@ -2,11 +2,11 @@
 -- Assumes nothing.
 use Prim.Native.Nat.{ℕ, zero, suc, _+_, _<_, _≤_}
 use mathlib.Core.Bool.{Bool, true, false, cond}
-use mathlib.Core.Path.{_≡_, refl, sym, ap, _∙_}
+use mathlib.Core.Path.{_≡_, refl, ap, _∙_}
 use mathlib.Core.Logic.{⊎-elim}
 use mathlib.Core.List.{List, [], _∷_, _++_}
 use native.Mathlib.Omega.{arith}
-use lib.Dec.{T, eqb, lt→ltb, eqb·suc-zero}
+use lib.Dec.{eqb, lt→ltb, eqb·suc-zero}
 use lib.ListN.{length}
 use borrow.Author.Tests.{eq-eqb, ne-eqb}
 use Rattle.basis.proofs.Tests.{same-or-other}
@@ -14,7 +14,6 @@ use Rattle.agreement.specs.View.{View}
 use Rattle.agreement.specs.Moves.{Move, quiet, write, propagate, confirm, moved, Fresh, wrote}
 use Rattle.agreement.specs.History.{Numbered, entriesOf}
 use Rattle.table.specs.Tables.{Table, tableOf, kindAt, pAt}
-use Rattle.table.specs.Sound.{Sound}
 use Rattle.table.proofs.Promises.{stigmergy-set-operands}
 use Rattle.term.specs.Processes.{Label, ticks, acts}
 use Rattle.term.specs.Acceptance.{stateWords}
@@ -22,16 +21,18 @@ use Rattle.term.proofs.Inside.{ActionNode, Labelled}
 use Rattle.state.specs.declared.Store.the-variants.{Entries}
 use Rattle.state.specs.Layout.{keyLimit, clockOf, stampOf}
 use Rattle.state.proofs.Places.{Zp, Zc, Clock}
-use Rattle.state.proofs.Frames.{wordAt, put-other, drop-other}
+use Rattle.state.proofs.Frames.{put-other, drop-other}
 use Rattle.state.proofs.Formed.{WellFormed, well-formed-read}
-use Rattle.machine.specs.Acts.{chosen, nextStamp, wordIn, valueFor, storeOf, setKey, acted}
+use Rattle.machine.specs.Acts.{chosen, nextStamp, wordIn, valueFor, storeOf, setKey}
 use Rattle.machine.specs.Offers.{offered}
 use Rattle.machine.specs.Steps.{after}
 use Rattle.machine.proofs.Steps.{Done, act-able}
 use Rattle.machine.proofs.Acts.{chosen-inside, action-key, set-tick, set-value, entry-word, acted-other}
 use Rattle.machine.proofs.Offers.{offered-other}
 use Rattle.theorems.specs.Demand3.{Write, writeOf}
-use Rattle.theorems.proofs.Seen.{Pair, newer, seen, links, Shows, actMove, act-shows, propagate-shows, confirm-shows}
+use Rattle.theorems.proofs.Views.{Pair, newer, seen, links, Shows}
+use Rattle.theorems.proofs.ActViews.{actMove, act-shows}
+use Rattle.theorems.proofs.OfferViews.{propagate-shows, confirm-shows}
 
 -- what a done step is to key j
 abbrev pub stepMove : Table → List ℕ → ℕ → ℕ → ℕ → ℕ → Move Pair
