@@ -97,6 +97,16 @@ placeIndex (Waits Zp a) = 1
 placeIndex (Length a) = 0
 placeIndex (Residual a i) = i
 
+-- a word that is neither the clock nor a set of keys
+abbrev pub settled : Place → Bool
+settled Clock = false
+settled Agents = true
+settled (Mark store k) = true
+settled (Word store k) = true
+settled (Waits z a) = false
+settled (Length a) = true
+settled (Residual a i) = true
+
 -- two stores, and two places, are one: it computes where their forms are known
 abbrev pub sameStore : Store → Store → Bool
 sameStore s t = eqb (storeKind s) (storeKind t) && eqb (storeAgent s) (storeAgent t)
