@@ -18,7 +18,7 @@ use Rattle.table.specs.Tables.{Table}
 use Rattle.term.specs.Acceptance.{stateWords}
 use Rattle.state.specs.declared.Store.the-variants.{Entries}
 use Rattle.state.specs.Layout.{keyLimit, zpOf}
-use Rattle.state.proofs.Places.{Place, Zp, Zc, Mark, Word, Waits, Inside, placeKind, placeAgent}
+use Rattle.state.proofs.Places.{Place, Zp, Zc, Mark, Word, Waits, Inside, placeAgent}
 use Rattle.state.proofs.Frames.{SameAt, drop-other, drop-word}
 use Rattle.machine.specs.Offers.{takes as takesEntry, answers as answersEntry, hears, offered, propagated, confirmed}
 use Rattle.machine.proofs.Offers.{offered-length, offered-other, offered-stamp, offered-value, offered-zp}
@@ -64,11 +64,10 @@ module _ (t : Table) (s : List ℕ) (x k : ℕ) where
     -- an agent that there is not
     past-shows : (a : ℕ) → A ≤ a → (j : ℕ) → j < keyLimit → Shows after j (seen s j) a
     past-shows a l j low =
-        shows-same after s j (seen s j) a (kept (Word (Entries a) j) low (λ h. absurd (omega arith)))
-        (kept (Mark (Entries a) j) low (λ h. absurd (omega arith))) (kept (Waits Zp a) tt (λ h. absurd (omega arith))) (shows-itself s j a)
+        shows-same after s j (seen s j) a (kept (Word (Entries a) j) low refl) (kept (Mark (Entries a) j) low refl) (kept (Waits Zp a) tt refl) (shows-itself s j a)
       where
-        kept : (q : Place) → Inside q → (placeAgent q < A → placeKind q ≡ 0) → SameAt after s q
-        kept = offered-other t s x k asks key A
+        kept : (q : Place) → Inside q → placeAgent q ≡ a → SameAt after s q
+        kept q h e = offered-other t s x k asks key A q h (λ y m d c. absurd (omega arith))
 
     offered-shows : (a : ℕ) → Shows after k (given asks) a
     offered-shows a = ⊎-elim there past (lt-or-le a A)

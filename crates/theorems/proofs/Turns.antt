@@ -137,12 +137,12 @@ step-clock bytes s scratch (suc zero) x k done =
     let t = tableOf bytes in
     let key = done .range .key-below (omega arith) in
     drop-other Zp x k (offered t s x k false (t .sizes .agents)) Clock tt refl
-    ∙ offered-other t s x k false (omega arith) (t .sizes .agents) Clock tt (λ l. refl) ∙ omega arith
+    ∙ offered-other t s x k false (omega arith) (t .sizes .agents) Clock tt (λ y l d e. refl) ∙ omega arith
 step-clock bytes s scratch (suc (suc kind)) x k done =
     let t = tableOf bytes in
     let key = done .range .key-below (omega arith) in
     drop-other Zc x k (offered t s x k true (t .sizes .agents)) Clock tt refl
-    ∙ offered-other t s x k true (omega arith) (t .sizes .agents) Clock tt (λ l. refl) ∙ rw (eqb·suc-zero (suc kind)) (omega arith)
+    ∙ offered-other t s x k true (omega arith) (t .sizes .agents) Clock tt (λ y l d e. refl) ∙ rw (eqb·suc-zero (suc kind)) (omega arith)
 
 -- the writes bear the stamps that the clock gives, and are what the step writes to each key
 abbrev pub written : Write → Pair
