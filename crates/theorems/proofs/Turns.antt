@@ -160,6 +160,10 @@ adds-numbered bytes s kind x number = by (eqb kind 0) (chosen (tableOf bytes) s 
     by true (acts n) = one (eqb (kindAt (tableOf bytes) n) 3) _ refl
     by false m = tt
 
+wrote-nothing : (b : Bool) (m : Move Pair) → wrote m ≡ [] → wrote (cond b m quiet) ≡ []
+wrote-nothing true m e = e
+wrote-nothing false m e = refl
+
 pub adds-entries : (bytes s : List ℕ) (kind x number j : ℕ)
     → wrote (stepMove (tableOf bytes) s kind x number j) ≡ entriesOf (λ (w : Write). w .key) written j (stepAdds bytes s kind x number)
 adds-entries bytes s zero x c j = by (chosen (tableOf bytes) s x c .label)
@@ -176,13 +180,5 @@ adds-entries bytes s zero x c j = by (chosen (tableOf bytes) s x c .label)
     by ticks = refl
     by (acts n) = one (eqb (kindAt (tableOf bytes) n) 3)
         (record { agent = x; key = pAt (tableOf bytes) n; value = wordIn (valueFor (tableOf bytes) s x n); stamp = nextStamp s })
-adds-entries bytes s (suc zero) x k j = by (eqb k j)
-  where
-    by : (b : Bool) → wrote {E = Pair} (cond b (propagate x) quiet) ≡ []
-    by true = refl
-    by false = refl
-adds-entries bytes s (suc (suc kind)) x k j = rw (eqb·suc-zero (suc kind)) (by (eqb k j))
-  where
-    by : (b : Bool) → wrote {E = Pair} (cond b (confirm x) quiet) ≡ []
-    by true = refl
-    by false = refl
+adds-entries bytes s (suc zero) x k j = wrote-nothing (eqb k j) (propagate x) refl
+adds-entries bytes s (suc (suc kind)) x k j = rw (eqb·suc-zero (suc kind)) (wrote-nothing (eqb k j) (confirm x) refl)
