@@ -1,4 +1,3 @@
-pub mod Examples
 pub mod Cases
 pub mod Views
 pub mod ActViews
