@@ -1,4 +1,5 @@
 pub mod Below
 pub mod Numbers
 pub mod Bytes
+pub mod Read
 pub mod KeySets

@@ -1,4 +1,7 @@
-// Values and truths.
+// Values and truths, and the operations, comparisons and connectives on them.
+ghost use mathlib.Core.Path.{_≡_};
+ghost use Rattle.value.specs.Values.{signed, fit, arithmetic, operate as operateOf};
+ghost use Rattle.value.specs.Truths.{testOf, compare as compareOf, connect as connectOf};
 
 // A value: absent, or a signed 32-bit number as its two's complement word.
 pub enum Value {
@@ -10,4 +13,119 @@ pub enum Value {
 pub struct Truth {
     pub defined: bool,
     pub holds: bool,
+}
+
+// The number that a word holds in two's complement.
+fn number(w: u32) -> i64
+    ensures { λ r. ⌜ r ≡ signed w ⌝ }
+{
+    if w < 2147483648 {
+        w as i64
+    } else {
+        w as i64 - 4294967296
+    }
+}
+
+// The value of a number: absent where it does not fit 32 bits.
+fn fitted(z: i64) -> Value
+    ensures { λ r. ⌜ r ≡ fit z ⌝ }
+{
+    if z < -2147483648 {
+        return Value::Absent;
+    }
+    if 2147483647 < z {
+        return Value::Absent;
+    }
+    if z < 0 {
+        Value::Present((z + 4294967296) as u32)
+    } else {
+        Value::Present(z as u32)
+    }
+}
+
+// A node of kind 36 to 40 on two numbers, given as their words.
+fn compute(kind: u8, a: u32, b: u32) -> Value
+    ensures { λ r. ⌜ r ≡ arithmetic kind (signed a) (signed b) ⌝ }
+{
+    let x = number(a);
+    let y = number(b);
+    match kind {
+        36 => fitted(x + y),
+        37 => fitted(x - y),
+        38 => fitted(x * y),
+        39 => { if y == 0 { Value::Absent } else { fitted(x / y) } }
+        40 => { if y == 0 { Value::Absent } else { fitted(x % y) } }
+        _ => Value::Absent,
+    }
+}
+
+// The same on two values.
+pub fn operate(kind: u8, a: Value, b: Value) -> Value
+    ensures { λ r. ⌜ r ≡ operateOf kind a b ⌝ }
+{
+    let Value::Present(x) = a else {
+        return Value::Absent;
+    };
+    let Value::Present(y) = b else {
+        return Value::Absent;
+    };
+    compute(kind, x, y)
+}
+
+// A node of kind 17 to 19 on two numbers, given as their words.
+fn test(kind: u8, a: u32, b: u32) -> bool
+    ensures { λ r. ⌜ r ≡ testOf kind a b ⌝ }
+{
+    match kind {
+        17 => a == b,
+        18 => number(a) < number(b),
+        19 => number(b) < number(a),
+        _ => false,
+    }
+}
+
+// The same on two values.
+pub fn compare(kind: u8, a: Value, b: Value) -> Truth
+    ensures { λ r. ⌜ r ≡ compareOf kind a b ⌝ }
+{
+    let Value::Present(x) = a else {
+        return Truth {
+            defined: false,
+            holds: false,
+        };
+    };
+    let Value::Present(y) = b else {
+        return Truth {
+            defined: false,
+            holds: false,
+        };
+    };
+    Truth {
+        defined: true,
+        holds: test(kind, x, y),
+    }
+}
+
+// A node of kind 20 to 22 on what its parts come to.
+pub fn connect(kind: u8, a: Truth, b: Truth) -> Truth
+    ensures { λ r. ⌜ r ≡ connectOf kind a b ⌝ }
+{
+    match kind {
+        20 => Truth {
+            defined: a.defined,
+            holds: a.defined & !a.holds,
+        },
+        21 => Truth {
+            defined: a.defined & b.defined,
+            holds: a.holds & b.holds,
+        },
+        22 => Truth {
+            defined: a.defined & b.defined,
+            holds: a.holds | b.holds,
+        },
+        _ => Truth {
+            defined: false,
+            holds: false,
+        },
+    }
 }

@@ -1,0 +1,153 @@
+-- Laws of a set of keys in a word.
+-- Assumes nothing.
+use Prim.Native.Nat.{ℕ, zero, suc, _+_, _-_, _/_, _%_, _^_, _<_, _≤_}
+use native.Mathlib.Nat.{pow-succ', div-div-eq-div-mul}
+use native.Mathlib.Omega.{arith}
+use mathlib.Core.Bool.{Bool, true, false, cond, not, _&&_, _||_}
+use mathlib.Core.Path.{_≡_, refl, sym, _∙_}
+use mathlib.Core.Logic.{⊎-elim}
+use lib.Pow.{pow-pos, pow-mono}
+use lib.Dec.{eqb, ltb, eqb·zero-suc, eqb·suc-zero, eqb·suc-suc}
+use borrow.Author.Tests.{eqb-true, eqb-false, eq-eqb, ne-eqb, lt-ltb, le-ltb}
+use Rattle.basis.specs.Numbers.{forEach}
+use Rattle.basis.specs.KeySets.{has, plus, minus, plusAll}
+use Rattle.basis.proofs.Tests.{either, is-false, cond-cases, lt-or-le, same-or-other}
+use Rattle.basis.proofs.Numbers.{forEach-keeps}
+
+-- key 0 is the word's parity, and the others are those of its half
+pub has-zero : (w : ℕ) → has w 0 ≡ eqb (w % 2) 1
+unfolding has
+has-zero w = let e : w / 1 ≡ w = omega arith in rw e
+
+pub has-suc : (w k : ℕ) → has w (suc k) ≡ has (w / 2) k
+unfolding has
+has-suc w k = rw (pow-succ' 2 k, div-div-eq-div-mul w 2 (2 ^ k))
+
+odd : (w : ℕ) → has w 0 ≡ true → w % 2 ≡ 1
+odd w e = eqb-true (w % 2) 1 (sym (has-zero w) ∙ e)
+
+even : (w : ℕ) → has w 0 ≡ false → w % 2 ≡ 0
+even w e = let h = eqb-false (w % 2) 1 (sym (has-zero w) ∙ e) in omega arith
+
+-- a key that is in the set has its power in the word; one that is not leaves room for it
+pub enough : (k w : ℕ) → has w k ≡ true → 2 ^ k ≤ w
+enough zero w e = let h = odd w e in omega arith
+enough (suc k) w e = let h = enough k (w / 2) (sym (has-suc w k) ∙ e) in omega arith
+
+pub room : (n k w : ℕ) → k < n → w < 2 ^ n → has w k ≡ false → w + 2 ^ k < 2 ^ n
+room zero k w l h e = absurd (omega arith)
+room (suc n) zero w l h e = let p = even w e in omega arith
+room (suc n) (suc k) w l h e = let r = room n k (w / 2) (omega arith) (omega arith) (sym (has-suc w k) ∙ e) in omega arith
+
+added : (k j w : ℕ) → has w k ≡ false → has (w + 2 ^ k) j ≡ (eqb k j || has w j)
+added zero zero w e = let p = even w e in has-zero (w + 1) ∙ eq-eqb ((w + 1) % 2) 1 (omega arith)
+added zero (suc j) w e =
+    let p = even w e in
+    let h : (w + 1) / 2 ≡ w / 2 = omega arith in
+    rw (has-suc (w + 1) j, has-suc w j, h, eqb·zero-suc j)
+added (suc k) zero w e =
+    let h : (w + 2 ^ suc k) % 2 ≡ w % 2 = omega arith in
+    rw (has-zero (w + 2 ^ suc k), has-zero w, h, eqb·suc-zero k)
+added (suc k) (suc j) w e =
+    let h : (w + 2 ^ suc k) / 2 ≡ w / 2 + 2 ^ k = omega arith in
+    rw (has-suc (w + 2 ^ suc k) j, has-suc w j, h, eqb·suc-suc k j) (added k j (w / 2) (sym (has-suc w k) ∙ e))
+
+removed : (k j w : ℕ) → has w k ≡ true → has (w - 2 ^ k) j ≡ (not (eqb k j) && has w j)
+removed zero zero w e = let p = odd w e in has-zero (w - 1) ∙ ne-eqb ((w - 1) % 2) 1 (omega arith)
+removed zero (suc j) w e =
+    let p = odd w e in
+    let h : (w - 1) / 2 ≡ w / 2 = omega arith in
+    rw (has-suc (w - 1) j, has-suc w j, h, eqb·zero-suc j)
+removed (suc k) zero w e =
+    let p = enough (suc k) w e in
+    let h : (w - 2 ^ suc k) % 2 ≡ w % 2 = omega arith in
+    rw (has-zero (w - 2 ^ suc k), has-zero w, h, eqb·suc-zero k)
+removed (suc k) (suc j) w e =
+    let p = enough (suc k) w e in
+    let h : (w - 2 ^ suc k) / 2 ≡ w / 2 - 2 ^ k = omega arith in
+    rw (has-suc (w - 2 ^ suc k) j, has-suc w j, h, eqb·suc-suc k j) (removed k j (w / 2) (sym (has-suc w k) ∙ e))
+
+-- what is in the set with k, and in the set without it
+pub has-plus : (w k j : ℕ) → has (plus w k) j ≡ (eqb k j || has w j)
+unfolding plus
+has-plus w k j = cond-cases (λ (v : ℕ). has v j ≡ (eqb k j || has w j)) (has w k) (λ e. same (eqb k j) refl e) (λ e. added k j w e)
+  where
+    same : (b : Bool) → eqb k j ≡ b → has w k ≡ true → has w j ≡ (b || has w j)
+    same true p e = rw (← eqb-true k j p, e)
+    same false p e = refl
+
+pub has-minus : (w k j : ℕ) → has (minus w k) j ≡ (not (eqb k j) && has w j)
+unfolding minus
+has-minus w k j = cond-cases (λ (v : ℕ). has v j ≡ (not (eqb k j) && has w j)) (has w k) (λ e. removed k j w e) (λ e. same (eqb k j) refl e)
+  where
+    same : (b : Bool) → eqb k j ≡ b → has w k ≡ false → has w j ≡ (not b && has w j)
+    same true p e = rw (← eqb-true k j p, e)
+    same false p e = refl
+
+pub has-plus-same : (w k : ℕ) → has (plus w k) k ≡ true
+has-plus-same w k = rw (has-plus w k k, eq-eqb k k refl)
+
+pub has-plus-other : (w k j : ℕ) → (k ≡ j → ⊥) → has (plus w k) j ≡ has w j
+has-plus-other w k j d = rw (has-plus w k j, ne-eqb k j d)
+
+pub has-minus-same : (w k : ℕ) → has (minus w k) k ≡ false
+has-minus-same w k = rw (has-minus w k k, eq-eqb k k refl)
+
+pub has-minus-other : (w k j : ℕ) → (k ≡ j → ⊥) → has (minus w k) j ≡ has w j
+has-minus-other w k j d = rw (has-minus w k j, ne-eqb k j d)
+
+-- keys below n stay below n
+pub plus-small : (n w k : ℕ) → k < n → w < 2 ^ n → plus w k < 2 ^ n
+unfolding plus
+plus-small n w k l h = cond-cases (λ (v : ℕ). v < 2 ^ n) (has w k) (λ e. h) (λ e. room n k w l h e)
+
+pub minus-small : (n w k : ℕ) → w < 2 ^ n → minus w k < 2 ^ n
+unfolding minus
+minus-small n w k h = cond-cases (λ (v : ℕ). v < 2 ^ n) (has w k) (λ e. omega arith) (λ e. h)
+
+-- a word has no key past its bound
+pub has-past : (n w k : ℕ) → w < 2 ^ n → n ≤ k → has w k ≡ false
+has-past n w k h l = is-false (has w k) (λ e. omega (arith, enough k w e, pow-mono l))
+
+pub has-nothing : (k : ℕ) → has 0 k ≡ false
+has-nothing zero = has-zero 0
+has-nothing (suc k) = has-suc 0 k ∙ has-nothing k
+
+-- words of the same keys are the same
+pub same-keys : (n w u : ℕ) → w < 2 ^ n → u < 2 ^ n → ((k : ℕ) → k < n → has w k ≡ has u k) → w ≡ u
+same-keys zero w u l m h = omega arith
+same-keys (suc n) w u l m h =
+    let e : w / 2 ≡ u / 2 = same-keys n (w / 2) (u / 2) (omega arith) (omega arith) (λ k i. sym (has-suc w k) ∙ h (suc k) (omega arith) ∙ has-suc u k) in
+    let f : w % 2 ≡ u % 2 = ⊎-elim (λ (p : has u 0 ≡ true). odd w (h 0 (omega arith) ∙ p) ∙ sym (odd u p)) (λ (p : has u 0 ≡ false). even w (h 0 (omega arith) ∙ p) ∙ sym (even u p)) (either (has u 0)) in
+    omega arith
+
+pub nothing-zero : (n w : ℕ) → w < 2 ^ n → ((k : ℕ) → k < n → has w k ≡ false) → w ≡ 0
+nothing-zero n w l h = same-keys n w 0 l (omega (arith, pow-pos n)) (λ k i. h k i ∙ sym (has-nothing k))
+
+-- the set with each key that passes
+one-more : (test : ℕ → Bool) (n w v k : ℕ) → has v k ≡ ((ltb k n && test k) || has w k) → has (cond (test n) (plus v n) v) k ≡ ((ltb k (suc n) && test k) || has w k)
+one-more test n w v k r = ⊎-elim last (λ (d : n ≡ k → ⊥). cond-cases After (test n) (λ e. has-plus-other v n k d ∙ kept d) (λ e. kept d)) (same-or-other n k)
+  where
+    After : ℕ → Type 0
+    After u = has u k ≡ ((ltb k (suc n) && test k) || has w k)
+
+    last : n ≡ k → After (cond (test n) (plus v n) v)
+    last d =
+        cond-cases After (test n)
+        (λ e. let t : test k ≡ true = rw d at e in rw (has-plus v n k, eq-eqb n k d, lt-ltb k (suc n) (omega arith), t))
+        (λ e. let t : test k ≡ false = rw d at e in r ∙ rw (le-ltb k n (omega arith), lt-ltb k (suc n) (omega arith), t))
+
+    kept : (n ≡ k → ⊥) → After v
+    kept d =
+        r ∙ ⊎-elim (λ (l : k < n). rw (lt-ltb k n l, lt-ltb k (suc n) (omega arith))) (λ (l : n ≤ k). rw (le-ltb k n l, le-ltb k (suc n) (omega arith))) (lt-or-le k n)
+
+pub has-plusAll : (test : ℕ → Bool) (n w k : ℕ) → has (plusAll test n w) k ≡ ((ltb k n && test k) || has w k)
+unfolding plusAll forEach
+has-plusAll test zero w k = rw (le-ltb k 0 (omega arith))
+has-plusAll test (suc n) w k = one-more test n w (plusAll test n w) k (has-plusAll test n w k)
+
+pub plusAll-small : (test : ℕ → Bool) (m n w : ℕ) → n ≤ m → w < 2 ^ m → plusAll test n w < 2 ^ m
+unfolding plusAll
+plusAll-small test m n w l h =
+    forEach-keeps (λ k v. cond (test k) (plus v k) v) (λ (v : ℕ). v < 2 ^ m) n
+    (λ k i v p. cond-cases (λ (u : ℕ). u < 2 ^ m) (test k) (λ e. plus-small m v k (omega arith) p) (λ e. p)) w h

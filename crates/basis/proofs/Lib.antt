@@ -1,0 +1,5 @@
+pub mod Tests
+pub mod Below
+pub mod Numbers
+pub mod KeySets
+pub mod Lists

@@ -1,0 +1,50 @@
+-- Laws of lists that the library lacks: a changed list at any place, the parts that code lends, and what stands at a place, if anything.
+-- Assumes nothing.
+use Prim.Native.Nat.{ℕ, zero, suc, _+_, _-_, _<_, _≤_}
+use mathlib.Core.Bool.{cond}
+use mathlib.Core.Logic.{⊎-elim}
+use mathlib.Core.Option.{none, some}
+use mathlib.Core.Path.{_≡_, refl, _∙_}
+use mathlib.Core.List.{List, [], _∷_, _++_}
+use native.Mathlib.Nat.{suc-sub-suc, sub-zero, le-of-suc-le-suc, not-suc-le-zero}
+use native.Mathlib.Omega.{arith}
+use lib.Dec.{eqb}
+use lib.ListN.{length, getD, getElem?, set, take, drop, length-drop}
+use lib.Seq.{getD-set-same, getD-set-other, getD-take, getD-drop, take-all}
+use borrow.Author.Tests.{eq-eqb, ne-eqb}
+use Rattle.basis.proofs.Tests.{same-or-other}
+
+module _ {A : Type 0} where
+  -- every place of a list in which one place was set
+  pub getD-set : (l : List A) (i j : ℕ) (v d : A) → i < length l → getD (set l i v) j d ≡ cond (eqb j i) v (getD l j d)
+  getD-set l i j v d h =
+      ⊎-elim (λ (e : j ≡ i). rw (e, eq-eqb i i refl) (getD-set-same l i v d h))
+      (λ (e : j ≡ i → ⊥). rw (ne-eqb j i e) (getD-set-other l i j v d e)) (same-or-other j i)
+
+  -- the part of m places from a on, and the part from a to the end, as code lends them
+  pub getD-part : (l : List A) (a m i : ℕ) (d : A) → i < m → getD (take m (drop a l)) i d ≡ getD l (a + i) d
+  getD-part l a m i d h = getD-take m (drop a l) i d h ∙ getD-drop a l i d
+
+  pub take-rest : (l : List A) (a : ℕ) → take (length l - a) (drop a l) ≡ drop a l
+  take-rest l a = take-all (length l - a) (drop a l) (omega (arith, length-drop a l))
+
+  -- what stands at a place of two lists in a row, and past the end
+  pub nth-left : (xs ys : List A) (n : ℕ) → n < length xs → getElem? (xs ++ ys) n ≡ getElem? xs n
+  nth-left [] ys n h = absurd (not-suc-le-zero h)
+  nth-left (x ∷ xs) ys zero h = refl
+  nth-left (x ∷ xs) ys (suc n) h = nth-left xs ys n (le-of-suc-le-suc h)
+
+  pub nth-right : (xs ys : List A) (n : ℕ) → length xs ≤ n → getElem? (xs ++ ys) n ≡ getElem? ys (n - length xs)
+  nth-right [] ys n h = rw (sub-zero n)
+  nth-right (x ∷ xs) ys zero h = absurd (not-suc-le-zero h)
+  nth-right (x ∷ xs) ys (suc n) h = nth-right xs ys n (le-of-suc-le-suc h) ∙ rw (suc-sub-suc n (length xs))
+
+  pub nth-past : (xs : List A) (n : ℕ) → length xs ≤ n → getElem? xs n ≡ none
+  nth-past [] n h = refl
+  nth-past (x ∷ xs) zero h = absurd (not-suc-le-zero h)
+  nth-past (x ∷ xs) (suc n) h = nth-past xs n (le-of-suc-le-suc h)
+
+  pub nth-in : (xs : List A) (n : ℕ) (d : A) → n < length xs → getElem? xs n ≡ some (getD xs n d)
+  nth-in [] n d h = absurd (not-suc-le-zero h)
+  nth-in (x ∷ xs) zero d h = refl
+  nth-in (x ∷ xs) (suc n) d h = nth-in xs n d (le-of-suc-le-suc h)

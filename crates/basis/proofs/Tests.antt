@@ -1,0 +1,109 @@
+-- Laws of tests: and, or, not, and the choice that a test makes.
+-- Assumes nothing.
+use Prim.Native.Nat.{ℕ, suc, _<_, _≤_}
+use mathlib.Core.Bool.{Bool, true, false, cond, not, _&&_, _||_}
+use mathlib.Core.Path.{_≡_, refl, sym}
+use mathlib.Core.Logic.{_⊎_, inl, inr}
+use native.Mathlib.Omega.{arith}
+use lib.Dec.{ltb, eqb}
+use borrow.Author.Tests.{ltb-true, ltb-false, eqb-true, eqb-false}
+
+-- a test's two values, which differ
+pub either : (a : Bool) → (a ≡ true) ⊎ (a ≡ false)
+either true = inl refl
+either false = inr refl
+
+pub not-both : {a : Bool} → a ≡ true → a ≡ false → ⊥
+not-both d e = let z : _≡_ {A = ℕ} 0 1 = cc in omega arith
+
+pub is-false : (a : Bool) → (a ≡ true → ⊥) → a ≡ false
+is-false true f = absurd (f refl)
+is-false false f = refl
+
+-- a test that is true where the other is, and the other way round, is the same
+pub same-test : (a b : Bool) → (a ≡ true → b ≡ true) → (b ≡ true → a ≡ true) → a ≡ b
+same-test true b f g = sym (f refl)
+same-test false true f g = g refl
+same-test false false f g = refl
+
+pub or-either : (a b : Bool) → (a || b) ≡ true → (a ≡ true) ⊎ (b ≡ true)
+or-either true b e = inl refl
+or-either false b e = inr e
+
+pub or-left : (a b : Bool) → a ≡ true → (a || b) ≡ true
+or-left a b e = rw e
+
+pub or-right : (a b : Bool) → b ≡ true → (a || b) ≡ true
+or-right true b e = refl
+or-right false b e = e
+
+pub or-neither : (a b : Bool) → (a || b) ≡ false → (a ≡ false) × (b ≡ false)
+or-neither true b e = absurd (not-both refl e)
+or-neither false b e = (refl, e)
+
+pub and-left : (a b : Bool) → (a && b) ≡ true → a ≡ true
+and-left true b e = refl
+and-left false b e = e
+
+pub and-right : (a b : Bool) → (a && b) ≡ true → b ≡ true
+and-right true b e = e
+and-right false b e = absurd (not-both e refl)
+
+pub and-both : (a b : Bool) → a ≡ true → b ≡ true → (a && b) ≡ true
+and-both a b d e = rw (d, e)
+
+pub and-fails : (a b : Bool) → (a && b) ≡ false → (a ≡ false) ⊎ (b ≡ false)
+and-fails true b e = inr e
+and-fails false b e = inl refl
+
+pub not-or : (a b : Bool) → not (a || b) ≡ (not a && not b)
+not-or true b = refl
+not-or false b = refl
+
+pub not-and : (a b : Bool) → not (a && b) ≡ (not a || not b)
+not-and true b = refl
+not-and false b = refl
+
+-- what a test chooses
+module _ {A : Type 0} where
+  pub cond-true : (a : Bool) (x y : A) → a ≡ true → cond a x y ≡ x
+  cond-true a x y e = rw e
+
+  pub cond-false : (a : Bool) (x y : A) → a ≡ false → cond a x y ≡ y
+  cond-false a x y e = rw e
+
+  pub cond-same : (a : Bool) (x : A) → cond a x x ≡ x
+  cond-same true x = refl
+  cond-same false x = refl
+
+  -- what holds in each case holds of the choice
+  pub cond-cases : (P : A → Type 0) (a : Bool) {x y : A} → (a ≡ true → P x) → (a ≡ false → P y) → P (cond a x y)
+  cond-cases P true f g = f refl
+  cond-cases P false f g = g refl
+
+  pub cond-into : {B : Type 0} (f : A → B) (a : Bool) (x y : A) → f (cond a x y) ≡ cond a (f x) (f y)
+  cond-into f true x y = refl
+  cond-into f false x y = refl
+
+-- tests of two numbers, as cases
+pub lt-or-le : (a b : ℕ) → (a < b) ⊎ (b ≤ a)
+lt-or-le a b = by (ltb a b) refl
+  where
+    by : (t : Bool) → ltb a b ≡ t → (a < b) ⊎ (b ≤ a)
+    by true e = inl (ltb-true a b e)
+    by false e = inr (ltb-false a b e)
+
+pub same-or-other : (a b : ℕ) → (a ≡ b) ⊎ (a ≡ b → ⊥)
+same-or-other a b = by (eqb a b) refl
+  where
+    by : (t : Bool) → eqb a b ≡ t → (a ≡ b) ⊎ (a ≡ b → ⊥)
+    by true e = inl (eqb-true a b e)
+    by false e = inr (eqb-false a b e)
+
+-- a number below `suc n` is below n, or n
+pub below-or-last : (k n : ℕ) → k < suc n → (k < n) ⊎ (k ≡ n)
+below-or-last k n h = by (ltb k n) refl
+  where
+    by : (t : Bool) → ltb k n ≡ t → (k < n) ⊎ (k ≡ n)
+    by true e = inl (ltb-true k n e)
+    by false e = let l = ltb-false k n e in inr (omega arith)

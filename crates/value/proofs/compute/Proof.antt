@@ -1,0 +1,143 @@
+-- `value::compute` meets its contract: by the kind, one operation on two numbers of 32 bits, whose result fits 64 bits.
+-- Assumes nothing.
+use borrow.Author.Needs.{needs}
+use borrow.Author.Tests.{ne-eqb}
+use mathlib.Core.Bool.{cond}
+use mathlib.Core.Path.{_≡_, _∙_, ap}
+use native.Mathlib.Nat.{pos-of-ne-zero}
+use lib.IntN.{ℤ, _+ℤ_, _-ℤ_, _*ℤ_}
+use lib.Signed.{quotZ, remZ}
+use mir.Syntax.{w64}
+use mir.Val.{SFits, toZ, ofZ}
+use mir.Facts.{toZ-ofZ, sfits-toZ}
+use Rattle.value.specs.declared.Value.{Value}
+use Rattle.value.specs.declared.Value.the-variants.{Absent}
+use Rattle.value.specs.Values.{signed, fit, isZero}
+use Rattle.value.proofs.Words.{zero-divisor, divisor}
+use Rattle.value.proofs.Bounds.{add-fits, sub-fits, mul-fits, quot-fits, rem-fits, whole}
+use Rattle.value.proofs.compute.Statement.{statement}
+use Rattle.value.proofs.compute.Tie as tie
+
+-- an operation's result on the words' numbers fits
+abbrev Fits : tie.After-number2 → (ℤ → ℤ → ℤ) → Type 0
+Fits c op = SFits w64 (op (signed (c .before .before .args .a)) (signed (c .before .before .args .b)))
+
+sum : (c : tie.After-number2) → Fits c _+ℤ_
+sum c = add-fits (c .before .before .fits .a) (c .before .before .fits .b)
+
+difference : (c : tie.After-number2) → Fits c _-ℤ_
+difference c = sub-fits (c .before .before .fits .a) (c .before .before .fits .b)
+
+product : (c : tie.After-number2) → Fits c _*ℤ_
+product c = mul-fits (c .before .before .fits .a) (c .before .before .fits .b)
+
+quotient : (c : tie.After-number2) → Fits c quotZ
+quotient c = quot-fits (c .before .before .fits .a) (c .before .before .fits .b)
+
+remainder : (c : tie.After-number2) → Fits c remZ
+remainder c = rem-fits (c .before .before .fits .a) (c .before .before .fits .b)
+
+-- so does its result on the numbers as they are read back, and what `fitted` is handed is the first
+read : (c : tie.After-number2) (op : ℤ → ℤ → ℤ) → Fits c op → SFits w64 (op (toZ w64 (ofZ w64 (c .before .number .result))) (toZ w64 (ofZ w64 (c .number2 .result))))
+read c op h = rw (whole (c .before .before .fits .a) (c .before .number .ensures), whole (c .before .before .fits .b) (c .number2 .ensures)) h
+
+handed : (c : tie.After-number2) (op : ℤ → ℤ → ℤ) → Fits c op
+    → fit (toZ w64 (ofZ w64 (op (toZ w64 (ofZ w64 (c .before .number .result))) (toZ w64 (ofZ w64 (c .number2 .result))))))
+    ≡ fit (op (signed (c .before .before .args .a)) (signed (c .before .before .args .b)))
+handed c op h = rw (whole (c .before .before .fits .a) (c .before .number .ensures), whole (c .before .before .fits .b) (c .number2 .ensures)) (ap fit (toZ-ofZ h))
+
+-- the divisor's test
+by-zero : (c : tie.After-number2) → ofZ w64 (c .number2 .result) ≡ 0 → (v : Value) → Absent ≡ cond (isZero (signed (c .before .before .args .b))) Absent v
+by-zero c h = zero-divisor (sfits-toZ (c .before .before .fits .b)) (rw (c .number2 .ensures) at h)
+
+by-other : (c : tie.After-number2) → (ofZ w64 (c .number2 .result) ≡ 0 → ⊥) → (v : Value) → v ≡ cond (isZero (signed (c .before .before .args .b))) Absent v
+by-other c h = divisor (signed (c .before .before .args .b)) (rw (c .number2 .ensures) at h)
+
+number-requires : tie.Need-number-requires
+number-requires c κs = search needs
+
+number-requires-2 : tie.Need-number-requires-2
+number-requires-2 c κs = search needs
+
+add-fitted : tie.Need-add-fitted
+add-fitted c = read (c .before) _+ℤ_ (sum (c .before))
+
+fitted-requires : tie.Need-fitted-requires
+fitted-requires c κs = search needs
+
+sub-fitted : tie.Need-sub-fitted
+sub-fitted c = read (c .before) _-ℤ_ (difference (c .before))
+
+fitted-requires-2 : tie.Need-fitted-requires-2
+fitted-requires-2 c κs = search needs
+
+mul-fitted : tie.Need-mul-fitted
+mul-fitted c = read (c .before) _*ℤ_ (product (c .before))
+
+fitted-requires-3 : tie.Need-fitted-requires-3
+fitted-requires-3 c κs = search needs
+
+div-fitted : tie.Need-div-fitted
+div-fitted c = (pos-of-ne-zero (c .if1 .left), read (c .before .before) quotZ (quotient (c .before .before)))
+
+fitted-requires-4 : tie.Need-fitted-requires-4
+fitted-requires-4 c κs = search needs
+
+rem-fitted : tie.Need-rem-fitted
+rem-fitted c = (pos-of-ne-zero (c .if2 .left), read (c .before .before) quotZ (quotient (c .before .before)))
+
+fitted-requires-5 : tie.Need-fitted-requires-5
+fitted-requires-5 c κs = search needs
+
+returns : tie.Need-returns
+returns c = rw (c .before .match .keys1) (c .fitted .ensures ∙ handed (c .before .before) _+ℤ_ (sum (c .before .before)))
+
+returns-2 : tie.Need-returns-2
+returns-2 c = rw (c .before .match .keys2) (c .fitted2 .ensures ∙ handed (c .before .before) _-ℤ_ (difference (c .before .before)))
+
+returns-3 : tie.Need-returns-3
+returns-3 c = rw (c .before .match .keys3) (c .fitted3 .ensures ∙ handed (c .before .before) _*ℤ_ (product (c .before .before)))
+
+returns-4 : tie.Need-returns-4
+returns-4 c = rw (c .before .match .keys4) (by-zero (c .before .before) (c .if1 .taken) _)
+
+returns-5 : tie.Need-returns-5
+returns-5 c =
+    let n = c .before .before .before in
+    rw (c .before .before .match .keys4) (c .fitted4 .ensures ∙ handed n quotZ (quotient n) ∙ by-other n (c .before .if1 .left) _)
+
+returns-6 : tie.Need-returns-6
+returns-6 c = rw (c .before .match .keys5) (by-zero (c .before .before) (c .if2 .taken) _)
+
+returns-7 : tie.Need-returns-7
+returns-7 c =
+    let n = c .before .before .before in
+    rw (c .before .before .match .keys5) (c .fitted5 .ensures ∙ handed n remZ (remainder n) ∙ by-other n (c .before .if2 .left) _)
+
+returns-8 : tie.Need-returns-8
+returns-8 c = let r = c .match .rest in simp (ne-eqb _ _ (r .0 .0 .0 .0 .1), ne-eqb _ _ (r .0 .0 .0 .1), ne-eqb _ _ (r .0 .0 .1), ne-eqb _ _ (r .0 .1), ne-eqb _ _ (r .1))
+
+pub compute-spec : {M : Type 1} → statement M
+compute-spec =
+    tie.close
+    (tie.spec
+    number-requires
+    number-requires-2
+    add-fitted
+    fitted-requires
+    sub-fitted
+    fitted-requires-2
+    mul-fitted
+    fitted-requires-3
+    div-fitted
+    fitted-requires-4
+    rem-fitted
+    fitted-requires-5
+    returns
+    returns-2
+    returns-3
+    returns-4
+    returns-5
+    returns-6
+    returns-7
+    returns-8)

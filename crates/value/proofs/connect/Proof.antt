@@ -1,0 +1,20 @@
+-- `value::connect` meets its contract: the kind picks the case.
+-- Assumes nothing.
+use borrow.Author.Tests.{ne-eqb}
+use Rattle.value.proofs.connect.Statement.{statement}
+use Rattle.value.proofs.connect.Tie as tie
+
+returns : tie.Need-returns
+returns c = rw (c .before .before .match .keys1)
+
+returns-2 : tie.Need-returns-2
+returns-2 c = rw (c .before .before .before .before .match .keys2)
+
+returns-3 : tie.Need-returns-3
+returns-3 c = rw (c .before .before .before .before .match .keys3)
+
+returns-4 : tie.Need-returns-4
+returns-4 c = let r = c .match .rest in simp (ne-eqb _ _ (r .0 .0 .1), ne-eqb _ _ (r .0 .1), ne-eqb _ _ (r .1))
+
+pub connect-spec : {M : Type 1} → statement M
+connect-spec = tie.close (tie.spec returns returns-2 returns-3 returns-4)
