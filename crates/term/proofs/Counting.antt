@@ -9,13 +9,14 @@ use mathlib.Core.List.{List, [], _∷_, _++_, map}
 use native.Mathlib.Nat.{zero-add, zero-mul, mul-zero}
 use native.Mathlib.Omega.{arith}
 use lib.Dec.{ltb}
-use lib.ListN.{length, getElem?, length-append, length-map}
+use lib.ListN.{length, getD, getElem?, length-append, length-map}
 use borrow.Author.Tests.{lt-ltb, ltb-true, ltb-false}
+use Rattle.basis.proofs.Lists.{nth-in, nth-past}
 use Rattle.term.specs.declared.Mode.{Mode}
 use Rattle.term.specs.declared.Mode.the-variants.{Any, Actions, Ticks}
-use Rattle.term.specs.Terms.{Term}
+use Rattle.term.specs.Terms.{Term, Idle}
 use Rattle.term.specs.Processes.{Process, idle, tick, act, choice, guarded, call, seq, par}
-use Rattle.term.specs.Processes.{Label, Derivation, derivations, keep, isTick, isAction, labelTicks}
+use Rattle.term.specs.Processes.{Label, ticks, Derivation, derivation, derivations, keep, isTick, isAction, labelTicks}
 use Rattle.term.specs.Processes.{under, before, besideRight, besideLeft, join, joins}
 use Rattle.term.specs.Choices.{tickCount, actionCount, wanted, choices, count, actionsOf, mapped, split, pairs, select}
 use Rattle.term.specs.Exposure.{canTick}
@@ -255,6 +256,15 @@ select-choices (par P p Q q) m =
 -- choice c is derivation c
 pub select-any : (P : Process) (c : ℕ) → select Any P c ≡ getElem? (derivations P) c
 select-any P c = rw (select-choices P Any, choices-any)
+
+-- there is a choice for each number below the count, and no other
+pub select-some : (P : Process) (m : Mode) (c : ℕ) → c < count m P → (d : Derivation) × (select m P c ≡ some d)
+select-some P m c h =
+    let x : Derivation = derivation ticks [] Idle in
+    (getD (choices m P) c x, rw (select-choices P m) (nth-in (choices m P) c x (rw (length-choices P m) h)))
+
+pub select-none : (P : Process) (m : Mode) (c : ℕ) → count m P ≤ c → select m P c ≡ none
+select-none P m c h = rw (select-choices P m) (nth-past (choices m P) c (rw (length-choices P m) h))
 
 -- A process can tick if it has a tick.
 
