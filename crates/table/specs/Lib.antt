@@ -2,3 +2,4 @@ pub mod Checks
 pub mod Tables
 pub mod Nodes
 pub mod Reach
+pub mod Sound

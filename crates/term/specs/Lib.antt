@@ -1,4 +1,5 @@
 pub mod Terms
 pub mod Processes
+pub mod Choices
 pub mod Exposure
 pub mod Acceptance

@@ -1,0 +1,32 @@
+-- What checks 1 to 5 leave of a table: sizes within limits, lists of the right lengths, no bad node, no wrong key.
+use Prim.Native.Nat.{ℕ, _*_, _<_, _≤_}
+use mathlib.Core.Path.{_≡_}
+use mathlib.Core.Bool.{false}
+use lib.ListN.{length}
+use Rattle.table.specs.declared.Sizes.{Sizes}
+use Rattle.table.specs.Tables.{Table, rootsOf}
+use Rattle.table.specs.Nodes.{badNode}
+use Rattle.table.specs.Reach.{wrongKey}
+
+pub record Limits (n : Sizes) : Type 0 where
+  pub some-node : 1 ≤ n .nodes
+  pub nodes : n .nodes ≤ 4096
+  pub definitions : n .definitions ≤ 64
+  pub some-agent : 1 ≤ n .agents
+  pub agents : n .agents ≤ 32
+  pub attributes : n .attributes ≤ 16
+  pub stigmergy : n .stigmergy ≤ 16
+  pub environment : n .environment ≤ 16
+  pub roots : rootsOf n ≤ n .nodes
+
+-- 1 to 3 have passed
+pub record Shaped (t : Table) : Type 0 where
+  pub limits : Limits (t .sizes)
+  pub kinds : length (t .kinds) ≡ t .sizes .nodes
+  pub operands : length (t .operands) ≡ 4 * t .sizes .nodes
+
+-- and 4 and 5
+pub record Sound (t : Table) : Type 0 where
+  pub shaped : Shaped t
+  pub nodes : (n : ℕ) → n < t .sizes .nodes → badNode t n ≡ false
+  pub keys : (n : ℕ) → n < t .sizes .nodes → wrongKey t n ≡ false
