@@ -1,3 +1,4 @@
 pub mod Examples
+pub mod Moves
 pub mod Expressions
 pub mod Passing
