@@ -2,3 +2,4 @@ pub mod Examples
 pub mod Moves
 pub mod Expressions
 pub mod Passing
+pub mod Reading
