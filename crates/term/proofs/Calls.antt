@@ -16,13 +16,10 @@ use Rattle.term.specs.Terms.{Term, Node}
 use Rattle.term.specs.Processes.{Process, idle, tick, act, choice, guarded, call, seq, par}
 use Rattle.term.specs.Processes.{Derivation, derivations, keep, isTick, isAction, under, before, joins}
 use Rattle.term.specs.Processes.{byKind, nodeStep, nodeWith, defined, nodeProcess}
-use Rattle.term.specs.Exposure.{canTick, callsBelow, body, badCall}
+use Rattle.term.specs.Exposure.{canTick, callsBelow, body}
+use Rattle.term.specs.Accepted.{CallsLower}
 use Rattle.term.proofs.Counting.{no-ticks, same-tick}
 use Rattle.term.proofs.Opened.{Lower, process-opened}
-
--- what refusal 6 leaves
-abbrev pub CallsLower : Table → Type 0
-CallsLower t = (d : ℕ) → d < t .sizes .definitions → badCall t d ≡ false
 
 -- P has the derivations of R where its exposed calls are below d, and then so are R's
 abbrev Like : ℕ → Process → Process → Type 0
