@@ -3,3 +3,4 @@ pub mod Moves
 pub mod Expressions
 pub mod Passing
 pub mod Reading
+pub mod Offers
