@@ -1,12 +1,12 @@
 -- The checks pass exactly where the table is accepted; what may be relied on then.
 -- Assumes nothing.
 use Prim.Native.Nat.{ℕ, zero, suc, _+_, _*_, _<_, _≤_}
-use mathlib.Core.Bool.{Bool, true, false, not, _&&_, _||_}
-use mathlib.Core.Logic.{_↔_, ⊎-elim}
-use mathlib.Core.Path.{_≡_, refl, sym, ap, _∙_}
+use mathlib.Core.Bool.{true, false, not, _||_}
+use mathlib.Core.Logic.{⊎-elim}
+use mathlib.Core.Path.{_≡_, refl, ap, _∙_}
 use mathlib.Core.List.{List, [], _∷_, _++_}
 use native.Mathlib.Omega.{arith}
-use lib.Dec.{ltb, leb, eqb}
+use lib.Dec.{ltb, eqb}
 use lib.ListN.{length, getD, List·getD-eq-default}
 use borrow.Author.Tests.{ltb-false, leb-false, eqb-true, le-ltb, eq-eqb, not-false}
 use Rattle.basis.proofs.Tests.{either, or-neither, lt-or-le}
@@ -90,11 +90,11 @@ module _ (bytes : List ℕ) (stateLength scratchLength : ℕ) where
         ),
       )
 
-module _ (t : Table) where
-  few-idle : few idle ≡ true
-  unfolding derivations
-  few-idle = refl
+few-idle : few idle ≡ true
+unfolding derivations
+few-idle = refl
 
+module _ (t : Table) where
   -- a node of no process kind has no derivations
   pub no-process : (n : ℕ) → isProcess (kindAt t n) ≡ false → nodeProcess t n ≡ idle
   no-process n e =
@@ -107,20 +107,20 @@ module _ (t : Table) where
   -- no node has over 65,535 derivations
   pub nodes-few : Checked t → (n : ℕ) → few (nodeProcess t n) ≡ true
   nodes-few c n =
-      ⊎-elim (λ (e : isProcess (kindAt t n) ≡ true). ⊎-elim (process n e) (root n) (lt-or-le n (firstRoot t)))
+      ⊎-elim (λ (e : isProcess (kindAt t n) ≡ true). ⊎-elim (process e) root (lt-or-le n (firstRoot t)))
       (λ (e : isProcess (kindAt t n) ≡ false). ap (λ P. few P) (no-process n e) ∙ few-idle)
       (either (isProcess (kindAt t n)))
     where
-      root : (n : ℕ) → firstRoot t ≤ n → few (nodeProcess t n) ≡ true
-      root n l = ap (λ P. few P) (process-out t n l) ∙ few-idle
+      root : firstRoot t ≤ n → few (nodeProcess t n) ≡ true
+      root l = ap (λ P. few P) (process-out t n l) ∙ few-idle
 
-      process : (n : ℕ) → isProcess (kindAt t n) ≡ true → n < firstRoot t → few (nodeProcess t n) ≡ true
-      process n e l = not-false (few (nodeProcess t n)) (rw e at (c .nodes n (omega arith)))
+      process : isProcess (kindAt t n) ≡ true → n < firstRoot t → few (nodeProcess t n) ≡ true
+      process e l = not-false (few (nodeProcess t n)) (rw e at (c .nodes n (omega arith)))
 
-  -- the derivations of node n, of kind k: those of a call are its body's
   abbrev Forms : ℕ → List Process
   Forms n = byKind (λ d. nodeProcess t (bodyAt t d)) (nodeProcess t) n (pAt t n) (qAt t n)
 
+  -- the derivations of node n, of kind k: those of a call are its body's
   pub node-derivations : Checked t → (n k : ℕ) → kindAt t n ≡ k
       → derivations (nodeProcess t n) ≡ derivations (getD (byKind (λ d. nodeProcess t (bodyAt t d)) (nodeProcess t) n (pAt t n) (qAt t n)) k idle)
   unfolding derivations

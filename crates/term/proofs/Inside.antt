@@ -3,7 +3,7 @@
 -- Assumes nothing.
 use Prim.Native.Nat.{ℕ, zero, suc, _<_, _≤_}
 use mathlib.Core.Bool.{Bool, true, false}
-use mathlib.Core.Path.{_≡_, refl, subst}
+use mathlib.Core.Path.{_≡_, refl}
 use mathlib.Core.List.{List, [], _∷_, _++_, map}
 use native.Mathlib.Omega.{arith}
 use lib.ListN.{getD}
@@ -12,7 +12,7 @@ use Rattle.basis.proofs.Below.{below-induct}
 use Rattle.table.specs.Tables.{Table, kindAt, pAt, qAt, firstRoot, bodyAt}
 use Rattle.table.specs.Sound.{Sound}
 use Rattle.table.proofs.Operands.{LowerProcess, LowerGuard}
-use Rattle.table.proofs.Promises.{sequence-operands, choice-operands, guarded-operands, parallel-operands}
+use Rattle.table.proofs.Promises.{sequence-operands, guarded-operands, parallel-operands}
 use Rattle.term.specs.Terms.{Term, Seq, Par, Tick, Idle, Node}
 use Rattle.term.specs.Processes.{Process, idle, tick, act, choice, guarded, call, seq, par, Label, ticks, acts}
 use Rattle.term.specs.Processes.{Derivation, derivations, keep, isTick, isAction, under, before, besideRight, besideLeft, join, joins}
