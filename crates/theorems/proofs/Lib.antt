@@ -1,2 +1,3 @@
 pub mod Moves
 pub mod Expressions
+pub mod Keys
