@@ -1,28 +1,25 @@
 -- Where each definition exposes calls of lower ones only, a call has the derivations of its definition's body.
 -- Assumes nothing.
 use Prim.Native.Nat.{ℕ, zero, suc, _<_, _≤_}
-use mathlib.Core.Bool.{Bool, true, false, not, _&&_, _||_}
+use mathlib.Core.Bool.{Bool, true, false, not, _||_}
 use mathlib.Core.Path.{_≡_, refl, sym, ap, ap₂, _∙_}
-use mathlib.Core.List.{List, [], _∷_, _++_, map}
+use mathlib.Core.List.{List, _++_, map}
 use native.Mathlib.Omega.{arith}
 use lib.Dec.{eqb}
 use lib.ListN.{getD}
 use borrow.Author.Tests.{ltb-true, not-false}
 use Rattle.basis.specs.Below.{below}
-use Rattle.basis.proofs.Below.{below-at, below-same}
+use Rattle.basis.proofs.Below.{below-at}
 use Rattle.basis.proofs.Tests.{not-both, and-left, and-right, and-both}
 use Rattle.table.specs.Tables.{Table, kindAt, pAt, qAt, firstRoot, bodyAt}
 use Rattle.term.specs.Terms.{Term, Node}
-use Rattle.term.specs.Processes.{Process, idle, tick, act, choice, guarded, call, seq, par}
+use Rattle.term.specs.Processes.{Process, idle, choice, guarded, call, seq, par}
 use Rattle.term.specs.Processes.{Derivation, derivations, keep, isTick, isAction, under, before, joins}
 use Rattle.term.specs.Processes.{byKind, nodeStep, nodeWith, defined, nodeProcess}
-use Rattle.term.specs.Exposure.{canTick, callsBelow, body, badCall}
+use Rattle.term.specs.Exposure.{canTick, callsBelow, body}
+use Rattle.term.specs.Accepted.{CallsLower}
 use Rattle.term.proofs.Counting.{no-ticks, same-tick}
-use Rattle.term.proofs.Opened.{Lower, process-opened}
-
--- what refusal 6 leaves
-abbrev pub CallsLower : Table → Type 0
-CallsLower t = (d : ℕ) → d < t .sizes .definitions → badCall t d ≡ false
+use Rattle.term.proofs.Opened.{process-opened}
 
 -- P has the derivations of R where its exposed calls are below d, and then so are R's
 abbrev Like : ℕ → Process → Process → Type 0

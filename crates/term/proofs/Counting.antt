@@ -3,12 +3,12 @@
 use Prim.Native.Nat.{ℕ, zero, suc, _+_, _*_, _<_, _≤_, zero-le}
 use mathlib.Core.Bool.{Bool, true, false, not, _&&_, _||_}
 use mathlib.Core.Logic.{_↔_}
-use mathlib.Core.Option.{Option, none, some}
+use mathlib.Core.Option.{none, some}
 use mathlib.Core.Path.{_≡_, refl, sym, ap, ap₂, _∙_, fun-ext}
 use mathlib.Core.List.{List, [], _∷_, _++_, map}
 use native.Mathlib.Nat.{zero-add, zero-mul, mul-zero}
 use native.Mathlib.Omega.{arith}
-use lib.Dec.{ltb}
+use lib.Dec.{ltb, leb}
 use lib.ListN.{length, getD, getElem?, length-append, length-map}
 use borrow.Author.Tests.{lt-ltb, ltb-true, ltb-false}
 use Rattle.basis.proofs.Lists.{nth-in, nth-past}
@@ -16,7 +16,7 @@ use Rattle.term.specs.declared.Mode.{Mode}
 use Rattle.term.specs.declared.Mode.the-variants.{Any, Actions, Ticks}
 use Rattle.term.specs.Terms.{Term, Idle}
 use Rattle.term.specs.Processes.{Process, idle, tick, act, choice, guarded, call, seq, par}
-use Rattle.term.specs.Processes.{Label, ticks, Derivation, derivation, derivations, keep, isTick, isAction, labelTicks}
+use Rattle.term.specs.Processes.{Label, ticks, Derivation, derivation, derivations, few, keep, isTick, isAction, labelTicks}
 use Rattle.term.specs.Processes.{under, before, besideRight, besideLeft, join, joins}
 use Rattle.term.specs.Choices.{tickCount, actionCount, wanted, choices, count, actionsOf, mapped, split, pairs, select}
 use Rattle.term.specs.Exposure.{canTick}
@@ -192,6 +192,9 @@ choices-any P = keep-all (derivations P)
 
 pub length-derivations : (P : Process) → length (derivations P) ≡ actionCount P + tickCount P
 length-derivations P = ap length (sym (choices-any P)) ∙ length-choices P Any
+
+pub few-count : (P : Process) → few P ≡ leb (actionCount P + tickCount P) 65535
+few-count P = rw (length-derivations P)
 
 -- What stands at a place of the list.
 

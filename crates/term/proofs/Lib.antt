@@ -1,6 +1,9 @@
+pub mod Each
 pub mod Lists
 pub mod Counting
 pub mod Words
 pub mod Opened
 pub mod Calls
 pub mod Members
+pub mod Inside
+pub mod Acceptance

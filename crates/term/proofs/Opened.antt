@@ -7,6 +7,8 @@ use lib.ListN.{getD}
 use Rattle.basis.specs.Below.{below}
 use Rattle.basis.proofs.Below.{below-at, below-out, below-same}
 use Rattle.table.specs.Tables.{Table, kindAt, pAt, qAt, firstRoot}
+use Rattle.table.specs.Sound.{Sound}
+use Rattle.table.proofs.Promises.{sequence-operands, choice-operands, guarded-operands, parallel-operands}
 use Rattle.term.specs.Terms.{Node}
 use Rattle.term.specs.Processes.{Process, idle, choice, guarded, seq, par, byKind, nodeStep, nodeWith, defined, nodeProcess}
 
@@ -51,6 +53,22 @@ module _ (t : Table) (calls : ℕ → Process) where
           ap₂ (λ (P Q : Process). par P (Node (pAt t n)) Q (Node (qAt t n))) (left (omega arith) (omega arith)) (right (omega arith) (omega arith))
       by (suc (suc (suc (suc (suc (suc (suc (suc (suc zero))))))))) e = refl
       by (suc (suc (suc (suc (suc (suc (suc (suc (suc (suc k)))))))))) e = refl
+
+-- as they are in a sound table
+pub sound-lower : (t : Table) → Sound t → (n : ℕ) → Lower t n
+sound-lower t s n a b = by (kindAt t n) refl a b
+  where
+    by : (k : ℕ) → kindAt t n ≡ k → 5 ≤ k → k ≤ 8 → (pAt t n < n) × (qAt t n < n)
+    by zero e a b = absurd (omega arith)
+    by (suc zero) e a b = absurd (omega arith)
+    by (suc (suc zero)) e a b = absurd (omega arith)
+    by (suc (suc (suc zero))) e a b = absurd (omega arith)
+    by (suc (suc (suc (suc zero)))) e a b = absurd (omega arith)
+    by (suc (suc (suc (suc (suc zero))))) e a b = let w = sequence-operands t s n e in (w .0 .0, w .1 .0)
+    by (suc (suc (suc (suc (suc (suc zero)))))) e a b = let w = choice-operands t s n e in (w .0 .0, w .1 .0)
+    by (suc (suc (suc (suc (suc (suc (suc zero))))))) e a b = let w = guarded-operands t s n e in (w .0 .0, w .1 .0)
+    by (suc (suc (suc (suc (suc (suc (suc (suc zero)))))))) e a b = let w = parallel-operands t s n e in (w .0 .0, w .1 .0)
+    by (suc (suc (suc (suc (suc (suc (suc (suc (suc k))))))))) e a b = absurd (omega arith)
 
 module _ (t : Table) (n : ℕ) where
   pub process-opened : (k : ℕ) → n < firstRoot t → Lower t n → kindAt t n ≡ k

@@ -1,15 +1,15 @@
 -- A term is read back from its words, and the words that are whole terms are those of a term over process nodes.
 -- Assumes nothing.
-use Prim.Native.Nat.{ℕ, zero, suc, _+_, _<_, _≤_}
+use Prim.Native.Nat.{ℕ, zero, suc, _<_, _≤_}
 use mathlib.Core.Bool.{Bool, true, false, cond, _&&_, _||_}
 use mathlib.Core.Logic.{_↔_, ⊎-elim}
 use mathlib.Core.Path.{_≡_, refl, sym, ap, ap₂, _∙_}
 use mathlib.Core.List.{List, [], _∷_, _++_, append-assoc, append-nil, append-cancel-left, head-eq-of-cons-eq}
 use native.Mathlib.Omega.{arith}
 use lib.Dec.{eqb, ltb}
-use lib.ListN.{length, getD, length-append}
+use lib.ListN.{length, getD}
 use borrow.Author.Tests.{eqb-true, ltb-true, lt-ltb, ne-eqb}
-use Rattle.basis.proofs.Tests.{not-both, or-either, and-left, and-right, and-both}
+use Rattle.basis.proofs.Tests.{not-both, or-either, and-left, and-right}
 use Rattle.table.specs.Tables.{Table, kindAt, firstRoot}
 use Rattle.table.specs.Nodes.{isProcess}
 use Rattle.term.specs.Terms.{Term, Seq, Par, Tick, Idle, Node, words, fronted, termsOf, termOf, isOperator, isLeaf, areTerms}

@@ -3,3 +3,4 @@ pub mod Processes
 pub mod Choices
 pub mod Exposure
 pub mod Acceptance
+pub mod Accepted

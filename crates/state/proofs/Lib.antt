@@ -1,0 +1,3 @@
+pub mod Places
+pub mod Frames
+pub mod Residuals

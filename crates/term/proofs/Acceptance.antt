@@ -1,0 +1,153 @@
+-- The checks pass exactly where the table is accepted; what may be relied on then.
+-- Assumes nothing.
+use Prim.Native.Nat.{ℕ, zero, suc, _+_, _*_, _<_, _≤_}
+use mathlib.Core.Bool.{true, false, not, _||_}
+use mathlib.Core.Logic.{⊎-elim}
+use mathlib.Core.Path.{_≡_, refl, ap, _∙_}
+use mathlib.Core.List.{List, [], _∷_, _++_}
+use native.Mathlib.Omega.{arith}
+use lib.Dec.{ltb, eqb}
+use lib.ListN.{length, getD, List·getD-eq-default}
+use borrow.Author.Tests.{ltb-false, leb-false, eqb-true, le-ltb, eq-eqb, not-false}
+use Rattle.basis.proofs.Tests.{either, or-neither, lt-or-le}
+use Rattle.table.specs.Checks.{Check, passes, firstOf}
+use Rattle.table.specs.Tables.{Table, sizesOf, withinLimits, tableOf, kindAt, pAt, qAt, firstRoot, bodyAt}
+use Rattle.table.specs.Nodes.{isProcess, badNode}
+use Rattle.table.specs.Reach.{wrongKey}
+use Rattle.table.specs.Sound.{Sound}
+use Rattle.table.proofs.Checks.{first-passes, first-both, refuseIf-passes, refuseIf-false, refuseAt-passes, refuseAt-none}
+use Rattle.table.proofs.Limits.{limits-within}
+use Rattle.table.proofs.Promises.{sound-table, root-kind, past-kind, call-operands}
+use Rattle.term.specs.Processes.{Process, idle, derivations, few, byKind, defined, nodeProcess}
+use Rattle.term.specs.Exposure.{badCall}
+use Rattle.term.specs.Acceptance.{stateWords, overfull, lengthChecks, contentChecks}
+use Rattle.term.specs.Accepted.{Checked, Accepted}
+use Rattle.term.proofs.Each.{Each}
+use Rattle.term.proofs.Opened.{sound-lower, process-opened, process-out}
+use Rattle.term.proofs.Calls.{call-same}
+
+-- checks in a row pass where each does
+each-passes : (cs : List Check) → firstOf cs ≡ passes → Each (λ c. c ≡ passes) cs
+each-passes [] e = tt
+each-passes (c ∷ cs) e = let w = first-passes c cs e in (w .0, each-passes cs (w .1))
+
+passes-each : (cs : List Check) → Each (λ c. c ≡ passes) cs → firstOf cs ≡ passes
+unfolding firstOf
+passes-each [] e = refl
+passes-each (c ∷ cs) e = first-both c cs (e .0) (passes-each cs (e .1))
+
+module _ (bytes : List ℕ) (stateLength scratchLength : ℕ) where
+  abbrev t : Table
+  t = tableOf bytes
+
+  abbrev N : ℕ
+  N = sizesOf bytes .nodes
+
+  abbrev checks : List Check
+  checks = lengthChecks bytes stateLength scratchLength ++ contentChecks t
+
+  pub passes-accepted : firstOf (lengthChecks bytes stateLength scratchLength ++ contentChecks (tableOf bytes)) ≡ passes → Accepted bytes stateLength scratchLength
+  passes-accepted e =
+      let c = each-passes checks e in
+      let limits = not-false (withinLimits (sizesOf bytes)) (refuseIf-passes 2 (not (withinLimits (sizesOf bytes))) (c .1 .0)) in
+      let size = eqb-true (length bytes) (12 + 5 * N) (not-false (eqb (length bytes) (12 + 5 * N)) (refuseIf-passes 3 (not (eqb (length bytes) (12 + 5 * N))) (c .1 .1 .0))) in
+      let lent = or-neither (not (eqb stateLength stateWords)) (ltb scratchLength (2 * N)) (refuseIf-passes 8 (not (eqb stateLength stateWords) || ltb scratchLength (2 * N)) (c .1 .1 .1 .0)) in
+      record {
+        size = size;
+        state = eqb-true stateLength stateWords (not-false (eqb stateLength stateWords) (lent .0));
+        scratch = ltb-false scratchLength (2 * N) (lent .1);
+        table =
+            record {
+              sound = sound-table bytes limits size (c .1 .1 .1 .1 .0) (c .1 .1 .1 .1 .1 .0);
+              calls = refuseAt-passes 6 (t .sizes .definitions) (badCall t) (c .1 .1 .1 .1 .1 .1 .0);
+              nodes = refuseAt-passes 7 N (overfull t) (c .1 .1 .1 .1 .1 .1 .1 .0);
+            };
+      }
+
+  pub accepted-passes : Accepted bytes stateLength scratchLength → firstOf (lengthChecks bytes stateLength scratchLength ++ contentChecks (tableOf bytes)) ≡ passes
+  accepted-passes a =
+      let s : Sound t = a .table .sound in
+      passes-each checks (
+        refuseIf-false 1 (ltb (length bytes) 12) (le-ltb (length bytes) 12 (omega (arith, a .size))),
+        (
+          refuseIf-false 2 (not (withinLimits (sizesOf bytes))) (ap not (limits-within (sizesOf bytes) (s .shaped .limits))),
+          (
+            refuseIf-false 3 (not (eqb (length bytes) (12 + 5 * N))) (ap not (eq-eqb (length bytes) (12 + 5 * N) (a .size))),
+            (
+              refuseIf-false 8 (not (eqb stateLength stateWords) || ltb scratchLength (2 * N)) (rw (eq-eqb stateLength stateWords (a .state), le-ltb scratchLength (2 * N) (a .scratch))),
+              (
+                refuseAt-none 4 N (badNode t) (s .nodes),
+                (
+                  refuseAt-none 5 N (wrongKey t) (s .keys),
+                  (
+                    refuseAt-none 6 (t .sizes .definitions) (badCall t) (a .table .calls),
+                    (refuseAt-none 7 N (overfull t) (a .table .nodes), tt),
+                  ),
+                ),
+              ),
+            ),
+          ),
+        ),
+      )
+
+few-idle : few idle ≡ true
+unfolding derivations
+few-idle = refl
+
+module _ (t : Table) where
+  -- a node of no process kind has no derivations
+  pub no-process : (n : ℕ) → isProcess (kindAt t n) ≡ false → nodeProcess t n ≡ idle
+  no-process n e =
+      let k : 9 < kindAt t n = leb-false (kindAt t n) 9 e in
+      ⊎-elim (λ (l : n < firstRoot t).
+      process-opened t n (kindAt t n) l (λ a b. absurd (omega arith)) refl ∙
+      List·getD-eq-default (byKind (defined t (t .sizes .definitions)) (nodeProcess t) n (pAt t n) (qAt t n)) idle {n = kindAt t n} (omega arith))
+      (λ (l : firstRoot t ≤ n). process-out t n l) (lt-or-le n (firstRoot t))
+
+  -- no node has over 65,535 derivations
+  pub nodes-few : Checked t → (n : ℕ) → few (nodeProcess t n) ≡ true
+  nodes-few c n =
+      ⊎-elim (λ (e : isProcess (kindAt t n) ≡ true). ⊎-elim (process e) root (lt-or-le n (firstRoot t)))
+      (λ (e : isProcess (kindAt t n) ≡ false). ap (λ P. few P) (no-process n e) ∙ few-idle)
+      (either (isProcess (kindAt t n)))
+    where
+      root : firstRoot t ≤ n → few (nodeProcess t n) ≡ true
+      root l = ap (λ P. few P) (process-out t n l) ∙ few-idle
+
+      process : isProcess (kindAt t n) ≡ true → n < firstRoot t → few (nodeProcess t n) ≡ true
+      process e l = not-false (few (nodeProcess t n)) (rw e at (c .nodes n (omega arith)))
+
+  abbrev Forms : ℕ → List Process
+  Forms n = byKind (λ d. nodeProcess t (bodyAt t d)) (nodeProcess t) n (pAt t n) (qAt t n)
+
+  -- the derivations of node n, of kind k: those of a call are its body's
+  pub node-derivations : Checked t → (n k : ℕ) → kindAt t n ≡ k
+      → derivations (nodeProcess t n) ≡ derivations (getD (byKind (λ d. nodeProcess t (bodyAt t d)) (nodeProcess t) n (pAt t n) (qAt t n)) k idle)
+  unfolding derivations
+  node-derivations c n k e =
+      ⊎-elim (λ (l : n < firstRoot t). ap derivations (process-opened t n k l (sound-lower t (c .sound) n) e) ∙ by k e)
+      (λ (l : firstRoot t ≤ n). ap derivations (process-out t n l) ∙ ⊎-elim (root l) past (lt-or-le n (t .sizes .nodes))) (lt-or-le n (firstRoot t))
+    where
+      root : firstRoot t ≤ n → n < t .sizes .nodes → derivations idle ≡ derivations (getD (Forms n) k idle)
+      root l h =
+          let f : 64 ≡ k = omega (arith, root-kind t (c .sound) n h l) in
+          ap (λ (x : ℕ). derivations (getD (Forms n) x idle)) f
+
+      past : t .sizes .nodes ≤ n → derivations idle ≡ derivations (getD (Forms n) k idle)
+      past h =
+          let f : 0 ≡ k = omega (arith, past-kind t (c .sound) n h) in
+          ap (λ (x : ℕ). derivations (getD (Forms n) x idle)) f
+
+      by : (k : ℕ) → kindAt t n ≡ k
+          → derivations (getD (byKind (defined t (t .sizes .definitions)) (nodeProcess t) n (pAt t n) (qAt t n)) k idle) ≡ derivations (getD (Forms n) k idle)
+      by zero e = refl
+      by (suc zero) e = refl
+      by (suc (suc zero)) e = refl
+      by (suc (suc (suc zero))) e = refl
+      by (suc (suc (suc (suc zero)))) e = refl
+      by (suc (suc (suc (suc (suc zero))))) e = refl
+      by (suc (suc (suc (suc (suc (suc zero)))))) e = refl
+      by (suc (suc (suc (suc (suc (suc (suc zero))))))) e = refl
+      by (suc (suc (suc (suc (suc (suc (suc (suc zero)))))))) e = refl
+      by (suc (suc (suc (suc (suc (suc (suc (suc (suc zero))))))))) e = call-same t (c .calls) (pAt t n) (call-operands t (c .sound) n e .0)
+      by (suc (suc (suc (suc (suc (suc (suc (suc (suc (suc k)))))))))) e = refl
