@@ -1,3 +1,4 @@
 pub mod Moves
 pub mod Expressions
 pub mod Keys
+pub mod Actions
