@@ -1,4 +1,7 @@
+pub mod Examples
 pub mod Moves
 pub mod Expressions
 pub mod Keys
 pub mod Actions
+pub mod Passing
+pub mod Reading

@@ -1,1 +1,1 @@
-// The theorems: the machine against the published rules and against agreement. Proofs only; the crate has no functions.
+// Theorems on the definitions: demands 2 and 3, and the rehearsed examples. There is no code here.

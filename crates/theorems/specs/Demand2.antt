@@ -1,0 +1,73 @@
+-- Demand 2: a step is done exactly when a rule of LAbS and the paper's limits allow it, and the state after it is the one that they give.
+use Prim.Native.Nat.{ℕ, _^_, _≤_, _<_}
+use mathlib.Core.Bool.{Bool, true}
+use mathlib.Core.Path.{_≡_}
+use mathlib.Core.Logic.{_↔_}
+use mathlib.Core.Option.{some}
+use mathlib.Core.List.{List, List·Memᴰ}
+use lib.ListN.{length, getD, getElem?}
+use Rattle.basis.specs.Numbers.{howMany}
+use Rattle.table.specs.Checks.{passes, firstOf}
+use Rattle.table.specs.Tables.{Table, tableOf}
+use Rattle.term.specs.Terms.{Term, words}
+use Rattle.term.specs.Processes.{Derivation, derivations, process, allFew}
+use Rattle.term.specs.Acceptance.{stateWords}
+use Rattle.state.specs.Layout.{residualWords}
+use Rattle.state.specs.WellFormed.{wellFormed}
+use Rattle.machine.specs.Steps.{Outcome, stateChecks, stepOf}
+use Rattle.labs.specs.Agents.{System}
+use Rattle.labs.specs.Processes.{Moves}
+use Rattle.labs.specs.Systems.{Acted, Passed, put, qry}
+use Rattle.labs.specs.Reading.{systemOf}
+
+-- The step (kind, agent, number) may take S to S′, and this many agents take an entry: a rule gives it, and so do the limits,
+-- 65,535 derivations of every subterm, the clock and 63 words
+pub data Allowed (t : Table) (S S′ : System) : ℕ → ℕ → ℕ → ℕ → Type 0 where
+  act : {x c : ℕ} {d : Derivation} → Acted t (t .sizes .agents) x d S S′ → getElem? (derivations (process t (S .agent x .P))) c ≡ some d →
+      allFew t (S .agent x .P) ≡ true → S′ .clock ≤ 65535 → length (words (d .leaving)) ≤ residualWords → Allowed t S S′ 0 x c 0
+  propagate : {x k : ℕ} {took : ℕ → Bool} → k < t .sizes .stigmergy → Passed t (t .sizes .agents) x put k took S S′ →
+      Allowed t S S′ 1 x k (howMany took (t .sizes .agents))
+  confirm : {x k : ℕ} {took : ℕ → Bool} → k < t .sizes .stigmergy → Passed t (t .sizes .agents) x qry k took S S′ →
+      Allowed t S S′ 2 x k (howMany took (t .sizes .agents))
+
+abbrev pub done : ℕ → List ℕ → Outcome
+done taken s = record { check = passes; taken = taken; state = s }
+
+-- numbers of a width, as slices hold them
+abbrev pub Bytes : List ℕ → Type 0
+Bytes l = (i : ℕ) → getD l i 0 < 256
+
+-- 4,194 words of 32 bits that are well formed
+pub record State (t : Table) (s : List ℕ) : Type 0 where
+  pub whole : length s ≡ stateWords
+  pub narrow : (i : ℕ) → getD s i 0 < 2 ^ 32
+  pub formed : wellFormed t s ≡ true
+
+-- two systems with the same environment, clock and agents
+pub record Same (agents : ℕ) (S S′ : System) : Type 0 where
+  pub environment-same : S .E ≡ S′ .E
+  pub clock-same : S .clock ≡ S′ .clock
+  pub agents-same : (a : ℕ) → a < agents → S .agent a ≡ S′ .agent a
+
+-- an accepted table (with room for the scratch) and a well-formed state
+pub record Ready (bytes s : List ℕ) (scratch : ℕ) : Type 0 where
+  pub small : Bytes bytes
+  pub state : State (tableOf bytes) s
+  pub passed : firstOf (stateChecks bytes s scratch) ≡ passes
+
+pub record Demand-2 : Type 0 where
+  -- a step is done with these words exactly when they are a well-formed state, and the rules and limits allow the system that they stand for
+  pub exactly : (bytes s s′ : List ℕ) (scratch kind x number taken : ℕ) → Ready bytes s scratch →
+      (stepOf bytes s scratch kind x number ≡ done taken s′)
+      ↔ (State (tableOf bytes) s′ × Allowed (tableOf bytes) (systemOf s) (systemOf s′) kind x number taken)
+  -- whatever system the rules and limits allow, the step is done and leaves words that stand for it
+  pub every : (bytes s : List ℕ) (scratch kind x number taken : ℕ) → Ready bytes s scratch → (S′ : System) →
+      Allowed (tableOf bytes) (systemOf s) S′ kind x number taken →
+      (s′ : List ℕ) × (stepOf bytes s scratch kind x number ≡ done taken s′) × Same (tableOf bytes .sizes .agents) S′ (systemOf s′)
+  -- two well-formed states that stand for one system are the same words
+  pub one : (bytes s s′ : List ℕ) (scratch : ℕ) → Ready bytes s scratch → State (tableOf bytes) s′ →
+      Same (tableOf bytes .sizes .agents) (systemOf s) (systemOf s′) → s ≡ s′
+  -- an agent's derivations are the transitions that Table 3 derives
+  pub transitions : (bytes s : List ℕ) (scratch x : ℕ) → Ready bytes s scratch → x < tableOf bytes .sizes .agents → (d : Derivation) →
+      List·Memᴰ d (derivations (process (tableOf bytes) (systemOf s .agent x .P)))
+      ↔ Moves (tableOf bytes) (systemOf s .agent x .P) (d .label) (d .guards) (d .leaving)
