@@ -1,3 +1,5 @@
 pub mod Places
 pub mod Frames
 pub mod Residuals
+pub mod Formed
+pub mod Exact
