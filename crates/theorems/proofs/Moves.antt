@@ -1,25 +1,22 @@
 -- TABLE 3: the list of derivations has what the rules derive, and nothing else.
 -- Assumes nothing.
-use Prim.Native.Nat.{ℕ, zero, suc, _<_, _≤_}
-use mathlib.Core.Bool.{Bool, true, false, not}
-use mathlib.Core.Path.{_≡_, refl, sym, ap, subst, _∙_}
+use Prim.Native.Nat.{ℕ, zero, suc}
+use mathlib.Core.Bool.{true, not}
+use mathlib.Core.Path.{_≡_, refl, ap, _∙_}
 use mathlib.Core.List.{List, [], _∷_, _++_}
-use mathlib.Core.Logic.{_⊎_, inl, inr, ⊎-elim, _↔_}
+use mathlib.Core.Logic.{inl, inr, ⊎-elim, _↔_}
 use mathlib.Core.Option.{some}
-use native.Mathlib.Omega.{arith}
-use lib.ListN.{getD, getElem?, List·getD-eq-default}
+use lib.ListN.{getD, getElem?}
 use Rattle.basis.specs.Below.{below}
 use Rattle.basis.proofs.Below.{below-induct}
-use Rattle.basis.proofs.Tests.{not-both, lt-or-le}
+use Rattle.basis.proofs.Tests.{not-both}
 use Rattle.table.specs.Tables.{Table, kindAt, pAt, qAt, firstRoot, bodyAt}
-use Rattle.table.specs.Sound.{Sound}
-use Rattle.table.proofs.Promises.{sequence-operands, choice-operands, guarded-operands, parallel-operands, call-operands, kind-inside, kind-inner}
 use Rattle.term.specs.Terms.{Term, Seq, Par, Tick, Idle, Node}
 use Rattle.term.specs.Processes.{Process, idle, tick, act, choice, guarded, call, seq, par, Label, ticks, acts, labelTicks, isTick, isAction}
-use Rattle.term.specs.Processes.{Derivation, derivation, derivations, under, before, besideRight, besideLeft, join, byKind, nodeStep, nodeWith, defined, nodeProcess, process}
-use Rattle.term.proofs.Opened.{Lower, process-opened, process-out}
-use Rattle.term.proofs.Calls.{CallsLower, call-same}
-use Rattle.term.proofs.Members.{In, in-place, place-in, in-idle, in-tick, in-act, in-choice, in-guarded, in-call, in-seq, in-par, Changed, Acted, Joined}
+use Rattle.term.specs.Processes.{Derivation, derivation, derivations, join, byKind, nodeStep, nodeWith, defined, nodeProcess, process}
+use Rattle.term.specs.Accepted.{Checked}
+use Rattle.term.proofs.Acceptance.{node-derivations}
+use Rattle.term.proofs.Members.{In, in-place, place-in, in-idle, in-tick, in-act, in-choice, in-guarded, in-call, in-seq, in-par, Acted, Joined}
 use Rattle.labs.specs.Processes.{Form, 𝟎, √, α, _⨾_, _⊹_, _∣_, _⇒_, K, forms, form, Moves}
 use Rattle.labs.specs.Processes.{TICK, ACT, CHOICE-L, CHOICE-R, SEQ₁, SEQ₂, CON, PAR₁, PAR₂, PAR₁-COMM, PAR₂-COMM, AWAIT}
 
@@ -132,7 +129,7 @@ module _ (t : Table) where
   moves-sound Idle = sound-idle Idle
   moves-sound (Node n) = sound-with (defined t (t .sizes .definitions)) (sound-defined (t .sizes .definitions)) n
 
--- THE LIST HAS ALL, over a table that checks 1 to 6 pass
+-- THE LIST HAS ALL, over an accepted table
 
 -- the process of each form, from those of its parts
 abbrev ofForm : Table → Form → Process
@@ -143,60 +140,29 @@ ofForm t (P ⨾ Q) = seq (process t P) (process t Q) Q
 ofForm t (P ⊹ Q) = choice (process t P) (process t Q)
 ofForm t (P ∣ Q) = par (process t P) P (process t Q) Q
 ofForm t (b ⇒ P) = guarded b (process t P)
-ofForm t (K d) = process t (Node (bodyAt t d))
+ofForm t (K d) = call d (process t (Node (bodyAt t d)))
 
-module _ (t : Table) (sound : Sound t) (low : CallsLower t) where
-  lower : (n : ℕ) → Lower t n
-  lower n h l = by (kindAt t n) refl h l
-    where
-      by : (k : ℕ) → kindAt t n ≡ k → 5 ≤ k → k ≤ 8 → (pAt t n < n) × (qAt t n < n)
-      by zero e a b = absurd (omega arith)
-      by (suc zero) e a b = absurd (omega arith)
-      by (suc (suc zero)) e a b = absurd (omega arith)
-      by (suc (suc (suc zero))) e a b = absurd (omega arith)
-      by (suc (suc (suc (suc zero)))) e a b = absurd (omega arith)
-      by (suc (suc (suc (suc (suc zero))))) e a b = let w = sequence-operands t sound n e in (w .0 .0, w .1 .0)
-      by (suc (suc (suc (suc (suc (suc zero)))))) e a b = let w = choice-operands t sound n e in (w .0 .0, w .1 .0)
-      by (suc (suc (suc (suc (suc (suc (suc zero))))))) e a b = let w = guarded-operands t sound n e in (w .0 .0, w .1 .0)
-      by (suc (suc (suc (suc (suc (suc (suc (suc zero)))))))) e a b = let w = parallel-operands t sound n e in (w .0 .0, w .1 .0)
-      by (suc (suc (suc (suc (suc (suc (suc (suc (suc k))))))))) e a b = absurd (omega arith)
-
-  -- a node before the roots, by its kind; from the roots on no node is a process
-  node-form : (n : ℕ) → n < firstRoot t → derivations (nodeProcess t n) ≡ derivations (ofForm t (form t (Node n)))
-  unfolding form process
-  node-form n h = ap derivations (process-opened t n (kindAt t n) h (lower n) refl) ∙ by (kindAt t n) refl
-    where
-      by : (k : ℕ) → kindAt t n ≡ k →
-          derivations (getD (byKind (defined t (t .sizes .definitions)) (nodeProcess t) n (pAt t n) (qAt t n)) k idle) ≡ derivations (ofForm t (getD (forms n (pAt t n) (qAt t n)) k 𝟎))
-      by zero e = refl
-      by (suc zero) e = refl
-      by (suc (suc zero)) e = refl
-      by (suc (suc (suc zero))) e = refl
-      by (suc (suc (suc (suc zero)))) e = refl
-      by (suc (suc (suc (suc (suc zero))))) e = refl
-      by (suc (suc (suc (suc (suc (suc zero)))))) e = refl
-      by (suc (suc (suc (suc (suc (suc (suc zero))))))) e = refl
-      by (suc (suc (suc (suc (suc (suc (suc (suc zero)))))))) e = refl
-      by (suc (suc (suc (suc (suc (suc (suc (suc (suc zero))))))))) e = call-same t low (pAt t n) (call-operands t sound n e .0)
-      by (suc (suc (suc (suc (suc (suc (suc (suc (suc (suc k)))))))))) e = refl
-
-  root-form : (n : ℕ) → firstRoot t ≤ n → derivations (nodeProcess t n) ≡ derivations (ofForm t (form t (Node n)))
-  unfolding form
-  root-form n h = ap derivations (process-out t n h) ∙ by (kindAt t n) refl
-    where
-      by : (k : ℕ) → kindAt t n ≡ k → derivations idle ≡ derivations (ofForm t (getD (forms n (pAt t n) (qAt t n)) k 𝟎))
-      by zero e = refl
-      by (suc k) e =
-          ⊎-elim (λ (u : k < 9). let i = kind-inner t sound n (kind-inside t sound n (omega arith)) (omega arith) in absurd (omega arith))
-          (λ (u : 9 ≤ k). rw (List·getD-eq-default (forms n (pAt t n) (qAt t n)) 𝟎 {n = suc k} (omega arith))) (lt-or-le k 9)
-
-  pub by-form : (R : Term) → derivations (process t R) ≡ derivations (ofForm t (form t R))
+module _ (t : Table) (ok : Checked t) where
+  by-form : (R : Term) → derivations (process t R) ≡ derivations (ofForm t (form t R))
   unfolding form process
   by-form (Seq P Q) = refl
   by-form (Par P Q) = refl
   by-form Tick = refl
   by-form Idle = refl
-  by-form (Node n) = ⊎-elim (node-form n) (root-form n) (lt-or-le n (firstRoot t))
+  by-form (Node n) = node-derivations t ok n (kindAt t n) refl ∙ ap derivations (by (kindAt t n))
+    where
+      by : (k : ℕ) → getD (byKind (λ d. nodeProcess t (bodyAt t d)) (nodeProcess t) n (pAt t n) (qAt t n)) k idle ≡ ofForm t (getD (forms n (pAt t n) (qAt t n)) k 𝟎)
+      by zero = refl
+      by (suc zero) = refl
+      by (suc (suc zero)) = refl
+      by (suc (suc (suc zero))) = refl
+      by (suc (suc (suc (suc zero)))) = refl
+      by (suc (suc (suc (suc (suc zero))))) = refl
+      by (suc (suc (suc (suc (suc (suc zero)))))) = refl
+      by (suc (suc (suc (suc (suc (suc (suc zero))))))) = refl
+      by (suc (suc (suc (suc (suc (suc (suc (suc zero)))))))) = refl
+      by (suc (suc (suc (suc (suc (suc (suc (suc (suc zero))))))))) = refl
+      by (suc (suc (suc (suc (suc (suc (suc (suc (suc (suc k)))))))))) = refl
 
   listed : (R : Term) (F : Form) → form t R ≡ F → {d : Derivation} → In d (derivations (ofForm t F)) → In d (derivations (process t R))
   listed R F e m = rw (by-form R, e) m
@@ -210,7 +176,7 @@ module _ (t : Table) (sound : Sound t) (low : CallsLower t) where
       listed R (P ⨾ Q) e (in-seq (process t P) (process t Q) Q .1 (inl (_, moves-complete m, refl, refl)))
   moves-complete (SEQ₂ {P = P} {Q = Q} {R = R} e m n) =
       listed R (P ⨾ Q) e (in-seq (process t P) (process t Q) Q .1 (inr (_, _, moves-complete m, refl, moves-complete n, refl)))
-  moves-complete (CON {R = R} {d = d} e m) = listed R (K d) e (moves-complete m)
+  moves-complete (CON {R = R} {d = d} e m) = listed R (K d) e (in-call d (process t (Node (bodyAt t d))) .1 (moves-complete m))
   moves-complete (PAR₁ {P = P} {Q = Q} {R = R} e m) =
       listed R (P ∣ Q) e (in-par (process t P) P (process t Q) Q .1 (inl (_, moves-complete m, refl, refl)))
   moves-complete (PAR₂ {P = P} {Q = Q} {R = R} e m n) =
