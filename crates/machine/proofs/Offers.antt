@@ -23,7 +23,7 @@ use Rattle.machine.specs.Offers.{takeEntry, takes, answers, offer, offer
 abbrev pub Elsewhere : ℕ → Place → Type 0
 Elsewhere y q = agentOf q ≡ y → kindOf q ≡ 0
 
-elsewhere : (q p : Place) → 0 < kindOf p → Elsewhere (agentOf p) q → same q p ≡ false
+pub elsewhere : (q p : Place) → 0 < kindOf p → Elsewhere (agentOf p) q → same q p ≡ false
 elsewhere q p h f = is-false (same q p) (λ e. let d = same-one q p e in omega (arith, ap kindOf d, f (ap agentOf d)))
 
 -- agent y takes an entry: the word that is then at q, given those before

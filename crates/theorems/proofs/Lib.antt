@@ -6,3 +6,5 @@ pub mod Actions
 pub mod Passing
 pub mod Reading
 pub mod Offers
+pub mod Demand2
+pub mod Instance

@@ -1,6 +1,6 @@
 -- The agents that a state's words stand for, after a change of the words.
 -- Assumes nothing.
-use Prim.Native.Nat.{ℕ, _<_, _≤_}
+use Prim.Native.Nat.{ℕ, zero, suc, _<_, _≤_}
 use mathlib.Core.Bool.{Bool, true, false, cond, not, _&&_, _||_, and-false}
 use mathlib.Core.Logic.{_⊎_, inl, inr, ⊎-elim}
 use mathlib.Core.Option.{Option, none, some}
@@ -33,12 +33,24 @@ entry v time = record { value = v; time = time }
 abbrev pub stamped : ℕ → ℕ → Option Entry
 stamped v stamp = cond (eqb stamp 0) none (some (entry v stamp))
 
+-- its stamp
+abbrev pub timeIn : Option Entry → ℕ
+timeIn none = 0
+timeIn (some e) = e .time
+
 module _ (s : List ℕ) (a k : ℕ) where
   pub entry-read : k < keyLimit → entryOf s a k ≡ stamped (wordOf s (Entries a) k) (stampOf s a k)
   entry-read l = rw (lt-ltb k keyLimit l)
 
   pub entry-present : k < keyLimit → 0 < stampOf s a k → entryOf s a k ≡ some (entry (wordOf s (Entries a) k) (stampOf s a k))
   entry-present l h = entry-read l ∙ rw (ne-eqb (stampOf s a k) 0 (omega arith))
+
+  pub entry-stamp : k < keyLimit → timeIn (entryOf s a k) ≡ stampOf s a k
+  entry-stamp l = ap timeIn (entry-read l) ∙ by (stampOf s a k)
+    where
+      by : (m : ℕ) → timeIn (stamped (wordOf s (Entries a) k) m) ≡ m
+      by zero = refl
+      by (suc m) = rw (ne-eqb (suc m) 0 (omega arith))
 
 -- EACH PART IS READ OFF ITS OWN WORDS
 module _ (s u : List ℕ) (a : ℕ) where
