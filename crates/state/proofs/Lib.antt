@@ -3,3 +3,5 @@ pub mod Frames
 pub mod Residuals
 pub mod Formed
 pub mod Exact
+pub mod Evaluation
+pub mod Load
