@@ -19,7 +19,7 @@ use Rattle.term.specs.Terms.{words}
 use Rattle.state.specs.declared.Store.{Store}
 use Rattle.state.specs.declared.Store.the-variants.{Environment, Attributes, Entries}
 use Rattle.state.specs.Layout.{keyLimit, residualWords, stampOf, zcOf, zpOf, valueIn, termIn}
-use Rattle.state.proofs.Places.{Waiting, confirms, propagates, waiting}
+use Rattle.state.proofs.Places.{KeySet, Zc, Zp, Waits}
 use Rattle.state.proofs.Frames.{wordAt}
 use Rattle.state.proofs.Formed.{WellFormed, There, well-formed-read}
 use Rattle.state.proofs.Exact.{ShowSame, show-exact}
@@ -72,7 +72,7 @@ module _ (bytes s : List ℕ) (scratch : ℕ) (ready : Ready bytes s scratch) wh
   formed : WellFormed t s
   formed = well-formed-read t limits s (ready .state .whole) (ready .state .formed)
 
-  pending : (z : Waiting) (x k : ℕ) → x < A → has (wordAt s (waiting z x)) k ≡ true → 0 < stampOf s x k
+  pending : (z : KeySet) (x k : ℕ) → x < A → has (wordAt s (Waits z x)) k ≡ true → 0 < stampOf s x k
   pending z x k l h = formed .formed .sets z x l .entered k h
 
   key : (k : ℕ) → k < t .sizes .stigmergy → k < keyLimit
@@ -85,11 +85,11 @@ module _ (bytes s : List ℕ) (scratch : ℕ) (ready : Ready bytes s scratch) wh
   after-allowed (suc zero) x k d =
       let l = d .range .key-below (omega arith) in
       let h = may-propagate t s x k .0 (d .own) in
-      propagate l (propagated-passed t s x k A (ready .state .whole) (limits .agents) (d .range .agent-below) (key k l) (pending propagates x k (d .range .agent-below) h) h)
+      propagate l (propagated-passed t s x k A (ready .state .whole) (limits .agents) (d .range .agent-below) (key k l) (pending Zp x k (d .range .agent-below) h) h)
   after-allowed (suc (suc zero)) x k d =
       let l = d .range .key-below (omega arith) in
       let h = may-confirm t s x k .0 (d .own) in
-      confirm l (confirmed-passed t s x k A (ready .state .whole) (limits .agents) (d .range .agent-below) (key k l) (pending confirms x k (d .range .agent-below) h) h)
+      confirm l (confirmed-passed t s x k A (ready .state .whole) (limits .agents) (d .range .agent-below) (key k l) (pending Zc x k (d .range .agent-below) h) h)
   after-allowed (suc (suc (suc kind))) x k d = absurd (omega (arith, d .range .kind-below))
 
   allowed : (s′ : List ℕ) (kind x number taken : ℕ) → stepOf bytes s scratch kind x number ≡ done taken s′ → Allowed t (systemOf s) (systemOf s′) kind x number taken
@@ -117,10 +117,10 @@ module _ (bytes s : List ℕ) (scratch : ℕ) (ready : Ready bytes s scratch) wh
   every : (kind x number taken : ℕ) (S′ : System) → Allowed t (systemOf s) S′ kind x number taken → Made kind x number taken S′
   every kind x number taken S′ (act {d = d} a chosen few clock short) = ?act-every
   every kind x k taken S′ (propagate l p) =
-      let w = passed-propagated t s x k A (ready .state .whole) (limits .agents) (key k l) (pending propagates x k (p .there)) p in
+      let w = passed-propagated t s x k A (ready .state .whole) (limits .agents) (key k l) (pending Zp x k (p .there)) p in
       made 1 x k taken S′ (in-range 1 x k (omega arith) (p .there) l) (may-propagate t s x k .1 (w .0)) (w .1) (w .2)
   every kind x k taken S′ (confirm l p) =
-      let w = passed-confirmed t s x k A (ready .state .whole) (limits .agents) (key k l) (pending confirms x k (p .there)) p in
+      let w = passed-confirmed t s x k A (ready .state .whole) (limits .agents) (key k l) (pending Zc x k (p .there)) p in
       made 2 x k taken S′ (in-range 2 x k (omega arith) (p .there) l) (may-confirm t s x k .1 (w .0)) (w .1) (w .2)
 
   -- ONE STATE FOR A SYSTEM
@@ -133,9 +133,9 @@ module _ (bytes s : List ℕ) (scratch : ℕ) (ready : Ready bytes s scratch) wh
     values (Attributes a) h k = ap (λ (b : Agent). b .I k) (agent a h)
     values (Entries a) h k = sym (entry-value u a k) ∙ ap (λ (b : Agent). valueOfEntry (b .L k)) (agent a h) ∙ entry-value v a k
 
-    sets : (z : Waiting) (a : ℕ) → a < A → (k : ℕ) → has (wordAt u (waiting z a)) k ≡ has (wordAt v (waiting z a)) k
-    sets confirms a l k = ap (λ (b : Agent). b .Zc k) (agent a l)
-    sets propagates a l k = ap (λ (b : Agent). b .Zp k) (agent a l)
+    sets : (z : KeySet) (a : ℕ) → a < A → (k : ℕ) → has (wordAt u (Waits z a)) k ≡ has (wordAt v (Waits z a)) k
+    sets Zc a l k = ap (λ (b : Agent). b .Zc k) (agent a l)
+    sets Zp a l k = ap (λ (b : Agent). b .Zp k) (agent a l)
 
     one : u ≡ v
     one = show-exact t u v (well-formed-read t limits u (first .whole) (first .formed)) (well-formed-read t limits v (second .whole) (second .formed))

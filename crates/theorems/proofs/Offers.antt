@@ -21,7 +21,7 @@ use Rattle.state.specs.declared.Store.the-variants.{Environment, Entries}
 use Rattle.state.specs.Layout.{keyLimit, clockOf, zcAt, zpAt, wordOf, stampOf, zcOf, zpOf, addKey, dropKey}
 use Rattle.state.specs.Layout.{put as putPair}
 use Rattle.state.specs.Evaluation.{linkHolds}
-use Rattle.state.proofs.Places.{Place, Waiting, confirms, propagates, clock, mark, value, waiting, placeAt, Inside}
+use Rattle.state.proofs.Places.{Place, KeySet, Zc, Zp, Clock, Mark, Word, Waits, placeAt, Inside}
 use Rattle.state.proofs.Frames.{put-length, drop-length, drop-other, value-same}
 use Rattle.machine.specs.Offers.{newer, takeEntry, hears, takes, answers, offer, offered, takers, propagated, confirmed}
 use Rattle.machine.proofs.Offers.{elsewhere, offer-length, offered-length, offer-other}
@@ -66,10 +66,10 @@ module _ (v m n : ℕ) where
       by true e h = add e
       by false e h = update e h
 
-abbrev kindOf : Bool → Kind
-kindOf asks = cond asks qry put
+abbrev sentKind : Bool → Kind
+sentKind asks = cond asks qry put
 
-asking : (asks : Bool) → kindOf asks ≡ qry → asks ≡ true
+asking : (asks : Bool) → sentKind asks ≡ qry → asks ≡ true
 asking true e = refl
 asking false e = let z : _≡_ {A = ℕ} 0 1 = cc in absurd (omega arith)
 
@@ -81,10 +81,10 @@ took-agent : (k v m y : ℕ) (s : List ℕ) → k < keyLimit → length s ≡ st
 unfolding takeEntry
 took-agent k v m y s key whole there pos =
     let p : length (putPair (Entries y) k v m s) ≡ stateWords = put-length (Entries y) k v m s ∙ whole in
-    add-zp-agent y k (dropKey (zcAt y) k (putPair (Entries y) k v m s)) (drop-length confirms y k (putPair (Entries y) k v m s) ∙ p) there
-    ∙ ap (λ (a : Agent). with propagates a (a .Zp ∪｛ k ｝))
+    add-zp-agent y k (dropKey (zcAt y) k (putPair (Entries y) k v m s)) (drop-length Zc y k (putPair (Entries y) k v m s) ∙ p) there
+    ∙ ap (λ (a : Agent). with Zp a (a .Zp ∪｛ k ｝))
     (drop-zc-agent y k (putPair (Entries y) k v m s) p there
-    ∙ ap (λ (a : Agent). with confirms a (a .Zc ∖｛ k ｝)) (put-agent y k v m s key whole there pos))
+    ∙ ap (λ (a : Agent). with Zc a (a .Zc ∖｛ k ｝)) (put-agent y k v m s key whole there pos))
 
 module _ (t : Table) (was : List ℕ) (x k agents : ℕ) (whole : length was ≡ stateWords) (few : agents ≤ 32) (there : x < agents) (key : k < keyLimit) (entered : 0 < stampOf was x k) where
   abbrev mine : Entry
@@ -127,10 +127,10 @@ module _ (t : Table) (was : List ℕ) (x k agents : ℕ) (whole : length was ≡
     environment-same : systemOf spread .E ≡ systemOf was .E
     environment-same = forEach-same turn (λ (u : List ℕ). systemOf u .E) agents
         (λ y l s. fun-ext λ j. value-same (turn y s) s Environment j
-        (λ i. offer-other t was x k asks key y s (mark Environment j) i (λ e. refl)) (λ i. offer-other t was x k asks key y s (value Environment j) i (λ e. refl))) was
+        (λ i. offer-other t was x k asks key y s (Mark Environment j) i (λ e. refl)) (λ i. offer-other t was x k asks key y s (Word Environment j) i (λ e. refl))) was
 
     clock-same : clockOf spread ≡ clockOf was
-    clock-same = forEach-same turn (λ (u : List ℕ). clockOf u) agents (λ y l s. offer-other t was x k asks key y s clock tt (λ e. refl)) was
+    clock-same = forEach-same turn (λ (u : List ℕ). clockOf u) agents (λ y l s. offer-other t was x k asks key y s Clock tt (λ e. refl)) was
 
     -- AN AGENT THAT HEARS
     module _ (y : ℕ) (below : y < agents) (other : y ≡ x → ⊥) where
@@ -147,22 +147,22 @@ module _ (t : Table) (was : List ℕ) (x k agents : ℕ) (whole : length was ≡
       turned = forEach-at turn (λ (u : List ℕ). agentOf u y) y agents below (λ z l d s. away y z d s) was
 
       abbrev Result : Bool → Agent → Type 0
-      Result b a = Hears t (systemOf was .E) (said (kindOf asks)) (agentOf was y) b a
+      Result b a = Hears t (systemOf was .E) (said (sentKind asks)) (agentOf was y) b a
 
       heard : hears t was x k y ≡ linkHolds t was k x y
       unfolding hears
       heard = rw (ne-eqb x y (λ (e : x ≡ y). other (sym e)))
 
-      linked : hears t was x k y ≡ true → Linked t (systemOf was .E) (said (kindOf asks)) (agentOf was y)
+      linked : hears t was x k y ≡ true → Linked t (systemOf was .E) (said (sentKind asks)) (agentOf was y)
       linked e = link-holds t was x y k .0 (sym heard ∙ e)
 
-      of-linked : Linked t (systemOf was .E) (said (kindOf asks)) (agentOf was y) → hears t was x k y ≡ true
+      of-linked : Linked t (systemOf was .E) (said (sentKind asks)) (agentOf was y) → hears t was x k y ≡ true
       of-linked h = heard ∙ link-holds t was x y k .1 h
 
       held : agentOf was y .L k ≡ stamped (wordOf was (Entries y) k) (stampOf was y k)
       held = entry-read was y k key
 
-      taking : (b : Bool) → stampOf was y k < stampOf was x k → hears t was x k y ≡ true → Hears t (systemOf was .E) (said (kindOf b)) (agentOf was y) true (took k mine (agentOf was y))
+      taking : (b : Bool) → stampOf was y k < stampOf was x k → hears t was x k y ≡ true → Hears t (systemOf was .E) (said (sentKind b)) (agentOf was y) true (took k mine (agentOf was y))
       taking b l e = by b
         where
           is-older : Older (agentOf was y .L k) (stampOf was x k)
@@ -171,7 +171,7 @@ module _ (t : Table) (was : List ℕ) (x k agents : ℕ) (whole : length was ≡
           is-inserted : Inserted (agentOf was y .L) k mine (agentOf was y .L ⟦ k ≔ some mine ⟧)
           is-inserted = inserted (wordOf was (Entries y) k) (stampOf was y k) (stampOf was x k) (agentOf was y .L) k (wordOf was (Entries x) k) held l
 
-          by : (b : Bool) → Hears t (systemOf was .E) (said (kindOf b)) (agentOf was y) true (took k mine (agentOf was y))
+          by : (b : Bool) → Hears t (systemOf was .E) (said (sentKind b)) (agentOf was y) true (took k mine (agentOf was y))
           by true = QRY₁ refl (linked e) is-older is-inserted
           by false = PUT refl (linked e) is-older is-inserted
 
@@ -183,8 +183,8 @@ module _ (t : Table) (was : List ℕ) (x k agents : ℕ) (whole : length was ≡
           (taking asks (ltb-true (stampOf was y k) (stampOf was x k) (and-right (hears t was x k y) _ e)) (and-left (hears t was x k y) _ e))
       by-offer false e true f =
           let a = and-right asks _ f in
-          subst (Result false) (sym (add-zp-agent y k now now-whole (omega arith) ∙ ap (λ (a : Agent). with propagates a (a .Zp ∪｛ k ｝)) before))
-          (QRY₂ (ap kindOf (and-left asks _ f)) (linked (and-left (hears t was x k y) _ a))
+          subst (Result false) (sym (add-zp-agent y k now now-whole (omega arith) ∙ ap (λ (a : Agent). with Zp a (a .Zp ∪｛ k ｝)) before))
+          (QRY₂ (ap sentKind (and-left asks _ f)) (linked (and-left (hears t was x k y) _ a))
           (rw held (is-newer (wordOf was (Entries y) k) (stampOf was y k) (stampOf was x k) (ltb-true (stampOf was x k) (stampOf was y k) (and-right (hears t was x k y) _ a)))))
       by-offer false e false f = subst (Result false) (sym before) (STAY
           (λ h o. not-both (and-both (hears t was x k y) _ (of-linked h)
@@ -192,37 +192,37 @@ module _ (t : Table) (was : List ℕ) (x k agents : ℕ) (whole : length was ≡
           (λ q h o. not-both (and-both asks _ (asking asks q) (and-both (hears t was x k y) _ (of-linked h)
           (lt-ltb (stampOf was x k) (stampOf was y k) (of-newer (wordOf was (Entries y) k) (stampOf was y k) (stampOf was x k) (rw held at o))))) f))
 
-      heard-by : (z : Waiting) → Result (takes t was x k y) (agentOf (dropKey (placeAt (waiting z x)) k spread) y)
+      heard-by : (z : KeySet) → Result (takes t was x k y) (agentOf (dropKey (placeAt (Waits z x)) k spread) y)
       unfolding offer
       heard-by z = subst (λ (a : Agent). Result (takes t was x k y) a) (sym (drop-away z ∙ turned)) (by-offer (takes t was x k y) refl (asks && answers t was x k y) refl)
         where
-          drop-away : (z : Waiting) → agentOf (dropKey (placeAt (waiting z x)) k spread) y ≡ agentOf spread y
-          drop-away z = agent-same (dropKey (placeAt (waiting z x)) k spread) spread y (drop-length z x k spread)
-              (λ p i pos e. drop-other z x k spread p i (elsewhere p (waiting z x) (omega arith) (λ (o : _). absurd (other (sym e ∙ o)))))
+          drop-away : (z : KeySet) → agentOf (dropKey (placeAt (Waits z x)) k spread) y ≡ agentOf spread y
+          drop-away z = agent-same (dropKey (placeAt (Waits z x)) k spread) spread y (drop-length z x k spread)
+              (λ p i pos e. drop-other z x k spread p i (elsewhere p (Waits z x) (omega arith) (λ (o : _). absurd (other (sym e ∙ o)))))
 
   -- THE STEPS
-  module _ (z : Waiting) (asks : Bool) where
+  module _ (z : KeySet) (asks : Bool) where
     abbrev after : List ℕ
-    after = dropKey (placeAt (waiting z x)) k (spread asks)
+    after = dropKey (placeAt (Waits z x)) k (spread asks)
 
     environment-stays : systemOf after .E ≡ systemOf was .E
     environment-stays = fun-ext (λ j. value-same after (spread asks) Environment j
-        (λ i. drop-other z x k (spread asks) (mark Environment j) i refl) (λ i. drop-other z x k (spread asks) (value Environment j) i refl)) ∙ environment-same asks
+        (λ i. drop-other z x k (spread asks) (Mark Environment j) i refl) (λ i. drop-other z x k (spread asks) (Word Environment j) i refl)) ∙ environment-same asks
 
     clock-stays : clockOf after ≡ clockOf was
-    clock-stays = drop-other z x k (spread asks) clock tt refl ∙ clock-same asks
+    clock-stays = drop-other z x k (spread asks) Clock tt refl ∙ clock-same asks
 
   pub propagated-passed : has (zpOf was x) k ≡ true → Passed t agents x put k (takes t was x k) (systemOf was) (systemOf (propagated t was x k agents))
   propagated-passed h = record {
     there = there;
     entry = mine;
     sends = subst (λ (a : Agent). Sends (agentOf was x) (said put) a)
-        (sym (drop-zp-agent x k (spread false) (spread-whole false) (omega arith) ∙ ap (λ (a : Agent). with propagates a (a .Zp ∖｛ k ｝)) (sender-same false)))
+        (sym (drop-zp-agent x k (spread false) (spread-whole false) (omega arith) ∙ ap (λ (a : Agent). with Zp a (a .Zp ∖｛ k ｝)) (sender-same false)))
         (PROPAGATE h (entry-present was x k key entered));
     itself = takes-self;
-    hears = λ y l d. heard-by false y l d propagates;
-    environment-stays = environment-stays propagates false;
-    clock-stays = clock-stays propagates false;
+    hears = λ y l d. heard-by false y l d Zp;
+    environment-stays = environment-stays Zp false;
+    clock-stays = clock-stays Zp false;
   }
 
   pub confirmed-passed : has (zcOf was x) k ≡ true → Passed t agents x qry k (takes t was x k) (systemOf was) (systemOf (confirmed t was x k agents))
@@ -230,12 +230,12 @@ module _ (t : Table) (was : List ℕ) (x k agents : ℕ) (whole : length was ≡
     there = there;
     entry = mine;
     sends = subst (λ (a : Agent). Sends (agentOf was x) (said qry) a)
-        (sym (drop-zc-agent x k (spread true) (spread-whole true) (omega arith) ∙ ap (λ (a : Agent). with confirms a (a .Zc ∖｛ k ｝)) (sender-same true)))
+        (sym (drop-zc-agent x k (spread true) (spread-whole true) (omega arith) ∙ ap (λ (a : Agent). with Zc a (a .Zc ∖｛ k ｝)) (sender-same true)))
         (CONFIRM h (entry-present was x k key entered));
     itself = takes-self;
-    hears = λ y l d. heard-by true y l d confirms;
-    environment-stays = environment-stays confirms true;
-    clock-stays = clock-stays confirms true;
+    hears = λ y l d. heard-by true y l d Zc;
+    environment-stays = environment-stays Zc true;
+    clock-stays = clock-stays Zc true;
   }
 
 -- THE THEOREMS: the rules give the step on words and no other, and the same number of takers. `pending` is what a well-formed state has
