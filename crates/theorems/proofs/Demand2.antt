@@ -5,17 +5,17 @@ use mathlib.Core.Bool.{Bool, true}
 use mathlib.Core.Logic.{_↔_}
 use mathlib.Core.Option.{Option, some}
 use mathlib.Core.Path.{_≡_, refl, sym, ap, ap₂, subst, _∙_}
-use mathlib.Core.List.{List, List·Memᴰ}
+use mathlib.Core.List.{List, []}
 use native.Mathlib.Omega.{arith}
 use lib.ListN.{length, getD, getElem?}
-use Rattle.basis.specs.Numbers.{howMany}
 use Rattle.basis.specs.KeySets.{has}
+use Rattle.basis.proofs.Lists.{nth-in}
 use Rattle.table.specs.Checks.{passes, firstOf}
 use Rattle.table.specs.Tables.{Table, tableOf}
 use Rattle.table.specs.Sound.{Limits}
 use Rattle.term.specs.Accepted.{Accepted, Checked}
-use Rattle.term.specs.Processes.{Derivation, derivations, process, allFew}
-use Rattle.term.specs.Terms.{words}
+use Rattle.term.specs.Processes.{Derivation, derivation, ticks, derivations, process, allFew}
+use Rattle.term.specs.Terms.{Idle, words}
 use Rattle.state.specs.declared.Store.{Store}
 use Rattle.state.specs.declared.Store.the-variants.{Environment, Attributes, Entries}
 use Rattle.state.specs.Layout.{keyLimit, residualWords, stampOf, zcOf, zpOf, valueIn, termIn}
@@ -23,7 +23,7 @@ use Rattle.state.proofs.Places.{KeySet, Zc, Zp, Waits}
 use Rattle.state.proofs.Frames.{wordAt}
 use Rattle.state.proofs.Formed.{WellFormed, There, well-formed-read}
 use Rattle.state.proofs.Exact.{ShowSame, show-exact}
-use Rattle.machine.specs.Acts.{chosen, acted}
+use Rattle.machine.specs.Acts.{choices, chosen, acted}
 use Rattle.machine.specs.Offers.{takers, propagated, confirmed}
 use Rattle.machine.specs.Steps.{Outcome, takenBy, after, ownChecks, stepOf}
 use Rattle.machine.proofs.Steps.{InRange, Able, Done, act-able, state-checks, done-step, step-done}
@@ -53,7 +53,7 @@ ActsOnly = (t : Table) (s : List ℕ) (x c : ℕ) → Checked t → State t s �
     getElem? (derivations (process t (termIn s x))) c ≡ some d → allFew t (termIn s x) ≡ true → S′ .clock ≤ 65535 → length (words (d .leaving)) ≤ residualWords →
     Able t s x c × Same (t .sizes .agents) S′ (systemOf (acted t s x (chosen t s x c)))
 
-module _ (bytes s : List ℕ) (scratch : ℕ) (ready : Ready bytes s scratch) where
+module _ (acts-done : ActsDone) (acts-only : ActsOnly) (keeps : Keeps) (bytes s : List ℕ) (scratch : ℕ) (ready : Ready bytes s scratch) where
   abbrev t : Table
   t = tableOf bytes
 
@@ -81,7 +81,10 @@ module _ (bytes s : List ℕ) (scratch : ℕ) (ready : Ready bytes s scratch) wh
   -- A DONE STEP IS ALLOWED
   after-allowed : (kind x number : ℕ) → Done bytes s scratch kind x number →
       Allowed t (systemOf s) (systemOf (after t s kind x number)) kind x number (takenBy t s kind x number)
-  after-allowed zero x c d = ?act
+  after-allowed zero x c d =
+      let a = act-able t s x c .0 (d .own) in
+      let w = keeps bytes s (after t s zero x c) scratch zero x c 0 ready (step-done bytes s scratch zero x c d) in
+      act (acts-done t s x c checked (ready .state) (d .range .agent-below) a) (nth-in (choices t s x) c (derivation ticks [] Idle) (a .there)) (a .few) (well-formed-read t limits (after t s zero x c) (w .whole) (w .formed) .clock) (a .short)
   after-allowed (suc zero) x k d =
       let l = d .range .key-below (omega arith) in
       let h = may-propagate t s x k .0 (d .own) in
@@ -115,7 +118,9 @@ module _ (bytes s : List ℕ) (scratch : ℕ) (ready : Ready bytes s scratch) wh
   in-range kind x k l h i = record { kind-below = l; agent-below = h; key-below = λ p. i }
 
   every : (kind x number taken : ℕ) (S′ : System) → Allowed t (systemOf s) S′ kind x number taken → Made kind x number taken S′
-  every kind x number taken S′ (act {d = d} a chosen few clock short) = ?act-every
+  every kind x number taken S′ (act {d = d} a e few clock short) =
+      let w = acts-only t s x number checked (ready .state) d S′ a e few clock short in
+      made 0 x number taken S′ (record { kind-below = omega arith; agent-below = a .there; key-below = λ h. absurd (omega arith) }) (act-able t s x number .1 (w .0)) refl (w .1)
   every kind x k taken S′ (propagate l p) =
       let w = passed-propagated t s x k A (ready .state .whole) (limits .agents) (key k l) (pending Zp x k (p .there)) p in
       made 1 x k taken S′ (in-range 1 x k (omega arith) (p .there) l) (may-propagate t s x k .1 (w .0)) (w .1) (w .2)
@@ -147,20 +152,20 @@ module _ (bytes s : List ℕ) (scratch : ℕ) (ready : Ready bytes s scratch) wh
           terms = λ a h. ap (λ (b : Agent). b .P) (agent a h);
         }) (first .whole) (second .whole)
 
-module _ (keeps : Keeps) where
+module _ (acts-done : ActsDone) (acts-only : ActsOnly) (keeps : Keeps) where
   exactly : (bytes s s′ : List ℕ) (scratch kind x number taken : ℕ) → Ready bytes s scratch →
       (stepOf bytes s scratch kind x number ≡ done taken s′)
       ↔ (State (tableOf bytes) s′ × Allowed (tableOf bytes) (systemOf s) (systemOf s′) kind x number taken)
   exactly bytes s s′ scratch kind x number taken r = (
-    λ e. (keeps bytes s s′ scratch kind x number taken r e, allowed bytes s scratch r s′ kind x number taken e),
-    λ h. let w = every bytes s scratch r kind x number taken (systemOf s′) (h .1) in
-        w .1 ∙ ap (done taken) (one bytes s scratch r (w .0) s′ (keeps bytes s (w .0) scratch kind x number taken r (w .1)) (h .0) (sym-same (w .2))),
+    λ e. (keeps bytes s s′ scratch kind x number taken r e, allowed acts-done acts-only keeps bytes s scratch r s′ kind x number taken e),
+    λ h. let w = every acts-done acts-only keeps bytes s scratch r kind x number taken (systemOf s′) (h .1) in
+        w .1 ∙ ap (done taken) (one acts-done acts-only keeps bytes s scratch r (w .0) s′ (keeps bytes s (w .0) scratch kind x number taken r (w .1)) (h .0) (sym-same (w .2))),
   )
 
   pub demand-2 : Demand-2
   demand-2 = record {
     exactly = exactly;
-    every = λ bytes s scratch kind x number taken r S′ h. every bytes s scratch r kind x number taken S′ h;
-    one = λ bytes s s′ scratch r state same. one bytes s scratch r s s′ (r .state) state same;
-    transitions = λ bytes s scratch x r l d. moves-listed (tableOf bytes) (checked bytes s scratch r) (agentOf s x .P) d;
+    every = λ bytes s scratch kind x number taken r S′ h. every acts-done acts-only keeps bytes s scratch r kind x number taken S′ h;
+    one = λ bytes s s′ scratch r state same. one acts-done acts-only keeps bytes s scratch r s s′ (r .state) state same;
+    transitions = λ bytes s scratch x r l d. moves-listed (tableOf bytes) (checked acts-done acts-only keeps bytes s scratch r) (agentOf s x .P) d;
   }
