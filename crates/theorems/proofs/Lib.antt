@@ -5,3 +5,4 @@ pub mod Keys
 pub mod Actions
 pub mod Passing
 pub mod Reading
+pub mod Willing
