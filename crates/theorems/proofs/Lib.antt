@@ -6,3 +6,4 @@ pub mod Actions
 pub mod Passing
 pub mod Reading
 pub mod Willing
+pub mod Acting
