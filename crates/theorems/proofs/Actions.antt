@@ -47,16 +47,16 @@ module _ (t : Table) (n : ℕ) where
   pub environment-action : kindAt t n ≡ 4 → actionOf t n ≡ assign (environment (pAt t n)) (exprOf t (qAt t n))
   environment-action e = assigned 4 e
 
--- an action of any kind sets a key that there is, and names an expression
-pub action-operands : (t : Table) → Sound t → (n : ℕ) → ActionNode t n → (pAt t n < keyLimit) × LowerExpression t n (qAt t n)
-action-operands t sound n h = by (kindAt t n) refl (h .1) (h .2)
+-- an action of any kind names an expression
+pub action-expression : (t : Table) → Sound t → (n : ℕ) → ActionNode t n → LowerExpression t n (qAt t n)
+action-expression t sound n h = by (kindAt t n) refl (h .1) (h .2)
   where
-    by : (k : ℕ) → kindAt t n ≡ k → 2 ≤ k → k ≤ 4 → (pAt t n < keyLimit) × LowerExpression t n (qAt t n)
+    by : (k : ℕ) → kindAt t n ≡ k → 2 ≤ k → k ≤ 4 → LowerExpression t n (qAt t n)
     by zero e a b = absurd (omega arith)
     by (suc zero) e a b = absurd (omega arith)
-    by (suc (suc zero)) e a b = let w = attribute-set-operands t sound n e in (omega (arith, sound .shaped .limits .attributes), w .1)
-    by (suc (suc (suc zero))) e a b = let w = stigmergy-set-operands t sound n e in (omega (arith, sound .shaped .limits .stigmergy), w .1)
-    by (suc (suc (suc (suc zero)))) e a b = let w = environment-set-operands t sound n e in (omega (arith, sound .shaped .limits .environment), w .1)
+    by (suc (suc zero)) e a b = attribute-set-operands t sound n e .1
+    by (suc (suc (suc zero))) e a b = stigmergy-set-operands t sound n e .1
+    by (suc (suc (suc (suc zero)))) e a b = environment-set-operands t sound n e .1
     by (suc (suc (suc (suc (suc k))))) e a b = absurd (omega arith)
 
 -- AWAIT: all guards of a derivation hold
@@ -85,7 +85,7 @@ module _ (t : Table) (sound : Sound t) (s : List ℕ) (x : ℕ) where
 
   pub label-reads : (l : Label) → Labelled t l → (k : ℕ) → labelReads t s x l k ≡ labelKeys t l k
   label-reads ticks h k = refl
-  label-reads (acts n) h k = expression-keys t sound (qAt t n) k (action-operands t sound n h .1 .1)
+  label-reads (acts n) h k = expression-keys t sound (qAt t n) k (action-expression t sound n h .1)
 
   -- what Zc gains: of the keys of the expression and of the guards those that have an entry
   pub to-confirm : (d : Derivation) → Inside t d → (k : ℕ)

@@ -86,7 +86,7 @@ module _ (know : Knowledge) where
   no-value : (e : Expr) (v : ℕ) → E⟦ e ⟧ know ≡ Absent → E⟦ e ⟧ know ≡ Present v → ⊥
   no-value e v p q = let z : _≡_ {A = ℕ} 0 1 = cc in omega arith
 
-  one-value : (e : Expr) (v w : ℕ) → E⟦ e ⟧ know ≡ Present v → E⟦ e ⟧ know ≡ Present w → v ≡ w
+  pub one-value : (e : Expr) (v w : ℕ) → E⟦ e ⟧ know ≡ Present v → E⟦ e ⟧ know ≡ Present w → v ≡ w
   one-value e v w p q = cc
 
   agrees-comparison : (kind : ℕ) (a b : Value) (e f : Expr) → E⟦ e ⟧ know ≡ a → E⟦ f ⟧ know ≡ b → Agrees know (compare kind a b) (comparison kind e f)

@@ -5,6 +5,8 @@ pub mod Keys
 pub mod Actions
 pub mod Passing
 pub mod Reading
+pub mod Willing
+pub mod Acting
 pub mod Offers
 pub mod Demand2
 pub mod Instance
