@@ -33,9 +33,10 @@ use Rattle.labs.specs.Expressions.{valueIn as valueOfEntry}
 use Rattle.labs.specs.Systems.{Acted, Passed, put, qry, present}
 use Rattle.labs.specs.Reading.{entryOf, agentOf, systemOf}
 use Rattle.theorems.specs.Demand2.{Allowed, act, propagate, confirm, done, State, Same, Ready, Demand-2}
-use Rattle.theorems.proofs.Moves.{moves-listed}
+use Rattle.theorems.proofs.Moves.{moves-listed, moves-chosen}
 use Rattle.theorems.proofs.Expressions.{entry-value}
 use Rattle.theorems.proofs.Reading.{timeIn, entry-stamp}
+use Rattle.theorems.proofs.Acting.{Enabled, act-done}
 use Rattle.theorems.proofs.Offers.{propagated-passed, confirmed-passed, passed-propagated, passed-confirmed}
 
 sym-same : {agents : ℕ} {S S′ : System} → Same agents S S′ → Same agents S′ S
@@ -44,16 +45,12 @@ sym-same h = record { environment-same = sym (h .environment-same); clock-same =
 abbrev Keeps : Type 0
 Keeps = (bytes s s′ : List ℕ) (scratch kind x number taken : ℕ) → Ready bytes s scratch → stepOf bytes s scratch kind x number ≡ done taken s′ → State (tableOf bytes) s′
 
-abbrev ActsDone : Type 0
-ActsDone = (t : Table) (s : List ℕ) (x c : ℕ) → Checked t → State t s → x < t .sizes .agents → Able t s x c →
-    Acted t (t .sizes .agents) x (chosen t s x c) (systemOf s) (systemOf (acted t s x (chosen t s x c)))
-
 abbrev ActsOnly : Type 0
 ActsOnly = (t : Table) (s : List ℕ) (x c : ℕ) → Checked t → State t s → (d : Derivation) (S′ : System) → Acted t (t .sizes .agents) x d (systemOf s) S′ →
     getElem? (derivations (process t (termIn s x))) c ≡ some d → allFew t (termIn s x) ≡ true → S′ .clock ≤ 65535 → length (words (d .leaving)) ≤ residualWords →
     Able t s x c × Same (t .sizes .agents) S′ (systemOf (acted t s x (chosen t s x c)))
 
-module _ (acts-done : ActsDone) (acts-only : ActsOnly) (keeps : Keeps) (bytes s : List ℕ) (scratch : ℕ) (ready : Ready bytes s scratch) where
+module _ (acts-only : ActsOnly) (keeps : Keeps) (bytes s : List ℕ) (scratch : ℕ) (ready : Ready bytes s scratch) where
   abbrev t : Table
   t = tableOf bytes
 
@@ -79,12 +76,22 @@ module _ (acts-done : ActsDone) (acts-only : ActsOnly) (keeps : Keeps) (bytes s 
   key k l = omega (arith, limits .stigmergy)
 
   -- A DONE STEP IS ALLOWED
+  enabled : (x c : ℕ) → Able t s x c → getElem? (choices t s x) c ≡ some (chosen t s x c) → Enabled t s x (chosen t s x c)
+  enabled x c a e = record {
+    moves = moves-chosen t checked (termIn s x) (chosen t s x c) .0 (c, e);
+    confirmed = a .confirmed;
+    propagated = a .propagated;
+    guards = a .guards;
+    present = a .present;
+  }
+
   after-allowed : (kind x number : ℕ) → Done bytes s scratch kind x number →
       Allowed t (systemOf s) (systemOf (after t s kind x number)) kind x number (takenBy t s kind x number)
   after-allowed zero x c d =
       let a = act-able t s x c .0 (d .own) in
       let w = keeps bytes s (after t s zero x c) scratch zero x c 0 ready (step-done bytes s scratch zero x c d) in
-      act (acts-done t s x c checked (ready .state) (d .range .agent-below) a) (nth-in (choices t s x) c (derivation ticks [] Idle) (a .there)) (a .few) (well-formed-read t limits (after t s zero x c) (w .whole) (w .formed) .clock) (a .short)
+      let e = nth-in (choices t s x) c (derivation ticks [] Idle) (a .there) in
+      act (act-done t checked s (ready .state .whole) formed x (d .range .agent-below) (chosen t s x c) (enabled x c a e) (a .short)) e (a .few) (well-formed-read t limits (after t s zero x c) (w .whole) (w .formed) .clock) (a .short)
   after-allowed (suc zero) x k d =
       let l = d .range .key-below (omega arith) in
       let h = may-propagate t s x k .0 (d .own) in
@@ -152,20 +159,20 @@ module _ (acts-done : ActsDone) (acts-only : ActsOnly) (keeps : Keeps) (bytes s 
           terms = λ a h. ap (λ (b : Agent). b .P) (agent a h);
         }) (first .whole) (second .whole)
 
-module _ (acts-done : ActsDone) (acts-only : ActsOnly) (keeps : Keeps) where
+module _ (acts-only : ActsOnly) (keeps : Keeps) where
   exactly : (bytes s s′ : List ℕ) (scratch kind x number taken : ℕ) → Ready bytes s scratch →
       (stepOf bytes s scratch kind x number ≡ done taken s′)
       ↔ (State (tableOf bytes) s′ × Allowed (tableOf bytes) (systemOf s) (systemOf s′) kind x number taken)
   exactly bytes s s′ scratch kind x number taken r = (
-    λ e. (keeps bytes s s′ scratch kind x number taken r e, allowed acts-done acts-only keeps bytes s scratch r s′ kind x number taken e),
-    λ h. let w = every acts-done acts-only keeps bytes s scratch r kind x number taken (systemOf s′) (h .1) in
-        w .1 ∙ ap (done taken) (one acts-done acts-only keeps bytes s scratch r (w .0) s′ (keeps bytes s (w .0) scratch kind x number taken r (w .1)) (h .0) (sym-same (w .2))),
+    λ e. (keeps bytes s s′ scratch kind x number taken r e, allowed acts-only keeps bytes s scratch r s′ kind x number taken e),
+    λ h. let w = every acts-only keeps bytes s scratch r kind x number taken (systemOf s′) (h .1) in
+        w .1 ∙ ap (done taken) (one acts-only keeps bytes s scratch r (w .0) s′ (keeps bytes s (w .0) scratch kind x number taken r (w .1)) (h .0) (sym-same (w .2))),
   )
 
   pub demand-2 : Demand-2
   demand-2 = record {
     exactly = exactly;
-    every = λ bytes s scratch kind x number taken r S′ h. every acts-done acts-only keeps bytes s scratch r kind x number taken S′ h;
-    one = λ bytes s s′ scratch r state same. one acts-done acts-only keeps bytes s scratch r s s′ (r .state) state same;
-    transitions = λ bytes s scratch x r l d. moves-listed (tableOf bytes) (checked acts-done acts-only keeps bytes s scratch r) (agentOf s x .P) d;
+    every = λ bytes s scratch kind x number taken r S′ h. every acts-only keeps bytes s scratch r kind x number taken S′ h;
+    one = λ bytes s s′ scratch r state same. one acts-only keeps bytes s scratch r s s′ (r .state) state same;
+    transitions = λ bytes s scratch x r l d. moves-listed (tableOf bytes) (checked acts-only keeps bytes s scratch r) (agentOf s x .P) d;
   }
