@@ -10,3 +10,4 @@ pub mod Acting
 pub mod Offers
 pub mod Demand2
 pub mod Instance
+pub mod Seen
