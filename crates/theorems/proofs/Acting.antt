@@ -5,24 +5,25 @@ use mathlib.Core.Bool.{Bool, true, false, cond, _&&_, _||_, and-false}
 use mathlib.Core.Logic.{_⊎_, ⊎-elim, _↔_}
 use mathlib.Core.Option.{Option, none, some}
 use mathlib.Core.Path.{_≡_, refl, sym, ap, subst, _∙_, fun-ext}
-use mathlib.Core.List.{List}
+use mathlib.Core.List.{List, []}
 use native.Mathlib.Omega.{arith}
 use native.Mathlib.Numerals.{add-one}
 use lib.Dec.{eqb, ltb}
-use lib.ListN.{length, getElem?, set, length-set}
+use lib.ListN.{length, getD, getElem?, set, length-set}
 use borrow.Author.Tests.{eqb-true, eq-eqb, ne-eqb}
 use Rattle.basis.specs.KeySets.{has, plusAll}
 use Rattle.basis.proofs.KeySets.{has-plusAll, has-nothing, nothing-zero}
-use Rattle.basis.proofs.Tests.{not-both, is-false, same-test, and-left, and-right, and-both}
+use Rattle.basis.proofs.Tests.{not-both, is-false, same-test, and-left, and-both, lt-or-le, same-or-other}
+use Rattle.basis.proofs.Lists.{nth-past, nth-in}
 use Rattle.value.specs.declared.Value.{Value}
 use Rattle.value.specs.declared.Value.the-variants.{Absent, Present}
 use Rattle.table.specs.Tables.{Table, kindAt, pAt, qAt}
-use Rattle.term.specs.Terms.{Term, words}
-use Rattle.term.specs.Processes.{Label, ticks, acts, Derivation, derivation}
+use Rattle.term.specs.Terms.{Term, Idle, words}
+use Rattle.term.specs.Processes.{Label, ticks, acts, Derivation, derivation, allFew}
 use Rattle.term.specs.Acceptance.{stateWords}
 use Rattle.term.specs.Accepted.{Checked}
 use Rattle.term.proofs.Words.{Low, Over, over-low}
-use Rattle.term.proofs.Inside.{ActionNode, Inside as InsideTable, derivation-inside}
+use Rattle.term.proofs.Inside.{ActionNode, Labelled, Inside as InsideTable, derivation-inside}
 use Rattle.state.specs.declared.Store.{Store}
 use Rattle.state.specs.declared.Store.the-variants.{Environment, Attributes, Entries}
 use Rattle.state.specs.Layout.{clockAt, zcAt, zpAt, keyLimit, residualWords, clockOf, stampOf, zcOf, zpOf, termIn, put, addKey}
@@ -30,16 +31,17 @@ use Rattle.state.proofs.Places.{Place, KeySet, Zc, Zp, Clock, Mark, Word, Waits
 use Rattle.state.proofs.Places.{placeAgent as ownerOf}
 use Rattle.state.proofs.Frames.{wordAt, SameAt, set-other, set-here, value-same, term-same, put-length, put-other, put-valueIn, add-length, add-other}
 use Rattle.state.proofs.Formed.{WellFormed}
-use Rattle.machine.specs.Acts.{isAbsent, wordIn, nextStamp, allHold, valueFor, lacksValue, toConfirm, storeOf, setKey, acted}
+use Rattle.machine.specs.Acts.{isAbsent, wordIn, nextStamp, allHold, valueFor, lacksValue, writesEntry, choices, chosen, toConfirm, storeOf, setKey, acted}
 use Rattle.machine.proofs.Leave.{leave-term, leave-other}
+use Rattle.machine.proofs.Steps.{Able}
 use Rattle.machine.proofs.Acts.{action-key, store-attribute, store-entry, store-environment, set-tick, set-value, set-entry, set-length, acted-length, acted-other}
 use Rattle.labs.specs.Agents.{⟨_⸴_⸴_⸴_⸴_⟩, Agent, Entry, Interface, Stigmergy, Keys, System, _⟦_≔_⟧, _∪｛_｝, _∪_, Inserted, add, update}
-use Rattle.labs.specs.Expressions.{E⟦_⟧, exprOf}
-use Rattle.labs.specs.Processes.{attribute, stigmergy, environment}
-use Rattle.labs.specs.Systems.{Settled, known, SKIP, ATTR, LSTIG, ENV, alone, Await, guardKeys, Acts, EPSILON, EVAL-I, EVAL-L, EVAL-E, Acted}
+use Rattle.labs.specs.Expressions.{Expr, E⟦_⟧, exprOf}
+use Rattle.labs.specs.Processes.{Variable, attribute, stigmergy, environment}
+use Rattle.labs.specs.Systems.{Settled, known, Will, ε, _▹_, Wills, SKIP, ATTR, LSTIG, ENV, alone, Await, guardKeys, Acts, EPSILON, EVAL-I, EVAL-L, EVAL-E, Acted}
 use Rattle.labs.specs.Reading.{entryOf, agentOf, systemOf}
 use Rattle.theorems.specs.Demand2.{Same}
-use Rattle.theorems.proofs.Moves.{Does, moves-complete}
+use Rattle.theorems.proofs.Moves.{Does, moves-complete, moves-chosen}
 use Rattle.theorems.proofs.Expressions.{expression-value}
 use Rattle.theorems.proofs.Actions.{attribute-action, stigmergy-action, environment-action, guards-await, labelKeys, to-confirm}
 use Rattle.theorems.proofs.Reading.{tuple, I-same, L-same, Zc-same, Zp-same, agent-same, entry, put-agent, add-zp-agent}
@@ -208,6 +210,12 @@ inserted L x e h = by (L x) refl
     by none i = add i
     by (some f) i = update i (h f i)
 
+-- what stands at a place of a list
+nth-is : {A : Type 0} (xs : List A) (n : ℕ) (o a : A) → getElem? xs n ≡ some a → (n < length xs) × (getD xs n o ≡ a)
+nth-is {A} xs n o a e =
+    ⊎-elim (λ (l : n < length xs). let f : some (getD xs n o) ≡ some a = sym (nth-in xs n o l) ∙ e in (l, cc))
+    (λ (l : length xs ≤ n). let f : none ≡ some a = sym (nth-past xs n l) ∙ e in let z : _≡_ {A = ℕ} 0 1 = cc in absurd (omega arith)) (lt-or-le n (length xs))
+
 clock-agents : (s : List ℕ) (m y : ℕ) → agentOf (set s clockAt m) y ≡ agentOf s y
 clock-agents s m y = agent-same (set s clockAt m) s y (length-set s clockAt m) (λ p h k o. set-other s Clock m tt p h (apart p Clock y k o (λ l f. omega arith)))
 
@@ -334,3 +342,121 @@ module _ (t : Table) (ok : Checked t) (s : List ℕ) (whole : length s ≡ state
   pub act-done : (d : Derivation) → Enabled t s x d → length (words (d .leaving)) ≤ residualWords
       → Acted t (t .sizes .agents) x d (systemOf s) (systemOf (acted t s x d))
   act-done d = act-by (d .label) (d .guards) (d .leaving)
+
+  -- AND THE RULES DO NO OTHER
+  still : (l : Label) → ε ≡ willOf t l → lacksValue t s x l ≡ false
+  still ticks w = refl
+  still (acts n) w = let z : _≡_ {A = ℕ} 0 1 = cc in absurd (omega arith)
+
+  valued : (l : Label) (e : Expr) (y : Variable) (v : ℕ) → (e ▹ y) ≡ willOf t l → E⟦ e ⟧ (alone (systemOf s .E) me) ≡ Present v → lacksValue t s x l ≡ false
+  valued ticks e y v w h = refl
+  valued (acts n) e y v w h =
+      let i : e ≡ exprOf t (qAt t n) = cc in
+      ap (λ (o : Value). isAbsent o) (sym (expression-value t s x x (qAt t n)) ∙ ap (λ (f : Expr). E⟦ f ⟧ (alone (systemOf s .E) me)) (sym i) ∙ h)
+
+  enabled : {d : Derivation} {w : Will} {a′ : Agent} → Wills t me d w a′ → Await t (systemOf s .E) me (d .guards) → lacksValue t s x (d .label) ≡ false → Enabled t s x d
+  enabled {d} m g v =
+      record {
+        moves = wills-does m;
+        confirmed = nothing-zero keyLimit (zcOf s x) (formed .formed .sets confirms x is .narrow) (λ k l. wills-settled m k .0);
+        propagated = nothing-zero keyLimit (zpOf s x) (formed .formed .sets propagates x is .narrow) (λ k l. wills-settled m k .1);
+        guards = guards-await t s x (d .guards) .1 g;
+        present = v;
+      }
+
+  acts-enabled : {d : Derivation} {E₁ : Interface} {T₁ : ℕ} {b : Agent} → Acts t (systemOf s .E) (clockOf s) me d E₁ T₁ b → Enabled t s x d
+  acts-enabled {d} (EPSILON m g) = enabled m g (still (d .label) (wills-will m))
+  acts-enabled {d} (EVAL-I {e = e} {x = k} {v = v} m g h) = enabled m g (valued (d .label) e (attribute k) v (wills-will m) h)
+  acts-enabled {d} (EVAL-L {e = e} {x = k} {v = v} m g h i) = enabled m g (valued (d .label) e (stigmergy k) v (wills-will m) h)
+  acts-enabled {d} (EVAL-E {e = e} {x = k} {v = v} m g h) = enabled m g (valued (d .label) e (environment k) v (wills-will m) h)
+
+  pub act-enabled : {d : Derivation} {S′ : System} → Acted t (t .sizes .agents) x d (systemOf s) S′ → Enabled t s x d
+  act-enabled p = acts-enabled (p .acts)
+
+  -- the rules allow an act where it is enabled on words, and give the act on words and no other
+  pub act-agrees : (d : Derivation) → length (words (d .leaving)) ≤ residualWords → (S′ : System)
+      → Acted t (t .sizes .agents) x d (systemOf s) S′ ↔ (Enabled t s x d × Same (t .sizes .agents) S′ (systemOf (acted t s x d)))
+  act-agrees d short S′ = (
+    λ p. let r = act-enabled p in (r, acted-unique p (act-done d r short)),
+    λ h. acted-same (act-done d (h .0) short) (h .1),
+  )
+
+  -- the clock after it
+  clock-entry : (n : ℕ) → kindAt t n ≡ 3 → clockOf (setKey t s x (acts n)) ≡ suc (clockOf s)
+  clock-entry n k =
+      let entered = put (Entries x) (pAt t n) (wordIn (valueFor t s x n)) (nextStamp s) s in
+      ap (λ (u : List ℕ). clockOf u) (set-entry t s x n k)
+      ∙ set-here (addKey (zpAt x) (pAt t n) entered) clock (nextStamp s) tt
+      (add-length propagates x (pAt t n) entered ∙ put-length (Entries x) (pAt t n) (wordIn (valueFor t s x n)) (nextStamp s) s ∙ whole) (omega arith)
+      ∙ add-one (clockOf s)
+
+  clock-other : (n : ℕ) → ActionNode t n → (kindAt t n ≡ 3 → ⊥) → clockOf (setKey t s x (acts n)) ≡ clockOf s
+  clock-other n h d =
+      ap (λ (u : List ℕ). clockOf u) (set-value t s x n d)
+      ∙ put-other (storeOf t s x n) (pAt t n) (wordIn (valueFor t s x n)) 1 s (action-key t s x (ok .sound) n h) clock tt refl refl
+
+  -- it stays within its limit where a write has room
+  clock-fits : (l : Label) → Labelled t l → (clockOf (setKey t s x l) ≤ 65535) ↔ (writesEntry t s x l ≡ true → clockOf s < 65535)
+  clock-fits ticks h = (λ c e. absurd (not-both e refl), λ f. rw (set-tick t s x) (formed .clock))
+  clock-fits (acts n) h =
+      ⊎-elim
+      (λ (k : kindAt t n ≡ 3). (λ c e. omega (arith, clock-entry n k), λ f. omega (arith, clock-entry n k, f (eq-eqb (kindAt t n) 3 k))))
+      (λ (k : kindAt t n ≡ 3 → ⊥). (λ c e. absurd (k (eqb-true (kindAt t n) 3 e)), λ f. omega (arith, clock-other n h k, formed .clock)))
+      (same-or-other (kindAt t n) 3)
+
+  -- OF CHOICES, with the limits: the rules and the limits allow choice c where checks 11 to 17 pass, and give what it then leaves
+  abbrev A : ℕ
+  A = t .sizes .agents
+
+  enabled-choice : (c : ℕ) (d : Derivation) → getElem? (choices t s x) c ≡ some d → Able t s x c → Enabled t s x d
+  enabled-choice c d e a =
+      subst (λ (o : Derivation). Enabled t s x o) (nth-is (choices t s x) c (derivation ticks [] Idle) d e .1)
+      (record {
+        moves = moves-chosen t ok (termIn s x) (chosen t s x c) .0 (c, nth-in (choices t s x) c (derivation ticks [] Idle) (a .there));
+        confirmed = a .confirmed;
+        propagated = a .propagated;
+        guards = a .guards;
+        present = a .present;
+      })
+
+  able-choice : (c : ℕ) (d : Derivation) → getElem? (choices t s x) c ≡ some d → Enabled t s x d → allFew t (termIn s x) ≡ true
+      → (writesEntry t s x (d .label) ≡ true → clockOf s < 65535) → length (words (d .leaving)) ≤ residualWords → Able t s x c
+  able-choice c d e r few room short =
+      let w = nth-is (choices t s x) c (derivation ticks [] Idle) d e in
+      let i : d ≡ chosen t s x c = sym (w .1) in
+      record {
+        confirmed = r .confirmed;
+        propagated = r .propagated;
+        few = few;
+        there = w .0;
+        guards = subst (λ (o : Derivation). allHold t s x (o .guards) ≡ true) i (r .guards);
+        present = subst (λ (o : Derivation). lacksValue t s x (o .label) ≡ false) i (r .present);
+        room = subst (λ (o : Derivation). writesEntry t s x (o .label) ≡ true → clockOf s < 65535) i room;
+        short = subst (λ (o : Derivation). length (words (o .leaving)) ≤ residualWords) i short;
+      }
+
+  pub act-exactly : (c : ℕ) (d : Derivation) → getElem? (choices t s x) c ≡ some d → (S′ : System)
+      → (Acted t (t .sizes .agents) x d (systemOf s) S′ × (allFew t (termIn s x) ≡ true) × (S′ .clock ≤ 65535) × (length (words (d .leaving)) ≤ residualWords))
+      ↔ (Able t s x c × Same (t .sizes .agents) S′ (systemOf (acted t s x d)))
+  act-exactly c d e S′ = (allowed, given)
+    where
+      fits : (r : Enabled t s x d) → (clockOf (acted t s x d) ≤ 65535) ↔ (writesEntry t s x (d .label) ≡ true → clockOf s < 65535)
+      fits r =
+          let f = clock-fits (d .label) (inside d (r .moves) .label) in
+          let i = final-clock t s x d whole there in
+          (λ h. f .0 (omega arith), λ h. let g = f .1 h in omega arith)
+
+      allowed : Acted t A x d (systemOf s) S′ × (allFew t (termIn s x) ≡ true) × (S′ .clock ≤ 65535) × (length (words (d .leaving)) ≤ residualWords)
+          → Able t s x c × Same A S′ (systemOf (acted t s x d))
+      allowed p =
+          let w = act-agrees d (p .3) S′ .0 (p .0) in
+          (able-choice c d e (w .0) (p .1) (fits (w .0) .0 (omega (arith, w .1 .clock-same, p .2))) (p .3), w .1)
+
+      given : Able t s x c × Same A S′ (systemOf (acted t s x d))
+          → Acted t A x d (systemOf s) S′ × (allFew t (termIn s x) ≡ true) × (S′ .clock ≤ 65535) × (length (words (d .leaving)) ≤ residualWords)
+      given p =
+          let r = enabled-choice c d e (p .0) in
+          let i : chosen t s x c ≡ d = nth-is (choices t s x) c (derivation ticks [] Idle) d e .1 in
+          let short = subst (λ (o : Derivation). length (words (o .leaving)) ≤ residualWords) i (p .0 .short) in
+          let room = subst (λ (o : Derivation). writesEntry t s x (o .label) ≡ true → clockOf s < 65535) i (p .0 .room) in
+          (act-agrees d short S′ .1 (r, p .1), p .0 .few, omega (arith, fits r .1 room, p .1 .clock-same), short)
