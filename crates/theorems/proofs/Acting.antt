@@ -358,8 +358,8 @@ module _ (t : Table) (ok : Checked t) (s : List ℕ) (whole : length s ≡ state
   enabled {d} m g v =
       record {
         moves = wills-does m;
-        confirmed = nothing-zero keyLimit (zcOf s x) (formed .formed .sets confirms x is .narrow) (λ k l. wills-settled m k .0);
-        propagated = nothing-zero keyLimit (zpOf s x) (formed .formed .sets propagates x is .narrow) (λ k l. wills-settled m k .1);
+        confirmed = nothing-zero keyLimit (zcOf s x) (formed .formed .sets Zc x is .narrow) (λ k l. wills-settled m k .0);
+        propagated = nothing-zero keyLimit (zpOf s x) (formed .formed .sets Zp x is .narrow) (λ k l. wills-settled m k .1);
         guards = guards-await t s x (d .guards) .1 g;
         present = v;
       }
@@ -386,14 +386,14 @@ module _ (t : Table) (ok : Checked t) (s : List ℕ) (whole : length s ≡ state
   clock-entry n k =
       let entered = put (Entries x) (pAt t n) (wordIn (valueFor t s x n)) (nextStamp s) s in
       ap (λ (u : List ℕ). clockOf u) (set-entry t s x n k)
-      ∙ set-here (addKey (zpAt x) (pAt t n) entered) clock (nextStamp s) tt
-      (add-length propagates x (pAt t n) entered ∙ put-length (Entries x) (pAt t n) (wordIn (valueFor t s x n)) (nextStamp s) s ∙ whole) (omega arith)
+      ∙ set-here (addKey (zpAt x) (pAt t n) entered) Clock (nextStamp s) tt
+      (add-length Zp x (pAt t n) entered ∙ put-length (Entries x) (pAt t n) (wordIn (valueFor t s x n)) (nextStamp s) s ∙ whole) (omega arith)
       ∙ add-one (clockOf s)
 
   clock-other : (n : ℕ) → ActionNode t n → (kindAt t n ≡ 3 → ⊥) → clockOf (setKey t s x (acts n)) ≡ clockOf s
   clock-other n h d =
       ap (λ (u : List ℕ). clockOf u) (set-value t s x n d)
-      ∙ put-other (storeOf t s x n) (pAt t n) (wordIn (valueFor t s x n)) 1 s (action-key t s x (ok .sound) n h) clock tt refl refl
+      ∙ put-other (storeOf t s x n) (pAt t n) (wordIn (valueFor t s x n)) 1 s (action-key t s x (ok .sound) n h) Clock tt refl refl
 
   -- it stays within its limit where a write has room
   clock-fits : (l : Label) → Labelled t l → (clockOf (setKey t s x l) ≤ 65535) ↔ (writesEntry t s x l ≡ true → clockOf s < 65535)

@@ -33,11 +33,17 @@ use Rattle.labs.specs.Expressions.{valueIn as valueOfEntry}
 use Rattle.labs.specs.Systems.{Acted, Passed, put, qry, present}
 use Rattle.labs.specs.Reading.{entryOf, agentOf, systemOf}
 use Rattle.theorems.specs.Demand2.{Allowed, act, propagate, confirm, done, State, Same, Ready, Demand-2}
-use Rattle.theorems.proofs.Moves.{moves-listed, moves-chosen}
+use Rattle.theorems.proofs.Moves.{moves-listed}
 use Rattle.theorems.proofs.Expressions.{entry-value}
 use Rattle.theorems.proofs.Reading.{timeIn, entry-stamp}
-use Rattle.theorems.proofs.Acting.{Enabled, act-done}
+use Rattle.theorems.proofs.Acting.{act-exactly}
 use Rattle.theorems.proofs.Offers.{propagated-passed, confirmed-passed, passed-propagated, passed-confirmed}
+
+chosen-is : {d e : Derivation} → some d ≡ some e → d ≡ e
+chosen-is h = cc
+
+same-refl : {agents : ℕ} {S : System} → Same agents S S
+same-refl = record { environment-same = refl; clock-same = refl; agents-same = λ a l. refl }
 
 sym-same : {agents : ℕ} {S S′ : System} → Same agents S S′ → Same agents S′ S
 sym-same h = record { environment-same = sym (h .environment-same); clock-same = sym (h .clock-same); agents-same = λ a l. sym (h .agents-same a l) }
@@ -45,12 +51,7 @@ sym-same h = record { environment-same = sym (h .environment-same); clock-same =
 abbrev Keeps : Type 0
 Keeps = (bytes s s′ : List ℕ) (scratch kind x number taken : ℕ) → Ready bytes s scratch → stepOf bytes s scratch kind x number ≡ done taken s′ → State (tableOf bytes) s′
 
-abbrev ActsOnly : Type 0
-ActsOnly = (t : Table) (s : List ℕ) (x c : ℕ) → Checked t → State t s → (d : Derivation) (S′ : System) → Acted t (t .sizes .agents) x d (systemOf s) S′ →
-    getElem? (derivations (process t (termIn s x))) c ≡ some d → allFew t (termIn s x) ≡ true → S′ .clock ≤ 65535 → length (words (d .leaving)) ≤ residualWords →
-    Able t s x c × Same (t .sizes .agents) S′ (systemOf (acted t s x (chosen t s x c)))
-
-module _ (acts-only : ActsOnly) (keeps : Keeps) (bytes s : List ℕ) (scratch : ℕ) (ready : Ready bytes s scratch) where
+module _ (bytes s : List ℕ) (scratch : ℕ) (ready : Ready bytes s scratch) where
   abbrev t : Table
   t = tableOf bytes
 
@@ -76,22 +77,13 @@ module _ (acts-only : ActsOnly) (keeps : Keeps) (bytes s : List ℕ) (scratch : 
   key k l = omega (arith, limits .stigmergy)
 
   -- A DONE STEP IS ALLOWED
-  enabled : (x c : ℕ) → Able t s x c → getElem? (choices t s x) c ≡ some (chosen t s x c) → Enabled t s x (chosen t s x c)
-  enabled x c a e = record {
-    moves = moves-chosen t checked (termIn s x) (chosen t s x c) .0 (c, e);
-    confirmed = a .confirmed;
-    propagated = a .propagated;
-    guards = a .guards;
-    present = a .present;
-  }
-
   after-allowed : (kind x number : ℕ) → Done bytes s scratch kind x number →
       Allowed t (systemOf s) (systemOf (after t s kind x number)) kind x number (takenBy t s kind x number)
   after-allowed zero x c d =
       let a = act-able t s x c .0 (d .own) in
-      let w = keeps bytes s (after t s zero x c) scratch zero x c 0 ready (step-done bytes s scratch zero x c d) in
       let e = nth-in (choices t s x) c (derivation ticks [] Idle) (a .there) in
-      act (act-done t checked s (ready .state .whole) formed x (d .range .agent-below) (chosen t s x c) (enabled x c a e) (a .short)) e (a .few) (well-formed-read t limits (after t s zero x c) (w .whole) (w .formed) .clock) (a .short)
+      let p = act-exactly t checked s (ready .state .whole) formed x (d .range .agent-below) c (chosen t s x c) e (systemOf (after t s zero x c)) .1 (a, same-refl) in
+      act (p .0) e (p .1) (p .2) (p .3)
   after-allowed (suc zero) x k d =
       let l = d .range .key-below (omega arith) in
       let h = may-propagate t s x k .0 (d .own) in
@@ -126,8 +118,10 @@ module _ (acts-only : ActsOnly) (keeps : Keeps) (bytes s : List ℕ) (scratch : 
 
   every : (kind x number taken : ℕ) (S′ : System) → Allowed t (systemOf s) S′ kind x number taken → Made kind x number taken S′
   every kind x number taken S′ (act {d = d} a e few clock short) =
-      let w = acts-only t s x number checked (ready .state) d S′ a e few clock short in
-      made 0 x number taken S′ (record { kind-below = omega arith; agent-below = a .there; key-below = λ h. absurd (omega arith) }) (act-able t s x number .1 (w .0)) refl (w .1)
+      let w = act-exactly t checked s (ready .state .whole) formed x (a .there) number d e S′ .0 (a, few, clock, short) in
+      let i : d ≡ chosen t s x number = chosen-is (sym e ∙ nth-in (choices t s x) number (derivation ticks [] Idle) (w .0 .there)) in
+      made 0 x number taken S′ (record { kind-below = omega arith; agent-below = a .there; key-below = λ h. absurd (omega arith) }) (act-able t s x number .1 (w .0)) refl
+      (subst (λ (o : Derivation). Same A S′ (systemOf (acted t s x o))) i (w .1))
   every kind x k taken S′ (propagate l p) =
       let w = passed-propagated t s x k A (ready .state .whole) (limits .agents) (key k l) (pending Zp x k (p .there)) p in
       made 1 x k taken S′ (in-range 1 x k (omega arith) (p .there) l) (may-propagate t s x k .1 (w .0)) (w .1) (w .2)
@@ -159,20 +153,20 @@ module _ (acts-only : ActsOnly) (keeps : Keeps) (bytes s : List ℕ) (scratch : 
           terms = λ a h. ap (λ (b : Agent). b .P) (agent a h);
         }) (first .whole) (second .whole)
 
-module _ (acts-only : ActsOnly) (keeps : Keeps) where
+module _ (keeps : Keeps) where
   exactly : (bytes s s′ : List ℕ) (scratch kind x number taken : ℕ) → Ready bytes s scratch →
       (stepOf bytes s scratch kind x number ≡ done taken s′)
       ↔ (State (tableOf bytes) s′ × Allowed (tableOf bytes) (systemOf s) (systemOf s′) kind x number taken)
   exactly bytes s s′ scratch kind x number taken r = (
-    λ e. (keeps bytes s s′ scratch kind x number taken r e, allowed acts-only keeps bytes s scratch r s′ kind x number taken e),
-    λ h. let w = every acts-only keeps bytes s scratch r kind x number taken (systemOf s′) (h .1) in
-        w .1 ∙ ap (done taken) (one acts-only keeps bytes s scratch r (w .0) s′ (keeps bytes s (w .0) scratch kind x number taken r (w .1)) (h .0) (sym-same (w .2))),
+    λ e. (keeps bytes s s′ scratch kind x number taken r e, allowed bytes s scratch r s′ kind x number taken e),
+    λ h. let w = every bytes s scratch r kind x number taken (systemOf s′) (h .1) in
+        w .1 ∙ ap (done taken) (one bytes s scratch r (w .0) s′ (keeps bytes s (w .0) scratch kind x number taken r (w .1)) (h .0) (sym-same (w .2))),
   )
 
   pub demand-2 : Demand-2
   demand-2 = record {
     exactly = exactly;
-    every = λ bytes s scratch kind x number taken r S′ h. every acts-only keeps bytes s scratch r kind x number taken S′ h;
-    one = λ bytes s s′ scratch r state same. one acts-only keeps bytes s scratch r s s′ (r .state) state same;
-    transitions = λ bytes s scratch x r l d. moves-listed (tableOf bytes) (checked acts-only keeps bytes s scratch r) (agentOf s x .P) d;
+    every = λ bytes s scratch kind x number taken r S′ h. every bytes s scratch r kind x number taken S′ h;
+    one = λ bytes s s′ scratch r state same. one bytes s scratch r s s′ (r .state) state same;
+    transitions = λ bytes s scratch x r l d. moves-listed (tableOf bytes) (checked bytes s scratch r) (agentOf s x .P) d;
   }
