@@ -12,9 +12,8 @@ use lib.Seq.{getD-drop, length-take-le}
 use borrow.Author.Tests.{eqb-true, eqb-false, eq-eqb, ltb-true, lt-ltb, leb-true, le-leb}
 use Rattle.basis.specs.KeySets.{has}
 use Rattle.basis.specs.Numbers.{every}
-use Rattle.basis.proofs.KeySets.{has-past}
 use Rattle.basis.proofs.Numbers.{every-at, every-all}
-use Rattle.basis.proofs.Tests.{and-left, and-right, and-both, or-left, or-right, not-both, lt-or-le}
+use Rattle.basis.proofs.Tests.{and-left, and-right, and-both, or-left, or-right, lt-or-le}
 use Rattle.table.specs.Tables.{Table, firstRoot}
 use Rattle.table.specs.Sound.{Limits}
 use Rattle.term.specs.Acceptance.{stateWords}
@@ -25,7 +24,7 @@ use Rattle.state.specs.declared.Store.the-variants.{Environment, Attribu
 use Rattle.state.specs.Layout.{agentsAt, blockAt, keyLimit, residualWords, clockOf, markOf, wordOf, stampOf, zcOf, zpOf, lengthOf, residualOf, termIn}
 use Rattle.state.specs.WellFormed.{allZero, pairFormed, pendingFormed, residualFormed, agentFormed, wellFormed}
 use Rattle.state.proofs.Places.{KeySet, Zc, Zp, Waits, Residual}
-use Rattle.state.proofs.Frames.{wordAt}
+use Rattle.state.proofs.Frames.{wordAt, Small}
 use Rattle.state.proofs.Residuals.{zero-at, at-zero, residual-length, residual-front, residual-rest, residual-reads, term-read}
 
 -- pair k of a store of so many keys: no mark is over the highest, absent has value 0, a key that there is not is absent
@@ -37,7 +36,7 @@ pub record PairFormed (s : List ℕ) (store : Store) (highest keys k : ℕ) : Ty
 -- the set w of agent a: no key from the limit on, and every key has an entry
 pub record SetFormed (s : List ℕ) (a w : ℕ) : Type 0 where
   pub narrow : w < 2 ^ keyLimit
-  pub entered : (k : ℕ) → has w k ≡ true → 0 < stampOf s a k
+  pub entered : (k : ℕ) → k < keyLimit → has w k ≡ true → 0 < stampOf s a k
 
 -- agent a's residual is a term over process nodes, and 0 after it
 pub record ResidualFormed (t : Table) (s : List ℕ) (a : ℕ) : Type 0 where
@@ -74,6 +73,12 @@ pub record WellFormed (t : Table) (s : List ℕ) : Type 0 where
   pub clock : clockOf s ≤ 65535
   pub formed : Formed t (clockOf s) s
 
+-- and of the right length, each word of 32 bits
+pub record Proper (t : Table) (s : List ℕ) : Type 0 where
+  pub whole : length s ≡ stateWords
+  pub small : Small s
+  pub formed : WellFormed t s
+
 -- PAIRS
 module _ (t : Table) (s : List ℕ) (store : Store) (highest keys k : ℕ) where
   pair-read : pairFormed t s store highest keys k ≡ true → PairFormed s store highest keys k
@@ -100,14 +105,11 @@ module _ (t : Table) (s : List ℕ) (store : Store) (highest keys k : ℕ) where
 module _ (t : Table) (s : List ℕ) (a : ℕ) where
   sets-read : zcOf s a < 2 ^ keyLimit → zpOf s a < 2 ^ keyLimit → ((k : ℕ) → k < keyLimit → pendingFormed t s a k ≡ true) → (z : KeySet) → SetFormed s a (wordAt s (Waits z a))
   unfolding pendingFormed
-  sets-read c p h z = record { narrow = narrow z; entered = λ k e. let l = key (wordAt s (Waits z a)) k (narrow z) e in held k z e (h k l) }
+  sets-read c p h z = record { narrow = narrow z; entered = λ k l e. held k z e (h k l) }
     where
       narrow : (z : KeySet) → wordAt s (Waits z a) < 2 ^ keyLimit
       narrow Zc = c
       narrow Zp = p
-
-      key : (w k : ℕ) → w < 2 ^ keyLimit → has w k ≡ true → k < keyLimit
-      key w k l e = ⊎-elim (λ (m : k < keyLimit). m) (λ (m : keyLimit ≤ k). absurd (not-both e (has-past keyLimit w k l m))) (lt-or-le k keyLimit)
 
       pending : (k : ℕ) (z : KeySet) → has (wordAt s (Waits z a)) k ≡ true → (has (zcOf s a) k || has (zpOf s a) k) ≡ true
       pending k Zc e = or-left (has (zcOf s a) k) (has (zpOf s a) k) e
@@ -116,13 +118,13 @@ module _ (t : Table) (s : List ℕ) (a : ℕ) where
       held : (k : ℕ) (z : KeySet) → has (wordAt s (Waits z a)) k ≡ true → (not (has (zcOf s a) k || has (zpOf s a) k) || ltb 0 (stampOf s a k)) ≡ true → 0 < stampOf s a k
       held k z e f = ltb-true 0 (stampOf s a k) (rw (pending k z e) at f)
 
-  sets-test : ((z : KeySet) → SetFormed s a (wordAt s (Waits z a))) → (k : ℕ) → pendingFormed t s a k ≡ true
+  sets-test : ((z : KeySet) → SetFormed s a (wordAt s (Waits z a))) → (k : ℕ) → k < keyLimit → pendingFormed t s a k ≡ true
   unfolding pendingFormed
-  sets-test h k = by (has (zcOf s a) k) refl (has (zpOf s a) k) refl
+  sets-test h k l = by (has (zcOf s a) k) refl (has (zpOf s a) k) refl
     where
       by : (c : Bool) → has (zcOf s a) k ≡ c → (p : Bool) → has (zpOf s a) k ≡ p → (not (c || p) || ltb 0 (stampOf s a k)) ≡ true
-      by true e p f = lt-ltb 0 (stampOf s a k) (h Zc .entered k e)
-      by false e true f = lt-ltb 0 (stampOf s a k) (h Zp .entered k f)
+      by true e p f = lt-ltb 0 (stampOf s a k) (h Zc .entered k l e)
+      by false e true f = lt-ltb 0 (stampOf s a k) (h Zp .entered k l f)
       by false e false f = refl
 
 -- RESIDUALS
@@ -232,7 +234,7 @@ module _ (t : Table) (limits : Limits (t .sizes)) (s : List ℕ) (whole : length
         and-both _ _ (pairs-test (Attributes a) l)
         (and-both _ _ (pairs-test (Entries a) l)
         (and-both _ _ (and-both _ _ (lt-ltb (zcOf s a) (2 ^ keyLimit) (w .formed .sets Zc a l .narrow)) (lt-ltb (zpOf s a) (2 ^ keyLimit) (w .formed .sets Zp a l .narrow)))
-        (and-both _ _ (every-all (pendingFormed t s a) keyLimit (λ k h. sets-test t s a (λ z. w .formed .sets z a l) k))
+        (and-both _ _ (every-all (pendingFormed t s a) keyLimit (sets-test t s a (λ z. w .formed .sets z a l)))
         (residual-test t few s whole a (omega arith) (w .formed .residuals a l)))))
 
     pub well-formed-test : wellFormed t s ≡ true

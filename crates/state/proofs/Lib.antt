@@ -5,3 +5,4 @@ pub mod Formed
 pub mod Exact
 pub mod Evaluation
 pub mod Load
+pub mod Keep

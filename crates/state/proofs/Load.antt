@@ -24,10 +24,10 @@ use Rattle.term.proofs.Words.{Over}
 use Rattle.state.specs.declared.Store.{Store}
 use Rattle.state.specs.Layout.{agentsAt, blockAt, lengthAt, residualAt, residualWords, keyLimit, clockOf, markOf, lengthOf, termIn, valueIn}
 use Rattle.state.specs.WellFormed.{started, loaded}
-use Rattle.state.proofs.Places.{Place, KeySet, Clock, Agents, Mark, Word, Waits, Length, Residual, placeAt, Inside, placeAgent, same, other-agent, place-bound, placed}
+use Rattle.state.proofs.Places.{Place, KeySet, Clock, Agents, Mark, Word, Waits, Length, Residual, placeAt, Inside, placeAgent, same, other-agent, past-agent, placed}
 use Rattle.state.proofs.Frames.{wordAt, Small, SameAt, set-small, set-other, set-here}
 use Rattle.state.proofs.Residuals.{term-read}
-use Rattle.state.proofs.Formed.{WellFormed, residual-formed}
+use Rattle.state.proofs.Formed.{WellFormed, Proper, residual-formed}
 
 abbrev zeros : ℕ → List ℕ
 zeros n = replicate n 0
@@ -140,15 +140,14 @@ module _ (t : Table) where
     rest : (i : ℕ) → blockAt agents ≤ i → getD (loaded t) i 0 ≡ 0
     rest i h =
         let p = placed i in
-        let past : agents ≤ placeAgent (p .place) =
-        ⊎-elim (λ (l : placeAgent (p .place) < agents). absurd (omega (arith, place-bound (p .place) agents (p .inside) l, p .at))) (λ l. l) (lt-or-le (placeAgent (p .place)) agents) in
+        let past = past-agent (p .place) agents (p .inside) (omega (arith, p .at)) in
         ap (λ (j : ℕ). getD (loaded t) j 0) (sym (p .at))
         ∙ loaded-zero (p .place) (p .inside) (other-agent (p .place) Agents (λ e. omega arith))
         (λ a l. other-agent (p .place) (Length a) (λ e. omega arith)) (λ a l. other-agent (p .place) (Residual a 0) (λ e. omega arith))
 
-    pub loaded-formed : WellFormed t (loaded t)
+    formed : WellFormed t (loaded t)
     unfolding words
-    loaded-formed =
+    formed =
         record {
           clock = rw loaded-clock (omega arith);
           formed = record {
@@ -161,8 +160,11 @@ module _ (t : Table) where
                   unused = λ e. m;
                 };
             sets = λ z a l. rw (loaded-set z a)
-                (record { narrow = omega arith; entered = λ k e. absurd (not-both e (has-nothing k)) });
+                (record { narrow = omega arith; entered = λ k h e. absurd (not-both e (has-nothing k)) });
             residuals = λ a l. residual-formed t (omega arith) (loaded t) loaded-length a (omega arith) (Node (startAt t a)) (starts a l) (loaded-size (omega arith) a l) (omega arith) (loaded-word (omega arith) a l);
             unused = rest;
           };
         }
+
+    pub loaded-proper : Proper t (loaded t)
+    loaded-proper = record { whole = loaded-length; small = loaded-small; formed = formed }

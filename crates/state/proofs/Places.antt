@@ -259,6 +259,11 @@ place-past (Waits Zp a) n h l = omega arith
 place-past (Length a) n h l = omega arith
 place-past (Residual a i) n h l = omega arith
 
+-- a place from block n on is of an agent from n on
+pub past-agent : (p : Place) (n : ℕ) → Inside p → blockAt n ≤ placeAt p → n ≤ placeAgent p
+past-agent p n h l =
+    ⊎-elim (λ (m : placeAgent p < n). absurd (omega (arith, place-bound p n h m))) (λ (m : n ≤ placeAgent p). m) (lt-or-le (placeAgent p) n)
+
 -- there are 32 blocks
 pub place-fits : (p : Place) → Inside p → placeAgent p < 32 → placeAt p < stateWords
 place-fits p h l = place-bound p 32 h l
