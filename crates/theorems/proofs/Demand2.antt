@@ -70,11 +70,11 @@ module _ (bytes s : List ℕ) (scratch : ℕ) (ready : Ready bytes s scratch) wh
   formed : WellFormed t s
   formed = well-formed-read t limits s (ready .state .whole) (ready .state .formed)
 
-  pending : (z : KeySet) (x k : ℕ) → x < A → has (wordAt s (Waits z x)) k ≡ true → 0 < stampOf s x k
-  pending z x k l h = formed .formed .sets z x l .entered k h
-
   key : (k : ℕ) → k < t .sizes .stigmergy → k < keyLimit
   key k l = omega (arith, limits .stigmergy)
+
+  pending : (z : KeySet) (x k : ℕ) → x < A → k < t .sizes .stigmergy → has (wordAt s (Waits z x)) k ≡ true → 0 < stampOf s x k
+  pending z x k l i h = formed .formed .sets z x l .entered k (key k i) h
 
   -- A DONE STEP IS ALLOWED
   after-allowed : (kind x number : ℕ) → Done bytes s scratch kind x number →
@@ -87,11 +87,11 @@ module _ (bytes s : List ℕ) (scratch : ℕ) (ready : Ready bytes s scratch) wh
   after-allowed (suc zero) x k d =
       let l = d .range .key-below (omega arith) in
       let h = may-propagate t s x k .0 (d .own) in
-      propagate l (propagated-passed t s x k A (ready .state .whole) (limits .agents) (d .range .agent-below) (key k l) (pending Zp x k (d .range .agent-below) h) h)
+      propagate l (propagated-passed t s x k A (ready .state .whole) (limits .agents) (d .range .agent-below) (key k l) (pending Zp x k (d .range .agent-below) l h) h)
   after-allowed (suc (suc zero)) x k d =
       let l = d .range .key-below (omega arith) in
       let h = may-confirm t s x k .0 (d .own) in
-      confirm l (confirmed-passed t s x k A (ready .state .whole) (limits .agents) (d .range .agent-below) (key k l) (pending Zc x k (d .range .agent-below) h) h)
+      confirm l (confirmed-passed t s x k A (ready .state .whole) (limits .agents) (d .range .agent-below) (key k l) (pending Zc x k (d .range .agent-below) l h) h)
   after-allowed (suc (suc (suc kind))) x k d = absurd (omega (arith, d .range .kind-below))
 
   allowed : (s′ : List ℕ) (kind x number taken : ℕ) → stepOf bytes s scratch kind x number ≡ done taken s′ → Allowed t (systemOf s) (systemOf s′) kind x number taken
@@ -123,10 +123,10 @@ module _ (bytes s : List ℕ) (scratch : ℕ) (ready : Ready bytes s scratch) wh
       made 0 x number taken S′ (record { kind-below = omega arith; agent-below = a .there; key-below = λ h. absurd (omega arith) }) (act-able t s x number .1 (w .0)) refl
       (subst (λ (o : Derivation). Same A S′ (systemOf (acted t s x o))) i (w .1))
   every kind x k taken S′ (propagate l p) =
-      let w = passed-propagated t s x k A (ready .state .whole) (limits .agents) (key k l) (pending Zp x k (p .there)) p in
+      let w = passed-propagated t s x k A (ready .state .whole) (limits .agents) (key k l) (pending Zp x k (p .there) l) p in
       made 1 x k taken S′ (in-range 1 x k (omega arith) (p .there) l) (may-propagate t s x k .1 (w .0)) (w .1) (w .2)
   every kind x k taken S′ (confirm l p) =
-      let w = passed-confirmed t s x k A (ready .state .whole) (limits .agents) (key k l) (pending Zc x k (p .there)) p in
+      let w = passed-confirmed t s x k A (ready .state .whole) (limits .agents) (key k l) (pending Zc x k (p .there) l) p in
       made 2 x k taken S′ (in-range 2 x k (omega arith) (p .there) l) (may-confirm t s x k .1 (w .0)) (w .1) (w .2)
 
   -- ONE STATE FOR A SYSTEM

@@ -8,6 +8,7 @@ pub mod Reading
 pub mod Willing
 pub mod Acting
 pub mod Offers
+pub mod Ready
 pub mod Demand2
 pub mod Instance
 pub mod Seen
