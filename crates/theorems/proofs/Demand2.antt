@@ -1,38 +1,36 @@
 -- DEMAND 2.
 -- Assumes nothing.
-use Prim.Native.Nat.{ℕ, zero, suc, _<_, _≤_}
-use mathlib.Core.Bool.{Bool, true}
+use Prim.Native.Nat.{ℕ, zero, suc, _<_}
+use mathlib.Core.Bool.{true}
 use mathlib.Core.Logic.{_↔_}
-use mathlib.Core.Option.{Option, some}
-use mathlib.Core.Path.{_≡_, refl, sym, ap, ap₂, subst, _∙_}
+use mathlib.Core.Option.{some}
+use mathlib.Core.Path.{_≡_, refl, sym, ap, subst, _∙_}
 use mathlib.Core.List.{List, []}
 use native.Mathlib.Omega.{arith}
-use lib.ListN.{length, getD, getElem?}
+use lib.ListN.{length}
 use Rattle.basis.specs.KeySets.{has}
 use Rattle.basis.proofs.Lists.{nth-in}
 use Rattle.table.specs.Checks.{passes, firstOf}
 use Rattle.table.specs.Tables.{Table, tableOf}
 use Rattle.table.specs.Sound.{Limits}
 use Rattle.term.specs.Accepted.{Accepted, Checked}
-use Rattle.term.specs.Processes.{Derivation, derivation, ticks, derivations, process, allFew}
-use Rattle.term.specs.Terms.{Idle, words}
+use Rattle.term.specs.Processes.{Derivation, derivation, ticks}
+use Rattle.term.specs.Terms.{Idle}
 use Rattle.state.specs.declared.Store.{Store}
 use Rattle.state.specs.declared.Store.the-variants.{Environment, Attributes, Entries}
-use Rattle.state.specs.Layout.{keyLimit, residualWords, stampOf, zcOf, zpOf, valueIn, termIn}
+use Rattle.state.specs.Layout.{keyLimit, stampOf, valueIn}
 use Rattle.state.proofs.Places.{KeySet, Zc, Zp, Waits}
 use Rattle.state.proofs.Frames.{wordAt}
 use Rattle.state.proofs.Formed.{WellFormed, Proper, There, well-formed-read}
-use Rattle.state.proofs.Exact.{ShowSame, show-exact}
+use Rattle.state.proofs.Exact.{show-exact}
 use Rattle.machine.specs.Acts.{choices, chosen, acted}
-use Rattle.machine.specs.Offers.{takers, propagated, confirmed}
 use Rattle.machine.specs.Steps.{Outcome, takenBy, after, ownChecks, stepOf}
 use Rattle.machine.proofs.Steps.{InRange, Done, act-able, step-in, done-step, step-done}
 use Rattle.machine.proofs.Keep.{checks-accepted, checks-proper, step-checked}
 use Rattle.machine.proofs.Steps.{propagates as may-propagate, confirms as may-confirm}
 use Rattle.labs.specs.Agents.{Agent, Interface, System}
 use Rattle.labs.specs.Expressions.{valueIn as valueOfEntry}
-use Rattle.labs.specs.Systems.{Acted, Passed, put, qry, present}
-use Rattle.labs.specs.Reading.{entryOf, agentOf, systemOf}
+use Rattle.labs.specs.Reading.{agentOf, systemOf}
 use Rattle.theorems.specs.Demand2.{Allowed, act, propagate, confirm, done, State, Same, Ready, Demand-2}
 use Rattle.theorems.proofs.Moves.{moves-listed}
 use Rattle.theorems.proofs.Expressions.{entry-value}

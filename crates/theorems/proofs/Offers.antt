@@ -4,11 +4,11 @@
 use Prim.Native.Nat.{ℕ, _<_, _≤_}
 use mathlib.Core.Bool.{Bool, true, false, cond, _&&_, and-false}
 use mathlib.Core.Logic.{⊎-elim}
-use mathlib.Core.Option.{Option, none, some}
+use mathlib.Core.Option.{none, some}
 use mathlib.Core.Path.{_≡_, refl, sym, ap, subst, _∙_, fun-ext}
 use mathlib.Core.List.{List}
 use native.Mathlib.Omega.{arith}
-use lib.Dec.{eqb, ltb}
+use lib.Dec.{eqb}
 use lib.ListN.{length}
 use borrow.Author.Tests.{ltb-true, lt-ltb, eqb-true, eq-eqb, ne-eqb}
 use Rattle.basis.specs.Numbers.{forEach, howMany}
@@ -21,13 +21,13 @@ use Rattle.state.specs.declared.Store.the-variants.{Environment, Entries}
 use Rattle.state.specs.Layout.{keyLimit, clockOf, zcAt, zpAt, wordOf, stampOf, zcOf, zpOf, addKey, dropKey}
 use Rattle.state.specs.Layout.{put as putPair}
 use Rattle.state.specs.Evaluation.{linkHolds}
-use Rattle.state.proofs.Places.{Place, KeySet, Zc, Zp, Clock, Mark, Word, Waits, placeAt, Inside}
+use Rattle.state.proofs.Places.{KeySet, Zc, Zp, Clock, Mark, Word, Waits, placeAt}
 use Rattle.state.proofs.Frames.{put-length, drop-length, drop-other, value-same}
-use Rattle.machine.specs.Offers.{newer, takeEntry, hears, takes, answers, offer, offered, takers, propagated, confirmed}
+use Rattle.machine.specs.Offers.{takeEntry, hears, takes, answers, offer, offered, takers, propagated, confirmed}
 use Rattle.machine.proofs.Offers.{elsewhere, offer-length, offered-length, offer-other}
 use Rattle.labs.specs.Agents.{⟨_⸴_⸴_⸴_⸴_⟩, Agent, Entry, Stigmergy, System, _⟦_≔_⟧, _∪｛_｝, _∖｛_｝, Inserted, add, update}
 use Rattle.labs.specs.Systems.{Kind, put, qry, Message, message, Sends, PROPAGATE, CONFIRM, Older, Newer, Linked, Hears, PUT, QRY₁, QRY₂, STAY, Passed}
-use Rattle.labs.specs.Reading.{entryOf, agentOf, systemOf}
+use Rattle.labs.specs.Reading.{agentOf, systemOf}
 use Rattle.theorems.specs.Demand2.{Same}
 use Rattle.theorems.proofs.Expressions.{link-holds}
 use Rattle.theorems.proofs.Reading.{entry, stamped, entry-read, entry-present, agent-same, put-agent, with, add-zp-agent, drop-zp-agent, drop-zc-agent}

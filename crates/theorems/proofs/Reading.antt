@@ -1,25 +1,25 @@
 -- The agents that a state's words stand for, after a change of the words.
 -- Assumes nothing.
-use Prim.Native.Nat.{ℕ, zero, suc, _<_, _≤_}
-use mathlib.Core.Bool.{Bool, true, false, cond, not, _&&_, _||_, and-false}
-use mathlib.Core.Logic.{_⊎_, inl, inr, ⊎-elim}
+use Prim.Native.Nat.{ℕ, zero, suc, _<_}
+use mathlib.Core.Bool.{Bool, true, false, cond, and-false}
+use mathlib.Core.Logic.{_⊎_, ⊎-elim}
 use mathlib.Core.Option.{Option, none, some}
 use mathlib.Core.Path.{_≡_, refl, sym, ap, _∙_, fun-ext}
 use mathlib.Core.List.{List}
 use native.Mathlib.Omega.{arith}
 use lib.Dec.{eqb, ltb}
 use lib.ListN.{length}
-use borrow.Author.Tests.{ltb-true, ltb-false, lt-ltb, ne-eqb, eq-eqb}
+use borrow.Author.Tests.{ltb-true, lt-ltb, ne-eqb, eq-eqb}
 use Rattle.basis.specs.KeySets.{has}
 use Rattle.basis.proofs.Tests.{same-or-other}
 use Rattle.term.specs.Acceptance.{stateWords}
 use Rattle.term.specs.Terms.{Term}
-use Rattle.state.specs.declared.Store.the-variants.{Environment, Attributes, Entries}
-use Rattle.state.specs.Layout.{keyLimit, residualWords, wordOf, stampOf, zcAt, zpAt, put, addKey, dropKey}
+use Rattle.state.specs.declared.Store.the-variants.{Attributes, Entries}
+use Rattle.state.specs.Layout.{keyLimit, wordOf, stampOf, zcAt, zpAt, put, addKey, dropKey}
 use Rattle.state.proofs.Places.{Place, KeySet, Zc, Zp, Mark, Word, Waits, Length, Residual, Inside, placeKind, placeAgent, same}
 use Rattle.state.proofs.Frames.{wordAt, SameAt, value-same, term-same, put-length, put-other, put-mark, put-value, put-valueIn, add-length, add-other, has-add, drop-length, drop-other, has-drop}
 use Rattle.labs.specs.Agents.{⟨_⸴_⸴_⸴_⸴_⟩, Agent, Entry, Interface, Stigmergy, Keys, _⟦_≔_⟧, _∪｛_｝, _∖｛_｝}
-use Rattle.labs.specs.Reading.{entryOf, agentOf, systemOf}
+use Rattle.labs.specs.Reading.{entryOf, agentOf}
 
 pub tuple : {I I′ : Interface} {L L′ : Stigmergy} {P P′ : Term} {C C′ Q Q′ : Keys} → I ≡ I′ → L ≡ L′ → P ≡ P′ → C ≡ C′ → Q ≡ Q′ →
     ⟨ I ⸴ L ⸴ P ⸴ C ⸴ Q ⟩ ≡ ⟨ I′ ⸴ L′ ⸴ P′ ⸴ C′ ⸴ Q′ ⟩

@@ -1,13 +1,12 @@
 -- READY: what load leaves of an accepted table is ready, and stands for agents at their starting processes that know nothing.
 -- Assumes nothing.
-use Prim.Native.Nat.{ℕ, _<_}
-use mathlib.Core.Bool.{Bool, true, false}
+use Prim.Native.Nat.{ℕ}
+use mathlib.Core.Bool.{false}
 use mathlib.Core.Logic.{_↔_}
 use mathlib.Core.Option.{Option, none}
-use mathlib.Core.Path.{_≡_, refl, sym, ap, _∙_, fun-ext}
+use mathlib.Core.Path.{_≡_, refl, ap, _∙_, fun-ext}
 use mathlib.Core.List.{List}
 use lib.Dec.{ltb}
-use lib.ListN.{length}
 use borrow.Author.Tests.{ltb-true}
 use Rattle.basis.specs.KeySets.{has}
 use Rattle.basis.proofs.KeySets.{has-nothing}
@@ -17,19 +16,19 @@ use Rattle.table.specs.Tables.{Table, tableOf, startAt}
 use Rattle.table.specs.Sound.{Limits}
 use Rattle.table.proofs.Promises.{start-process}
 use Rattle.term.specs.Acceptance.{stateWords}
-use Rattle.term.specs.Accepted.{Accepted, Checked}
+use Rattle.term.specs.Accepted.{Accepted}
 use Rattle.term.specs.Terms.{Node}
 use Rattle.state.specs.declared.Store.the-variants.{Environment, Attributes, Entries}
 use Rattle.state.specs.Layout.{keyLimit}
 use Rattle.state.specs.WellFormed.{loaded}
 use Rattle.state.proofs.Places.{Zc, Zp}
 use Rattle.state.proofs.Formed.{Proper, well-formed-read, well-formed-test}
-use Rattle.state.proofs.Load.{loaded-length, loaded-clock, loaded-mark, loaded-value, loaded-set, loaded-term, loaded-proper}
+use Rattle.state.proofs.Load.{loaded-clock, loaded-mark, loaded-value, loaded-set, loaded-term, loaded-proper}
 use Rattle.machine.proofs.Steps.{state-checks}
 use Rattle.labs.specs.Agents.{⟨_⸴_⸴_⸴_⸴_⟩, Entry, System}
 use Rattle.labs.specs.Reading.{entryOf, systemOf}
 use Rattle.theorems.specs.Demand2.{Bytes, State, Same, Ready}
-use Rattle.theorems.proofs.Reading.{tuple, stamped}
+use Rattle.theorems.proofs.Reading.{tuple}
 
 module _ (t : Table) (s : List ℕ) (limits : Limits (t .sizes)) where
   pub state-proper : State t s ↔ Proper t s
