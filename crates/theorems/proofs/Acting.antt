@@ -1,8 +1,8 @@
 -- TABLES 7, 15 AND 16: an act on words is the rules' act on the system that the words stand for.
 -- Assumes nothing.
-use Prim.Native.Nat.{ℕ, zero, suc, _+_, _<_, _≤_}
+use Prim.Native.Nat.{ℕ, zero, suc, _<_, _≤_}
 use mathlib.Core.Bool.{Bool, true, false, cond, _&&_, _||_, and-false}
-use mathlib.Core.Logic.{_⊎_, ⊎-elim, _↔_}
+use mathlib.Core.Logic.{⊎-elim, _↔_}
 use mathlib.Core.Option.{Option, none, some}
 use mathlib.Core.Path.{_≡_, refl, sym, ap, subst, _∙_, fun-ext}
 use mathlib.Core.List.{List, []}
@@ -10,7 +10,7 @@ use native.Mathlib.Omega.{arith}
 use native.Mathlib.Numerals.{add-one}
 use lib.Dec.{eqb, ltb}
 use lib.ListN.{length, getD, getElem?, set, length-set}
-use borrow.Author.Tests.{eqb-true, eq-eqb, ne-eqb}
+use borrow.Author.Tests.{eqb-true, eq-eqb}
 use Rattle.basis.specs.KeySets.{has, plusAll}
 use Rattle.basis.proofs.KeySets.{has-plusAll, has-nothing, nothing-zero}
 use Rattle.basis.proofs.Tests.{not-both, is-false, same-test, and-left, and-both, lt-or-le, same-or-other}
@@ -22,19 +22,19 @@ use Rattle.term.specs.Terms.{Term, Idle, words}
 use Rattle.term.specs.Processes.{Label, ticks, acts, Derivation, derivation, allFew}
 use Rattle.term.specs.Acceptance.{stateWords}
 use Rattle.term.specs.Accepted.{Checked}
-use Rattle.term.proofs.Words.{Low, Over, over-low}
+use Rattle.term.proofs.Words.{Low, over-low}
 use Rattle.term.proofs.Inside.{ActionNode, Labelled, Inside as InsideTable, derivation-inside}
 use Rattle.state.specs.declared.Store.{Store}
 use Rattle.state.specs.declared.Store.the-variants.{Environment, Attributes, Entries}
 use Rattle.state.specs.Layout.{clockAt, zcAt, zpAt, keyLimit, residualWords, clockOf, stampOf, zcOf, zpOf, termIn, put, addKey}
-use Rattle.state.proofs.Places.{Place, Waiting, confirms, propagates, clock, mark, value, waiting, size, residual, Inside, kindOf, kindOfStore, agentOfStore, same, same-one}
+use Rattle.state.proofs.Places.{Place, confirms, propagates, clock, mark, value, waiting, size, residual, Inside, kindOf, kindOfStore, agentOfStore, same, same-one}
 use Rattle.state.proofs.Places.{agentOf as ownerOf}
 use Rattle.state.proofs.Frames.{wordAt, SameAt, set-other, set-here, value-same, term-same, put-length, put-other, put-valueIn, add-length, add-other}
 use Rattle.state.proofs.Formed.{WellFormed}
 use Rattle.machine.specs.Acts.{isAbsent, wordIn, nextStamp, allHold, valueFor, lacksValue, writesEntry, choices, chosen, toConfirm, storeOf, setKey, acted}
 use Rattle.machine.proofs.Leave.{leave-term, leave-other}
 use Rattle.machine.proofs.Steps.{Able}
-use Rattle.machine.proofs.Acts.{action-key, store-attribute, store-entry, store-environment, set-tick, set-value, set-entry, set-length, acted-length, acted-other}
+use Rattle.machine.proofs.Acts.{action-key, store-attribute, store-environment, set-tick, set-value, set-entry, set-length, acted-length, acted-other}
 use Rattle.labs.specs.Agents.{⟨_⸴_⸴_⸴_⸴_⟩, Agent, Entry, Interface, Stigmergy, Keys, System, _⟦_≔_⟧, _∪｛_｝, _∪_, Inserted, add, update}
 use Rattle.labs.specs.Expressions.{Expr, E⟦_⟧, exprOf}
 use Rattle.labs.specs.Processes.{Variable, attribute, stigmergy, environment}
