@@ -24,7 +24,7 @@ use Rattle.term.proofs.Inside.{ActionNode, Inside as InsideTable, derivation-in
 use Rattle.state.specs.declared.Store.{Store}
 use Rattle.state.specs.declared.Store.the-variants.{Environment, Attributes, Entries}
 use Rattle.state.specs.Layout.{clockAt, zcAt, zpAt, keyLimit, residualWords, zcOf, zpOf, termIn, put, addKey}
-use Rattle.state.proofs.Places.{Place, clock, mark, value, waiting, confirms, propagates, size, residual, Inside, kindOfStore, same}
+use Rattle.state.proofs.Places.{Place, Zc, Zp, Clock, Mark, Word, Waits, Length, Residual, Inside, storeKind, same}
 use Rattle.state.proofs.Frames.{wordAt, SameAt, set-other, set-word, put-length, put-other, put-word, add-length, add-word}
 use Rattle.machine.specs.Acts.{nextStamp, wordIn, leave, choices, chosen, valueFor, toConfirm, storeOf, setKey, acted}
 use Rattle.machine.proofs.Leave.{leave-length, leave-other}
@@ -58,15 +58,15 @@ module _ (t : Table) (was : List ℕ) (x : ℕ) where
   store-environment n e = rw e
 
   -- a stigmergy key is an entry only
-  pub store-other : (n : ℕ) → ActionNode t n → (kindAt t n ≡ 3 → ⊥) → kindOfStore (storeOf t was x n) ≡ 2 → ⊥
+  pub store-other : (n : ℕ) → ActionNode t n → (kindAt t n ≡ 3 → ⊥) → storeKind (storeOf t was x n) ≡ 2 → ⊥
   store-other n a d f = by (kindAt t n) refl (a .1) (a .2)
     where
       by : (k : ℕ) → kindAt t n ≡ k → 2 ≤ k → k ≤ 4 → ⊥
       by zero e l m = omega arith
       by (suc zero) e l m = omega arith
-      by (suc (suc zero)) e l m = omega (arith, ap kindOfStore (store-attribute n e))
+      by (suc (suc zero)) e l m = omega (arith, ap storeKind (store-attribute n e))
       by (suc (suc (suc zero))) e l m = d e
-      by (suc (suc (suc (suc zero)))) e l m = omega (arith, ap kindOfStore (store-environment n e))
+      by (suc (suc (suc (suc zero)))) e l m = omega (arith, ap storeKind (store-environment n e))
       by (suc (suc (suc (suc (suc k))))) e l m = omega arith
 
   -- SETTING A KEY
@@ -97,22 +97,22 @@ module _ (t : Table) (was : List ℕ) (x : ℕ) where
     set-entry e = rw (setKey, eq-eqb (kindAt t n) 3 e, store-entry n e)
 
     queued-length : length queued ≡ length was
-    queued-length = add-length propagates x k entered ∙ put-length (Entries x) k v (nextStamp was) was
+    queued-length = add-length Zp x k entered ∙ put-length (Entries x) k v (nextStamp was) was
 
     -- the word that is at q after a stigmergy write
     pub entry-word : length was ≡ stateWords → x < 32 → kindAt t n ≡ 3 → pAt t n < keyLimit → (q : Place) → Inside q
         → wordAt (setKey t was x (acts n)) q
-        ≡ cond (same q clock) (nextStamp was)
-        (cond (same q (waiting propagates x)) (plus (zpOf was x) (pAt t n))
-        (cond (same q (mark (Entries x) (pAt t n))) (nextStamp was)
-        (cond (same q (value (Entries x) (pAt t n))) (wordIn (valueFor t was x n)) (wordAt was q))))
+        ≡ cond (same q Clock) (nextStamp was)
+        (cond (same q (Waits Zp x)) (plus (zpOf was x) (pAt t n))
+        (cond (same q (Mark (Entries x) (pAt t n))) (nextStamp was)
+        (cond (same q (Word (Entries x) (pAt t n))) (wordIn (valueFor t was x n)) (wordAt was q))))
     entry-word whole there e key q h =
         ap (λ (s : List ℕ). wordAt s q) (set-entry e)
-        ∙ set-word queued clock (nextStamp was) tt (queued-length ∙ whole) (omega arith) q h
-        ∙ ap (λ w. cond (same q clock) (nextStamp was) w)
-        (add-word propagates x k entered (put-length (Entries x) k v (nextStamp was) was ∙ whole) there q h
-        ∙ ap₂ (λ a b. cond (same q (waiting propagates x)) (plus a k) b)
-        (put-other (Entries x) k v (nextStamp was) was key (waiting propagates x) tt refl refl)
+        ∙ set-word queued Clock (nextStamp was) tt (queued-length ∙ whole) (omega arith) q h
+        ∙ ap (λ w. cond (same q Clock) (nextStamp was) w)
+        (add-word Zp x k entered (put-length (Entries x) k v (nextStamp was) was ∙ whole) there q h
+        ∙ ap₂ (λ a b. cond (same q (Waits Zp x)) (plus a k) b)
+        (put-other (Entries x) k v (nextStamp was) was key (Waits Zp x) tt refl refl)
         (put-word (Entries x) k v (nextStamp was) was key whole there q h))
 
   pub set-length : (l : Label) → length (setKey t was x l) ≡ length was
@@ -134,7 +134,7 @@ module _ (t : Table) (was : List ℕ) (x : ℕ) where
     acted-length = leave-length x (words (d .leaving)) (set keySet (zcAt x) gains) ∙ length-set keySet (zcAt x) gains ∙ set-length (d .label)
 
     -- what is neither Zc nor residual is as the key's setting leaves it
-    pub acted-other : (q : Place) → Inside q → same q (waiting confirms x) ≡ false → same q (size x) ≡ false
-        → ((i : ℕ) → i < residualWords → same q (residual x i) ≡ false) → SameAt (acted t was x d) (setKey t was x (d .label)) q
+    pub acted-other : (q : Place) → Inside q → same q (Waits Zc x) ≡ false → same q (Length x) ≡ false
+        → ((i : ℕ) → i < residualWords → same q (Residual x i) ≡ false) → SameAt (acted t was x d) (setKey t was x (d .label)) q
     unfolding acted
-    acted-other q h e f g = leave-other x (words (d .leaving)) (set keySet (zcAt x) gains) q h f g ∙ set-other keySet (waiting confirms x) gains tt q h e
+    acted-other q h e f g = leave-other x (words (d .leaving)) (set keySet (zcAt x) gains) q h f g ∙ set-other keySet (Waits Zc x) gains tt q h e

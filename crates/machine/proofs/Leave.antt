@@ -1,11 +1,10 @@
 -- What is left after an act: the residual's length and words are those of the new term, 0 comes after, and nothing else changes.
 -- Assumes nothing.
-use Prim.Native.Nat.{ℕ, _+_, _-_, _^_, _<_, _≤_}
+use Prim.Native.Nat.{ℕ, _+_, _^_, _<_, _≤_}
 use mathlib.Core.Bool.{true, false}
-use mathlib.Core.Path.{_≡_, refl, sym, ap, _∙_}
+use mathlib.Core.Path.{_≡_, refl, sym, _∙_}
 use mathlib.Core.List.{List}
 use native.Mathlib.Omega.{arith}
-use lib.Dec.{eqb}
 use lib.ListN.{length, getD, set, take, drop, length-set}
 use borrow.Author.Tests.{ne-eqb}
 use Rattle.basis.specs.Numbers.{forEach}
@@ -15,7 +14,7 @@ use Rattle.term.specs.Terms.{Term, words}
 use Rattle.term.proofs.Words.{Low}
 use Rattle.state.specs.Layout.{residualWords, residualAt, lengthAt, lengthOf, residualOf, termIn}
 use Rattle.state.specs.WellFormed.{allZero}
-use Rattle.state.proofs.Places.{Place, size, residual, placeAt, Inside, same}
+use Rattle.state.proofs.Places.{Place, Length, Residual, Inside, same}
 use Rattle.state.proofs.Frames.{wordAt, Small, SameAt, set-small, set-other, set-here}
 use Rattle.state.proofs.Residuals.{residual-front, residual-rest, term-read}
 use Rattle.machine.specs.Acts.{leave}
@@ -40,25 +39,25 @@ module _ (x : ℕ) (ws s : List ℕ) where
       set-small (copied residualWords) (lengthAt x) (length ws)
       (forEach-keeps copy Small residualWords (λ i m u g. set-small u (residualAt x + i) (getD ws i 0) g (h i)) s small) l
 
-  copied-other : (n : ℕ) → n ≤ residualWords → (q : Place) → Inside q → ((i : ℕ) → i < n → same q (residual x i) ≡ false) → SameAt (copied n) s q
-  copied-other n b q h e = forEach-same copy (λ (u : List ℕ). wordAt u q) n (λ i l u. set-other u (residual x i) (getD ws i 0) (omega arith) q h (e i l)) s
+  copied-other : (n : ℕ) → n ≤ residualWords → (q : Place) → Inside q → ((i : ℕ) → i < n → same q (Residual x i) ≡ false) → SameAt (copied n) s q
+  copied-other n b q h e = forEach-same copy (λ (u : List ℕ). wordAt u q) n (λ i l u. set-other u (Residual x i) (getD ws i 0) (omega arith) q h (e i l)) s
 
-  pub leave-other : (q : Place) → Inside q → same q (size x) ≡ false → ((i : ℕ) → i < residualWords → same q (residual x i) ≡ false) → SameAt (leave x ws s) s q
+  pub leave-other : (q : Place) → Inside q → same q (Length x) ≡ false → ((i : ℕ) → i < residualWords → same q (Residual x i) ≡ false) → SameAt (leave x ws s) s q
   unfolding leave
-  leave-other q h e f = set-other (copied residualWords) (size x) (length ws) tt q h e ∙ copied-other residualWords (omega arith) q h f
+  leave-other q h e f = set-other (copied residualWords) (Length x) (length ws) tt q h e ∙ copied-other residualWords (omega arith) q h f
 
   module _ (whole : length s ≡ stateWords) (there : x < 32) where
     pub leave-size : lengthOf (leave x ws s) x ≡ length ws
     unfolding leave
-    leave-size = set-here (copied residualWords) (size x) (length ws) tt (copied-length residualWords ∙ whole) there
+    leave-size = set-here (copied residualWords) (Length x) (length ws) tt (copied-length residualWords ∙ whole) there
 
-    pub leave-word : (i : ℕ) → i < residualWords → wordAt (leave x ws s) (residual x i) ≡ getD ws i 0
+    pub leave-word : (i : ℕ) → i < residualWords → wordAt (leave x ws s) (Residual x i) ≡ getD ws i 0
     unfolding leave
     leave-word i l =
-        set-other (copied residualWords) (size x) (length ws) tt (residual x i) l refl
-        ∙ forEach-at copy (λ (u : List ℕ). wordAt u (residual x i)) i residualWords l
-        (λ j m d u. set-other u (residual x j) (getD ws j 0) m (residual x i) l (rw (ne-eqb i j (λ e. d (sym e))))) s
-        ∙ set-here (copied i) (residual x i) (getD ws i 0) l (copied-length i ∙ whole) there
+        set-other (copied residualWords) (Length x) (length ws) tt (Residual x i) l refl
+        ∙ forEach-at copy (λ (u : List ℕ). wordAt u (Residual x i)) i residualWords l
+        (λ j m d u. set-other u (Residual x j) (getD ws j 0) m (Residual x i) l (rw (ne-eqb i j (λ e. d (sym e))))) s
+        ∙ set-here (copied i) (Residual x i) (getD ws i 0) l (copied-length i ∙ whole) there
 
     module _ (short : length ws ≤ residualWords) where
       pub leave-front : take (length ws) (residualOf (leave x ws s) x) ≡ ws

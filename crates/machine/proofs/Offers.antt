@@ -1,38 +1,40 @@
 -- What stands where after an offer: each agent is as its own offer leaves it, and nothing else changes.
 -- Assumes nothing.
 use Prim.Native.Nat.{ℕ, _<_, _≤_}
-use mathlib.Core.Bool.{Bool, true, false, cond, _&&_}
+use mathlib.Core.Bool.{Bool, true, false, cond, not, _&&_, _||_}
 use mathlib.Core.Path.{_≡_, refl, sym, ap, ap₂, _∙_}
 use mathlib.Core.List.{List}
 use native.Mathlib.Omega.{arith}
 use lib.Dec.{eqb}
 use lib.ListN.{length}
+use borrow.Author.Tests.{eq-eqb}
 use Rattle.basis.specs.Numbers.{forEach}
-use Rattle.basis.specs.KeySets.{plus, minus}
+use Rattle.basis.specs.KeySets.{has, plus, minus}
+use Rattle.basis.proofs.KeySets.{has-plus, has-minus}
 use Rattle.basis.proofs.Numbers.{forEach-same, forEach-at}
-use Rattle.basis.proofs.Tests.{is-false, cond-cases, cond-into}
+use Rattle.basis.proofs.Tests.{cond-cases}
 use Rattle.table.specs.Tables.{Table}
 use Rattle.term.specs.Acceptance.{stateWords}
 use Rattle.state.specs.declared.Store.the-variants.{Entries}
-use Rattle.state.specs.Layout.{keyLimit, zcAt, zpAt, wordOf, stampOf, put, addKey, dropKey}
-use Rattle.state.proofs.Places.{Place, mark, value, waiting, confirms, propagates, Inside, kindOf, agentOf, same, same-one}
+use Rattle.state.specs.Layout.{keyLimit, zcAt, zpAt, wordOf, stampOf, zcOf, zpOf, put, addKey, dropKey}
+use Rattle.state.proofs.Places.{Place, Zc, Zp, Mark, Word, Waits, Inside, placeKind, placeAgent, same, same-not}
 use Rattle.state.proofs.Frames.{wordAt, SameAt, put-length, put-other, put-word, add-length, add-other, add-word, drop-length, drop-other, drop-word}
 use Rattle.machine.specs.Offers.{takeEntry, takes, answers, offer, offered}
 
 -- place q is not agent y's
 abbrev pub Elsewhere : ℕ → Place → Type 0
-Elsewhere y q = agentOf q ≡ y → kindOf q ≡ 0
+Elsewhere y q = placeAgent q ≡ y → placeKind q ≡ 0
 
-elsewhere : (q p : Place) → 0 < kindOf p → Elsewhere (agentOf p) q → same q p ≡ false
-elsewhere q p h f = is-false (same q p) (λ e. let d = same-one q p e in omega (arith, ap kindOf d, f (ap agentOf d)))
+pub elsewhere : (q p : Place) → 0 < placeKind p → Elsewhere (placeAgent p) q → same q p ≡ false
+elsewhere q p h f = same-not q p (λ d. omega (arith, ap placeKind d, f (ap placeAgent d)))
 
 -- agent y takes an entry: the word that is then at q, given those before
 abbrev pub tookWord : (k v m y : ℕ) → (Place → ℕ) → Place → ℕ
 tookWord k v m y word q =
-    cond (same q (waiting propagates y)) (plus (word (waiting propagates y)) k)
-    (cond (same q (waiting confirms y)) (minus (word (waiting confirms y)) k)
-    (cond (same q (mark (Entries y) k)) m
-    (cond (same q (value (Entries y) k)) v (word q))))
+    cond (same q (Waits Zp y)) (plus (word (Waits Zp y)) k)
+    (cond (same q (Waits Zc y)) (minus (word (Waits Zc y)) k)
+    (cond (same q (Mark (Entries y) k)) m
+    (cond (same q (Word (Entries y) k)) v (word q))))
 
 module _ (k v m y : ℕ) (s : List ℕ) where
   abbrev given : List ℕ
@@ -43,41 +45,41 @@ module _ (k v m y : ℕ) (s : List ℕ) where
 
   pub take-length : length (takeEntry k v m y s) ≡ length s
   unfolding takeEntry
-  take-length = add-length propagates y k settled ∙ drop-length confirms y k given ∙ put-length (Entries y) k v m s
+  take-length = add-length Zp y k settled ∙ drop-length Zc y k given ∙ put-length (Entries y) k v m s
 
   module _ (key : k < keyLimit) where
     pub take-other : (q : Place) → Inside q → Elsewhere y q → SameAt (takeEntry k v m y s) s q
     unfolding takeEntry
     take-other q h f =
-        add-other propagates y k settled q h (elsewhere q (waiting propagates y) (omega arith) f)
-        ∙ drop-other confirms y k given q h (elsewhere q (waiting confirms y) (omega arith) f)
-        ∙ put-other (Entries y) k v m s key q h (elsewhere q (mark (Entries y) k) (omega arith) f) (elsewhere q (value (Entries y) k) (omega arith) f)
+        add-other Zp y k settled q h (elsewhere q (Waits Zp y) (omega arith) f)
+        ∙ drop-other Zc y k given q h (elsewhere q (Waits Zc y) (omega arith) f)
+        ∙ put-other (Entries y) k v m s key q h (elsewhere q (Mark (Entries y) k) (omega arith) f) (elsewhere q (Word (Entries y) k) (omega arith) f)
 
     module _ (whole : length s ≡ stateWords) (there : y < 32) where
       pub take-word : (q : Place) → Inside q → wordAt (takeEntry k v m y s) q ≡ tookWord k v m y (wordAt s) q
       unfolding takeEntry
       take-word q h =
           let l : length given ≡ stateWords = put-length (Entries y) k v m s ∙ whole in
-          let c : SameAt given s (waiting confirms y) = put-other (Entries y) k v m s key (waiting confirms y) tt refl refl in
-          let p : SameAt settled s (waiting propagates y) =
-          drop-other confirms y k given (waiting propagates y) tt refl ∙ put-other (Entries y) k v m s key (waiting propagates y) tt refl refl in
-          add-word propagates y k settled (drop-length confirms y k given ∙ l) there q h
-          ∙ ap₂ (λ a b. cond (same q (waiting propagates y)) (plus a k) b) p (drop-word confirms y k given l there q h
-          ∙ ap₂ (λ a b. cond (same q (waiting confirms y)) (minus a k) b) c (put-word (Entries y) k v m s key whole there q h))
+          let c : SameAt given s (Waits Zc y) = put-other (Entries y) k v m s key (Waits Zc y) tt refl refl in
+          let p : SameAt settled s (Waits Zp y) =
+          drop-other Zc y k given (Waits Zp y) tt refl ∙ put-other (Entries y) k v m s key (Waits Zp y) tt refl refl in
+          add-word Zp y k settled (drop-length Zc y k given ∙ l) there q h
+          ∙ ap₂ (λ a b. cond (same q (Waits Zp y)) (plus a k) b) p (drop-word Zc y k given l there q h
+          ∙ ap₂ (λ a b. cond (same q (Waits Zc y)) (minus a k) b) c (put-word (Entries y) k v m s key whole there q h))
 
 module _ (t : Table) (was : List ℕ) (x k : ℕ) (asks : Bool) where
   -- the same of an offer to y
   abbrev pub offerWord : ℕ → (Place → ℕ) → Place → ℕ
   offerWord y word q =
       cond (takes t was x k y) (tookWord k (wordOf was (Entries x) k) (stampOf was x k) y word q)
-      (cond (asks && answers t was x k y) (cond (same q (waiting propagates y)) (plus (word (waiting propagates y)) k) (word q)) (word q))
+      (cond (asks && answers t was x k y) (cond (same q (Waits Zp y)) (plus (word (Waits Zp y)) k) (word q)) (word q))
 
   pub offer-length : (y : ℕ) (s : List ℕ) → length (offer t was x k asks y s) ≡ length s
   unfolding offer
   offer-length y s =
       cond-cases (λ (u : List ℕ). length u ≡ length s) (takes t was x k y)
       (λ e. take-length k (wordOf was (Entries x) k) (stampOf was x k) y s)
-      (λ e. cond-cases (λ (u : List ℕ). length u ≡ length s) (asks && answers t was x k y) (λ d. add-length propagates y k s) (λ d. refl))
+      (λ e. cond-cases (λ (u : List ℕ). length u ≡ length s) (asks && answers t was x k y) (λ d. add-length Zp y k s) (λ d. refl))
 
   pub offered-length : (agents : ℕ) → length (offered t was x k asks agents) ≡ length was
   offered-length agents = forEach-same (offer t was x k asks) (λ (u : List ℕ). length u) agents (λ y l s. offer-length y s) was
@@ -89,7 +91,7 @@ module _ (t : Table) (was : List ℕ) (x k : ℕ) (asks : Bool) where
         cond-cases (λ (u : List ℕ). SameAt u s q) (takes t was x k y)
         (λ e. take-other k (wordOf was (Entries x) k) (stampOf was x k) y s key q h f)
         (λ e. cond-cases (λ (u : List ℕ). SameAt u s q) (asks && answers t was x k y)
-        (λ d. add-other propagates y k s q h (elsewhere q (waiting propagates y) (omega arith) f)) (λ d. refl))
+        (λ d. add-other Zp y k s q h (elsewhere q (Waits Zp y) (omega arith) f)) (λ d. refl))
 
     pub offer-word : (y : ℕ) (s : List ℕ) → length s ≡ stateWords → y < 32 → (q : Place) → Inside q → wordAt (offer t was x k asks y s) q ≡ offerWord y (wordAt s) q
     unfolding offer
@@ -98,24 +100,71 @@ module _ (t : Table) (was : List ℕ) (x k : ℕ) (asks : Bool) where
         by : (a b : Bool)
             → wordAt (cond a (takeEntry k (wordOf was (Entries x) k) (stampOf was x k) y s) (cond b (addKey (zpAt y) k s) s)) q
             ≡ cond a (tookWord k (wordOf was (Entries x) k) (stampOf was x k) y (wordAt s) q)
-            (cond b (cond (same q (waiting propagates y)) (plus (wordAt s (waiting propagates y)) k) (wordAt s q)) (wordAt s q))
+            (cond b (cond (same q (Waits Zp y)) (plus (wordAt s (Waits Zp y)) k) (wordAt s q)) (wordAt s q))
         by true b = take-word k (wordOf was (Entries x) k) (stampOf was x k) y s key whole there q h
-        by false true = add-word propagates y k s whole there q h
+        by false true = add-word Zp y k s whole there q h
         by false false = refl
 
     -- what is nobody's, or of an agent that there is not, stays
-    pub offered-other : (agents : ℕ) (q : Place) → Inside q → (agentOf q < agents → kindOf q ≡ 0) → SameAt (offered t was x k asks agents) was q
+    pub offered-other : (agents : ℕ) (q : Place) → Inside q → (placeAgent q < agents → placeKind q ≡ 0) → SameAt (offered t was x k asks agents) was q
     offered-other agents q h f =
         forEach-same (offer t was x k asks) (λ (u : List ℕ). wordAt u q) agents (λ y l s. offer-other y s q h (λ e. f (omega arith))) was
 
     module _ (agents : ℕ) (few : agents ≤ 32) (whole : length was ≡ stateWords) where
       -- no offer to a lower agent changes y
-      untouched : (y : ℕ) (q : Place) → Inside q → agentOf q ≡ y → SameAt (offered t was x k asks y) was q
+      untouched : (y : ℕ) (q : Place) → Inside q → placeAgent q ≡ y → SameAt (offered t was x k asks y) was q
       untouched y q h e = offered-other y q h (λ l. absurd (omega arith))
 
       -- an agent is as its own offer leaves it
-      pub offered-word : (y : ℕ) → y < agents → (q : Place) → Inside q → agentOf q ≡ y → wordAt (offered t was x k asks agents) q ≡ offerWord y (wordAt was) q
+      pub offered-word : (y : ℕ) → y < agents → (q : Place) → Inside q → placeAgent q ≡ y → wordAt (offered t was x k asks agents) q ≡ offerWord y (wordAt was) q
       offered-word y l q h e =
           forEach-at (offer t was x k asks) (λ (u : List ℕ). wordAt u q) y agents l (λ z j d s. offer-other z s q h (λ c. absurd (d (sym c ∙ e)))) was
           ∙ offer-word y (offered t was x k asks y) (offered-length y ∙ whole) (omega arith) q h
-          ∙ rw (untouched y (waiting propagates y) tt refl, untouched y (waiting confirms y) tt refl, untouched y q h e)
+          ∙ rw (untouched y (Waits Zp y) tt refl, untouched y (Waits Zc y) tt refl, untouched y q h e)
+
+      -- its entries and sets after all offers
+      module _ (y : ℕ) (there : y < agents) where
+        abbrev T : Bool
+        T = takes t was x k y
+
+        abbrev N : Bool
+        N = asks && answers t was x k y
+
+        abbrev Y : Bool
+        Y = eqb y y
+
+        picked : (a b c d : Bool) → d ≡ true → (m w : ℕ) → cond a (cond (c && d) m w) (cond b w w) ≡ cond (a && c) m w
+        picked true b true d e m w = rw e
+        picked true b false d e m w = refl
+        picked false true c d e m w = refl
+        picked false false c d e m w = refl
+
+        pub offered-stamp : (j : ℕ) → j < keyLimit → stampOf (offered t was x k asks agents) y j ≡ cond (takes t was x k y && eqb j k) (stampOf was x k) (stampOf was y j)
+        offered-stamp j l = offered-word y there (Mark (Entries y) j) l refl ∙ picked T N (eqb j k) Y (eq-eqb y y refl) (stampOf was x k) (stampOf was y j)
+
+        pub offered-value : (j : ℕ) → j < keyLimit
+            → wordOf (offered t was x k asks agents) (Entries y) j ≡ cond (takes t was x k y && eqb j k) (wordOf was (Entries x) k) (wordOf was (Entries y) j)
+        offered-value j l = offered-word y there (Word (Entries y) j) l refl ∙ picked T N (eqb j k) Y (eq-eqb y y refl) (wordOf was (Entries x) k) (wordOf was (Entries y) j)
+
+        pub offered-zp : (j : ℕ)
+            → has (zpOf (offered t was x k asks agents) y) j ≡ (((takes t was x k y || (asks && answers t was x k y)) && eqb k j) || has (zpOf was y) j)
+        offered-zp j = ap (λ (w : ℕ). has w j) (offered-word y there (Waits Zp y) tt refl) ∙ by T N Y (eq-eqb y y refl) _
+          where
+            z : ℕ
+            z = zpOf was y
+
+            by : (a b d : Bool) → d ≡ true → (u : ℕ) → has (cond a (cond d (plus z k) u) (cond b (cond d (plus z k) z) z)) j ≡ (((a || b) && eqb k j) || has z j)
+            by true b d e u = rw e (has-plus z k j)
+            by false true d e u = rw e (has-plus z k j)
+            by false false d e u = refl
+
+        pub offered-zc : (j : ℕ) → has (zcOf (offered t was x k asks agents) y) j ≡ (not (takes t was x k y && eqb k j) && has (zcOf was y) j)
+        offered-zc j = ap (λ (w : ℕ). has w j) (offered-word y there (Waits Zc y) tt refl) ∙ by T N Y (eq-eqb y y refl) _
+          where
+            z : ℕ
+            z = zcOf was y
+
+            by : (a b d : Bool) → d ≡ true → (u : ℕ) → has (cond a (cond d (minus z k) u) (cond b z z)) j ≡ (not (a && eqb k j) && has z j)
+            by true b d e u = rw e (has-minus z k j)
+            by false true d e u = refl
+            by false false d e u = refl

@@ -13,15 +13,14 @@ use borrow.Author.Tests.{eqb-true, eqb-false, lt-ltb}
 use Rattle.basis.specs.KeySets.{has}
 use Rattle.basis.proofs.KeySets.{same-keys}
 use Rattle.basis.proofs.Tests.{lt-or-le}
-use Rattle.value.specs.declared.Value.{Value}
 use Rattle.value.specs.declared.Value.the-variants.{Absent, Present}
 use Rattle.table.specs.Tables.{Table}
 use Rattle.term.specs.Acceptance.{stateWords}
 use Rattle.term.specs.Terms.{Term, words}
 use Rattle.state.specs.declared.Store.{Store}
 use Rattle.state.specs.declared.Store.the-variants.{Environment, Attributes, Entries}
-use Rattle.state.specs.Layout.{keyLimit, residualWords, clockOf, markOf, wordOf, stampOf, termIn, valueIn}
-use Rattle.state.proofs.Places.{Place, Waiting, clock, agents, mark, value, waiting, size, residual, placeAt, Inside, kindOf, agentOf, place-past, placed}
+use Rattle.state.specs.Layout.{keyLimit, clockOf, markOf, wordOf, stampOf, termIn, valueIn}
+use Rattle.state.proofs.Places.{Place, KeySet, Clock, Agents, Mark, Word, Waits, Length, Residual, placeAt, Inside, placeKind, placeAgent, place-past, placed}
 use Rattle.state.proofs.Frames.{wordAt, SameAt}
 use Rattle.state.proofs.Formed.{PairFormed, WellFormed, There, highestIn, keysIn}
 
@@ -30,7 +29,7 @@ pub record ShowSame (t : Table) (s u : List ℕ) : Type 0 where
   pub clock : clockOf s ≡ clockOf u
   pub values : (store : Store) → There t store → (k : ℕ) → k < keyLimit → valueIn s store k ≡ valueIn u store k
   pub stamps : (a : ℕ) → a < t .sizes .agents → (k : ℕ) → k < keyLimit → stampOf s a k ≡ stampOf u a k
-  pub sets : (z : Waiting) (a : ℕ) → a < t .sizes .agents → (k : ℕ) → k < keyLimit → has (wordAt s (waiting z a)) k ≡ has (wordAt u (waiting z a)) k
+  pub sets : (z : KeySet) (a : ℕ) → a < t .sizes .agents → (k : ℕ) → k < keyLimit → has (wordAt s (Waits z a)) k ≡ has (wordAt u (Waits z a)) k
   pub terms : (a : ℕ) → a < t .sizes .agents → termIn s a ≡ termIn u a
 
 -- the same value of two pairs whose absent values are 0
@@ -67,28 +66,28 @@ module _ (t : Table) (s u : List ℕ) (w : WellFormed t s) (x : WellFormed t u) 
   marks (Entries a) h k l = same .stamps a h k l
 
   -- an agent's place: the blocks past the last agent's are not used
-  owned : (p : Place) → 0 < kindOf p → (agentOf p < t .sizes .agents → SameAt s u p) → SameAt s u p
+  owned : (p : Place) → 0 < placeKind p → (placeAgent p < t .sizes .agents → SameAt s u p) → SameAt s u p
   owned p k h =
       ⊎-elim h (λ l. let m = place-past p (t .sizes .agents) k l in w .formed .unused (placeAt p) m ∙ sym (x .formed .unused (placeAt p) m))
-      (lt-or-le (agentOf p) (t .sizes .agents))
+      (lt-or-le (placeAgent p) (t .sizes .agents))
 
   at : (p : Place) → Inside p → SameAt s u p
-  at clock h = same .clock
-  at agents h = w .formed .agents ∙ sym (x .formed .agents)
-  at (mark Environment k) h = marks Environment tt k h
-  at (mark (Attributes a) k) h = owned (mark (Attributes a) k) (omega arith) (λ l. marks (Attributes a) l k h)
-  at (mark (Entries a) k) h = owned (mark (Entries a) k) (omega arith) (λ l. marks (Entries a) l k h)
-  at (value Environment k) h = pair Environment tt k h .0
-  at (value (Attributes a) k) h = owned (value (Attributes a) k) (omega arith) (λ l. pair (Attributes a) l k h .0)
-  at (value (Entries a) k) h = owned (value (Entries a) k) (omega arith) (λ l. pair (Entries a) l k h .0)
-  at (waiting z a) h =
-      owned (waiting z a) (omega arith) (λ l.
-      same-keys keyLimit (wordAt s (waiting z a)) (wordAt u (waiting z a)) (w .formed .sets z a l .narrow) (x .formed .sets z a l .narrow) (same .sets z a l))
-  at (size a) h =
-      owned (size a) (omega arith) (λ l.
+  at Clock h = same .clock
+  at Agents h = w .formed .agents ∙ sym (x .formed .agents)
+  at (Mark Environment k) h = marks Environment tt k h
+  at (Mark (Attributes a) k) h = owned (Mark (Attributes a) k) (omega arith) (λ l. marks (Attributes a) l k h)
+  at (Mark (Entries a) k) h = owned (Mark (Entries a) k) (omega arith) (λ l. marks (Entries a) l k h)
+  at (Word Environment k) h = pair Environment tt k h .0
+  at (Word (Attributes a) k) h = owned (Word (Attributes a) k) (omega arith) (λ l. pair (Attributes a) l k h .0)
+  at (Word (Entries a) k) h = owned (Word (Entries a) k) (omega arith) (λ l. pair (Entries a) l k h .0)
+  at (Waits z a) h =
+      owned (Waits z a) (omega arith) (λ l.
+      same-keys keyLimit (wordAt s (Waits z a)) (wordAt u (Waits z a)) (w .formed .sets z a l .narrow) (x .formed .sets z a l .narrow) (same .sets z a l))
+  at (Length a) h =
+      owned (Length a) (omega arith) (λ l.
       w .formed .residuals a l .long ∙ ap (λ (T : Term). length (words T)) (same .terms a l) ∙ sym (x .formed .residuals a l .long))
-  at (residual a i) h =
-      owned (residual a i) (omega arith) (λ l.
+  at (Residual a i) h =
+      owned (Residual a i) (omega arith) (λ l.
       w .formed .residuals a l .reads i h ∙ ap (λ (T : Term). getD (words T) i 0) (same .terms a l) ∙ sym (x .formed .residuals a l .reads i h))
 
   word : (i : ℕ) → getD s i 0 ≡ getD u i 0

@@ -12,21 +12,20 @@ use lib.Seq.{getD-drop, length-take-le}
 use borrow.Author.Tests.{eqb-true, eqb-false, eq-eqb, ltb-true, lt-ltb, leb-true, le-leb}
 use Rattle.basis.specs.KeySets.{has}
 use Rattle.basis.specs.Numbers.{every}
-use Rattle.basis.proofs.KeySets.{has-past}
 use Rattle.basis.proofs.Numbers.{every-at, every-all}
-use Rattle.basis.proofs.Tests.{and-left, and-right, and-both, or-left, or-right, not-both, lt-or-le}
+use Rattle.basis.proofs.Tests.{and-left, and-right, and-both, or-left, or-right, lt-or-le}
 use Rattle.table.specs.Tables.{Table, firstRoot}
 use Rattle.table.specs.Sound.{Limits}
 use Rattle.term.specs.Acceptance.{stateWords}
-use Rattle.term.specs.Terms.{words, areTerms}
-use Rattle.term.proofs.Words.{Over, over-whole, whole-read}
+use Rattle.term.specs.Terms.{Term, words, areTerms}
+use Rattle.term.proofs.Words.{Over, over-low, over-whole, whole-read}
 use Rattle.state.specs.declared.Store.{Store}
 use Rattle.state.specs.declared.Store.the-variants.{Environment, Attributes, Entries}
 use Rattle.state.specs.Layout.{agentsAt, blockAt, keyLimit, residualWords, clockOf, markOf, wordOf, stampOf, zcOf, zpOf, lengthOf, residualOf, termIn}
 use Rattle.state.specs.WellFormed.{allZero, pairFormed, pendingFormed, residualFormed, agentFormed, wellFormed}
-use Rattle.state.proofs.Places.{Waiting, confirms, propagates, waiting, residual}
-use Rattle.state.proofs.Frames.{wordAt}
-use Rattle.state.proofs.Residuals.{zero-at, at-zero, residual-length, residual-front, residual-rest, residual-reads}
+use Rattle.state.proofs.Places.{KeySet, Zc, Zp, Waits, Residual}
+use Rattle.state.proofs.Frames.{wordAt, Small}
+use Rattle.state.proofs.Residuals.{zero-at, at-zero, residual-length, residual-front, residual-rest, residual-reads, term-read}
 
 -- pair k of a store of so many keys: no mark is over the highest, absent has value 0, a key that there is not is absent
 pub record PairFormed (s : List ℕ) (store : Store) (highest keys k : ℕ) : Type 0 where
@@ -37,14 +36,14 @@ pub record PairFormed (s : List ℕ) (store : Store) (highest keys k : ℕ) : Ty
 -- the set w of agent a: no key from the limit on, and every key has an entry
 pub record SetFormed (s : List ℕ) (a w : ℕ) : Type 0 where
   pub narrow : w < 2 ^ keyLimit
-  pub entered : (k : ℕ) → has w k ≡ true → 0 < stampOf s a k
+  pub entered : (k : ℕ) → k < keyLimit → has w k ≡ true → 0 < stampOf s a k
 
 -- agent a's residual is a term over process nodes, and 0 after it
 pub record ResidualFormed (t : Table) (s : List ℕ) (a : ℕ) : Type 0 where
   pub over : Over t (termIn s a)
   pub long : lengthOf s a ≡ length (words (termIn s a))
   pub short : lengthOf s a ≤ residualWords
-  pub reads : (i : ℕ) → i < residualWords → wordAt s (residual a i) ≡ getD (words (termIn s a)) i 0
+  pub reads : (i : ℕ) → i < residualWords → wordAt s (Residual a i) ≡ getD (words (termIn s a)) i 0
 
 -- of each store: whether it is there, its highest mark where stamps go up to c, and how many keys it has
 abbrev pub There : Table → Store → Type 0
@@ -66,13 +65,19 @@ keysIn t (Entries a) = t .sizes .stigmergy
 pub record Formed (t : Table) (c : ℕ) (s : List ℕ) : Type 0 where
   pub agents : getD s agentsAt 0 ≡ t .sizes .agents
   pub pairs : (store : Store) → There t store → (k : ℕ) → k < keyLimit → PairFormed s store (highestIn c store) (keysIn t store) k
-  pub sets : (z : Waiting) (a : ℕ) → a < t .sizes .agents → SetFormed s a (wordAt s (waiting z a))
+  pub sets : (z : KeySet) (a : ℕ) → a < t .sizes .agents → SetFormed s a (wordAt s (Waits z a))
   pub residuals : (a : ℕ) → a < t .sizes .agents → ResidualFormed t s a
   pub unused : (i : ℕ) → blockAt (t .sizes .agents) ≤ i → getD s i 0 ≡ 0
 
 pub record WellFormed (t : Table) (s : List ℕ) : Type 0 where
   pub clock : clockOf s ≤ 65535
   pub formed : Formed t (clockOf s) s
+
+-- and of the right length, each word of 32 bits
+pub record Proper (t : Table) (s : List ℕ) : Type 0 where
+  pub whole : length s ≡ stateWords
+  pub small : Small s
+  pub formed : WellFormed t s
 
 -- PAIRS
 module _ (t : Table) (s : List ℕ) (store : Store) (highest keys k : ℕ) where
@@ -98,31 +103,28 @@ module _ (t : Table) (s : List ℕ) (store : Store) (highest keys k : ℕ) where
 
 -- SETS
 module _ (t : Table) (s : List ℕ) (a : ℕ) where
-  sets-read : zcOf s a < 2 ^ keyLimit → zpOf s a < 2 ^ keyLimit → ((k : ℕ) → k < keyLimit → pendingFormed t s a k ≡ true) → (z : Waiting) → SetFormed s a (wordAt s (waiting z a))
+  sets-read : zcOf s a < 2 ^ keyLimit → zpOf s a < 2 ^ keyLimit → ((k : ℕ) → k < keyLimit → pendingFormed t s a k ≡ true) → (z : KeySet) → SetFormed s a (wordAt s (Waits z a))
   unfolding pendingFormed
-  sets-read c p h z = record { narrow = narrow z; entered = λ k e. let l = key (wordAt s (waiting z a)) k (narrow z) e in held k z e (h k l) }
+  sets-read c p h z = record { narrow = narrow z; entered = λ k l e. held k z e (h k l) }
     where
-      narrow : (z : Waiting) → wordAt s (waiting z a) < 2 ^ keyLimit
-      narrow confirms = c
-      narrow propagates = p
+      narrow : (z : KeySet) → wordAt s (Waits z a) < 2 ^ keyLimit
+      narrow Zc = c
+      narrow Zp = p
 
-      key : (w k : ℕ) → w < 2 ^ keyLimit → has w k ≡ true → k < keyLimit
-      key w k l e = ⊎-elim (λ (m : k < keyLimit). m) (λ (m : keyLimit ≤ k). absurd (not-both e (has-past keyLimit w k l m))) (lt-or-le k keyLimit)
+      pending : (k : ℕ) (z : KeySet) → has (wordAt s (Waits z a)) k ≡ true → (has (zcOf s a) k || has (zpOf s a) k) ≡ true
+      pending k Zc e = or-left (has (zcOf s a) k) (has (zpOf s a) k) e
+      pending k Zp e = or-right (has (zcOf s a) k) (has (zpOf s a) k) e
 
-      pending : (k : ℕ) (z : Waiting) → has (wordAt s (waiting z a)) k ≡ true → (has (zcOf s a) k || has (zpOf s a) k) ≡ true
-      pending k confirms e = or-left (has (zcOf s a) k) (has (zpOf s a) k) e
-      pending k propagates e = or-right (has (zcOf s a) k) (has (zpOf s a) k) e
-
-      held : (k : ℕ) (z : Waiting) → has (wordAt s (waiting z a)) k ≡ true → (not (has (zcOf s a) k || has (zpOf s a) k) || ltb 0 (stampOf s a k)) ≡ true → 0 < stampOf s a k
+      held : (k : ℕ) (z : KeySet) → has (wordAt s (Waits z a)) k ≡ true → (not (has (zcOf s a) k || has (zpOf s a) k) || ltb 0 (stampOf s a k)) ≡ true → 0 < stampOf s a k
       held k z e f = ltb-true 0 (stampOf s a k) (rw (pending k z e) at f)
 
-  sets-test : ((z : Waiting) → SetFormed s a (wordAt s (waiting z a))) → (k : ℕ) → pendingFormed t s a k ≡ true
+  sets-test : ((z : KeySet) → SetFormed s a (wordAt s (Waits z a))) → (k : ℕ) → k < keyLimit → pendingFormed t s a k ≡ true
   unfolding pendingFormed
-  sets-test h k = by (has (zcOf s a) k) refl (has (zpOf s a) k) refl
+  sets-test h k l = by (has (zcOf s a) k) refl (has (zpOf s a) k) refl
     where
       by : (c : Bool) → has (zcOf s a) k ≡ c → (p : Bool) → has (zpOf s a) k ≡ p → (not (c || p) || ltb 0 (stampOf s a k)) ≡ true
-      by true e p f = lt-ltb 0 (stampOf s a k) (h confirms .entered k e)
-      by false e true f = lt-ltb 0 (stampOf s a k) (h propagates .entered k f)
+      by true e p f = lt-ltb 0 (stampOf s a k) (h Zc .entered k l e)
+      by false e true f = lt-ltb 0 (stampOf s a k) (h Zp .entered k l f)
       by false e false f = refl
 
 -- RESIDUALS
@@ -145,6 +147,13 @@ module _ (t : Table) (few : firstRoot t ≤ 65532) (s : List ℕ) (whole : lengt
         reads = residual-reads s a (words (termIn s a)) (ap (λ (m : ℕ). take m (residualOf s a)) (sym long) ∙ sym (r .1))
             (ap (λ (m : ℕ). allZero (drop m (residualOf s a))) (sym long) ∙ and-right (areTerms t 1 ws) _ f);
       }
+
+  -- the words of a term, and 0 after them
+  pub residual-formed : (T : Term) → Over t T → lengthOf s a ≡ length (words T) → length (words T) ≤ residualWords
+      → ((i : ℕ) → i < residualWords → wordAt s (Residual a i) ≡ getD (words T) i 0) → ResidualFormed t s a
+  residual-formed T o l m r =
+      let e = term-read s a whole there T (over-low t few T o) m l r in
+      record { over = rw e o; long = rw e l; short = omega arith; reads = rw e r }
 
   residual-test : ResidualFormed t s a → residualFormed t s a ≡ true
   unfolding residualFormed
@@ -224,8 +233,8 @@ module _ (t : Table) (limits : Limits (t .sizes)) (s : List ℕ) (whole : length
     agent-test a l =
         and-both _ _ (pairs-test (Attributes a) l)
         (and-both _ _ (pairs-test (Entries a) l)
-        (and-both _ _ (and-both _ _ (lt-ltb (zcOf s a) (2 ^ keyLimit) (w .formed .sets confirms a l .narrow)) (lt-ltb (zpOf s a) (2 ^ keyLimit) (w .formed .sets propagates a l .narrow)))
-        (and-both _ _ (every-all (pendingFormed t s a) keyLimit (λ k h. sets-test t s a (λ z. w .formed .sets z a l) k))
+        (and-both _ _ (and-both _ _ (lt-ltb (zcOf s a) (2 ^ keyLimit) (w .formed .sets Zc a l .narrow)) (lt-ltb (zpOf s a) (2 ^ keyLimit) (w .formed .sets Zp a l .narrow)))
+        (and-both _ _ (every-all (pendingFormed t s a) keyLimit (sets-test t s a (λ z. w .formed .sets z a l)))
         (residual-test t few s whole a (omega arith) (w .formed .residuals a l)))))
 
     pub well-formed-test : wellFormed t s ≡ true

@@ -19,7 +19,7 @@ use Rattle.term.specs.Acceptance.{stateWords}
 use Rattle.term.specs.Terms.{termOf}
 use Rattle.state.specs.declared.Store.{Store}
 use Rattle.state.specs.Layout.{keyLimit, residualWords, residualAt, markOf, wordOf, residualOf, termIn, valueIn, put, addKey, dropKey}
-use Rattle.state.proofs.Places.{Place, Waiting, mark, value, waiting, size, residual, placeAt, Inside, agentOf, agentOfStore, same, sameStore, same-self, same-place, place-fits}
+use Rattle.state.proofs.Places.{Place, KeySet, Mark, Word, Waits, Length, Residual, placeAt, Inside, placeAgent, storeAgent, same, sameStore, same-self, same-place, place-fits}
 
 abbrev pub wordAt : List ℕ → Place → ℕ
 wordAt s p = getD s (placeAt p) 0
@@ -43,7 +43,7 @@ module _ (s : List ℕ) (p : Place) (v : ℕ) (inside : Inside p) where
   pub set-other : (q : Place) → Inside q → same q p ≡ false → SameAt (set s (placeAt p) v) s q
   set-other q h e = getD-set-other s (placeAt p) (placeAt q) v 0 (eqb-false (placeAt q) (placeAt p) (same-place q p h inside ∙ e))
 
-  module _ (whole : length s ≡ stateWords) (there : agentOf p < 32) where
+  module _ (whole : length s ≡ stateWords) (there : placeAgent p < 32) where
     pub set-word : (q : Place) → Inside q → wordAt (set s (placeAt p) v) q ≡ cond (same q p) v (wordAt s q)
     set-word q h =
         getD-set s (placeAt p) (placeAt q) v 0 (rw whole (place-fits p inside there))
@@ -60,28 +60,28 @@ module _ (store : Store) (k v m : ℕ) (s : List ℕ) where
 
   pub put-small : Small s → v < 2 ^ 32 → m < 2 ^ 32 → Small (put store k v m s)
   unfolding put
-  put-small small h l = set-small (set s (placeAt (value store k)) v) (placeAt (mark store k)) m (set-small s (placeAt (value store k)) v small h) l
+  put-small small h l = set-small (set s (placeAt (Word store k)) v) (placeAt (Mark store k)) m (set-small s (placeAt (Word store k)) v small h) l
 
   module _ (key : k < keyLimit) where
-    pub put-other : (q : Place) → Inside q → same q (mark store k) ≡ false → same q (value store k) ≡ false → SameAt (put store k v m s) s q
+    pub put-other : (q : Place) → Inside q → same q (Mark store k) ≡ false → same q (Word store k) ≡ false → SameAt (put store k v m s) s q
     unfolding put
     put-other q h e f =
-        set-other (set s (placeAt (value store k)) v) (mark store k) m key q h e
-        ∙ set-other s (value store k) v key q h f
+        set-other (set s (placeAt (Word store k)) v) (Mark store k) m key q h e
+        ∙ set-other s (Word store k) v key q h f
 
-    module _ (whole : length s ≡ stateWords) (there : agentOfStore store < 32) where
+    module _ (whole : length s ≡ stateWords) (there : storeAgent store < 32) where
       pub put-word : (q : Place) → Inside q
-          → wordAt (put store k v m s) q ≡ cond (same q (mark store k)) m (cond (same q (value store k)) v (wordAt s q))
+          → wordAt (put store k v m s) q ≡ cond (same q (Mark store k)) m (cond (same q (Word store k)) v (wordAt s q))
       unfolding put
       put-word q h =
-          set-word (set s (placeAt (value store k)) v) (mark store k) m key (length-set s (placeAt (value store k)) v ∙ whole) there q h
-          ∙ ap (λ w. cond (same q (mark store k)) m w) (set-word s (value store k) v key whole there q h)
+          set-word (set s (placeAt (Word store k)) v) (Mark store k) m key (length-set s (placeAt (Word store k)) v ∙ whole) there q h
+          ∙ ap (λ w. cond (same q (Mark store k)) m w) (set-word s (Word store k) v key whole there q h)
 
       pub put-mark : markOf (put store k v m s) store k ≡ m
-      put-mark = put-word (mark store k) key ∙ rw (same-self (mark store k))
+      put-mark = put-word (Mark store k) key ∙ rw (same-self (Mark store k))
 
       pub put-value : wordOf (put store k v m s) store k ≡ v
-      put-value = put-word (value store k) key ∙ rw (same-self (value store k))
+      put-value = put-word (Word store k) key ∙ rw (same-self (Word store k))
 
       -- the value that it then has, and those of all other keys
       pub put-valueIn : 0 < m → (other : Store) (j : ℕ) → valueIn (put store k v m s) other j ≡ cond (eqb j k && sameStore other store) (Present v) (valueIn s other j)
@@ -99,53 +99,53 @@ module _ (store : Store) (k v m : ℕ) (s : List ℕ) where
               ≡ cond (eqb j k && sameStore other store) (Present v) (cond b (cond (eqb (markOf s other j) 0) Absent (Present (wordOf s other j))) Absent)
           by true e =
               let l = ltb-true j keyLimit e in
-              rw (put-word (mark other j) l, put-word (value other j) l) (pick (eqb j k && sameStore other store))
+              rw (put-word (Mark other j) l, put-word (Word other j) l) (pick (eqb j k && sameStore other store))
           by false e = let l = ltb-false j keyLimit e in rw (ne-eqb j k (omega arith))
 
 -- A SET OF KEYS, Zc or Zp of agent a
-module _ (z : Waiting) (a k : ℕ) (s : List ℕ) where
-  pub add-length : length (addKey (placeAt (waiting z a)) k s) ≡ length s
+module _ (z : KeySet) (a k : ℕ) (s : List ℕ) where
+  pub add-length : length (addKey (placeAt (Waits z a)) k s) ≡ length s
   unfolding addKey
   add-length = simp length-set
 
-  pub drop-length : length (dropKey (placeAt (waiting z a)) k s) ≡ length s
+  pub drop-length : length (dropKey (placeAt (Waits z a)) k s) ≡ length s
   unfolding dropKey
   drop-length = simp length-set
 
-  pub add-small : k < 32 → Small s → Small (addKey (placeAt (waiting z a)) k s)
+  pub add-small : k < 32 → Small s → Small (addKey (placeAt (Waits z a)) k s)
   unfolding addKey
-  add-small l small = set-small s (placeAt (waiting z a)) _ small (plus-small 32 (wordAt s (waiting z a)) k l (small (placeAt (waiting z a))))
+  add-small l small = set-small s (placeAt (Waits z a)) _ small (plus-small 32 (wordAt s (Waits z a)) k l (small (placeAt (Waits z a))))
 
-  pub drop-small : Small s → Small (dropKey (placeAt (waiting z a)) k s)
+  pub drop-small : Small s → Small (dropKey (placeAt (Waits z a)) k s)
   unfolding dropKey
-  drop-small small = set-small s (placeAt (waiting z a)) _ small (minus-small 32 (wordAt s (waiting z a)) k (small (placeAt (waiting z a))))
+  drop-small small = set-small s (placeAt (Waits z a)) _ small (minus-small 32 (wordAt s (Waits z a)) k (small (placeAt (Waits z a))))
 
-  pub add-other : (q : Place) → Inside q → same q (waiting z a) ≡ false → SameAt (addKey (placeAt (waiting z a)) k s) s q
+  pub add-other : (q : Place) → Inside q → same q (Waits z a) ≡ false → SameAt (addKey (placeAt (Waits z a)) k s) s q
   unfolding addKey
-  add-other q h e = set-other s (waiting z a) _ tt q h e
+  add-other q h e = set-other s (Waits z a) _ tt q h e
 
-  pub drop-other : (q : Place) → Inside q → same q (waiting z a) ≡ false → SameAt (dropKey (placeAt (waiting z a)) k s) s q
+  pub drop-other : (q : Place) → Inside q → same q (Waits z a) ≡ false → SameAt (dropKey (placeAt (Waits z a)) k s) s q
   unfolding dropKey
-  drop-other q h e = set-other s (waiting z a) _ tt q h e
+  drop-other q h e = set-other s (Waits z a) _ tt q h e
 
   module _ (whole : length s ≡ stateWords) (there : a < 32) where
-    pub add-word : (q : Place) → Inside q → wordAt (addKey (placeAt (waiting z a)) k s) q ≡ cond (same q (waiting z a)) (plus (wordAt s (waiting z a)) k) (wordAt s q)
+    pub add-word : (q : Place) → Inside q → wordAt (addKey (placeAt (Waits z a)) k s) q ≡ cond (same q (Waits z a)) (plus (wordAt s (Waits z a)) k) (wordAt s q)
     unfolding addKey
-    add-word q h = set-word s (waiting z a) _ tt whole there q h
+    add-word q h = set-word s (Waits z a) _ tt whole there q h
 
-    pub drop-word : (q : Place) → Inside q → wordAt (dropKey (placeAt (waiting z a)) k s) q ≡ cond (same q (waiting z a)) (minus (wordAt s (waiting z a)) k) (wordAt s q)
+    pub drop-word : (q : Place) → Inside q → wordAt (dropKey (placeAt (Waits z a)) k s) q ≡ cond (same q (Waits z a)) (minus (wordAt s (Waits z a)) k) (wordAt s q)
     unfolding dropKey
-    drop-word q h = set-word s (waiting z a) _ tt whole there q h
+    drop-word q h = set-word s (Waits z a) _ tt whole there q h
 
-    pub has-add : (j : ℕ) → has (wordAt (addKey (placeAt (waiting z a)) k s) (waiting z a)) j ≡ (eqb k j || has (wordAt s (waiting z a)) j)
-    has-add j = rw (add-word (waiting z a) tt, same-self (waiting z a)) (has-plus (wordAt s (waiting z a)) k j)
+    pub has-add : (j : ℕ) → has (wordAt (addKey (placeAt (Waits z a)) k s) (Waits z a)) j ≡ (eqb k j || has (wordAt s (Waits z a)) j)
+    has-add j = rw (add-word (Waits z a) tt, same-self (Waits z a)) (has-plus (wordAt s (Waits z a)) k j)
 
-    pub has-drop : (j : ℕ) → has (wordAt (dropKey (placeAt (waiting z a)) k s) (waiting z a)) j ≡ (not (eqb k j) && has (wordAt s (waiting z a)) j)
-    has-drop j = rw (drop-word (waiting z a) tt, same-self (waiting z a)) (has-minus (wordAt s (waiting z a)) k j)
+    pub has-drop : (j : ℕ) → has (wordAt (dropKey (placeAt (Waits z a)) k s) (Waits z a)) j ≡ (not (eqb k j) && has (wordAt s (Waits z a)) j)
+    has-drop j = rw (drop-word (Waits z a) tt, same-self (Waits z a)) (has-minus (wordAt s (Waits z a)) k j)
 
 -- WHAT IS READ FROM SEVERAL WORDS is the same where they are
 module _ (s u : List ℕ) where
-  pub value-same : (store : Store) (k : ℕ) → (k < keyLimit → SameAt s u (mark store k)) → (k < keyLimit → SameAt s u (value store k)) → valueIn s store k ≡ valueIn u store k
+  pub value-same : (store : Store) (k : ℕ) → (k < keyLimit → SameAt s u (Mark store k)) → (k < keyLimit → SameAt s u (Word store k)) → valueIn s store k ≡ valueIn u store k
   unfolding valueIn
   value-same store k f g = by (ltb k keyLimit) refl
     where
@@ -155,12 +155,12 @@ module _ (s u : List ℕ) where
       by true e = rw (f (ltb-true k keyLimit e), g (ltb-true k keyLimit e))
       by false e = refl
 
-  pub residual-same : (a : ℕ) → length s ≡ length u → ((i : ℕ) → i < residualWords → SameAt s u (residual a i)) → residualOf s a ≡ residualOf u a
+  pub residual-same : (a : ℕ) → length s ≡ length u → ((i : ℕ) → i < residualWords → SameAt s u (Residual a i)) → residualOf s a ≡ residualOf u a
   residual-same a e h =
       let n = residualAt a in
       let l : length (take residualWords (drop n s)) ≡ length (take residualWords (drop n u)) = simp (length-take, length-drop, e) in
       ext-getD 0 (residualOf s a) (residualOf u a) l (λ i b. let c : i < residualWords = omega (arith, length-take residualWords (drop n s)) in
       getD-part s n residualWords i 0 c ∙ h i c ∙ sym (getD-part u n residualWords i 0 c))
 
-  pub term-same : (a : ℕ) → length s ≡ length u → SameAt s u (size a) → ((i : ℕ) → i < residualWords → SameAt s u (residual a i)) → termIn s a ≡ termIn u a
+  pub term-same : (a : ℕ) → length s ≡ length u → SameAt s u (Length a) → ((i : ℕ) → i < residualWords → SameAt s u (Residual a i)) → termIn s a ≡ termIn u a
   term-same a e f h = ap₂ (λ (n : ℕ) (ws : List ℕ). termOf (take n ws)) f (residual-same a e h)

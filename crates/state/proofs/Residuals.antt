@@ -17,7 +17,7 @@ use Rattle.term.specs.Terms.{Term, words, termOf}
 use Rattle.term.proofs.Words.{Low, termOf-words}
 use Rattle.state.specs.Layout.{residualWords, residualAt, lengthOf, residualOf, termIn}
 use Rattle.state.specs.WellFormed.{allZero}
-use Rattle.state.proofs.Places.{residual, place-fits}
+use Rattle.state.proofs.Places.{Residual, place-fits}
 use Rattle.state.proofs.Frames.{wordAt}
 
 -- words that are all 0
@@ -33,12 +33,12 @@ at-zero [] h = refl
 at-zero (w ∷ ws) h = and-both (eqb w 0) (allZero ws) (eq-eqb w 0 (h 0 (omega arith))) (at-zero ws (λ i l. h (suc i) (omega arith)))
 
 module _ (s : List ℕ) (a : ℕ) where
-  pub residual-at : (i : ℕ) → i < residualWords → getD (residualOf s a) i 0 ≡ wordAt s (residual a i)
+  pub residual-at : (i : ℕ) → i < residualWords → getD (residualOf s a) i 0 ≡ wordAt s (Residual a i)
   residual-at i l = getD-part s (residualAt a) residualWords i 0 l
 
   -- words that the residual begins with, if 0 comes after them
   module _ (ws : List ℕ) (front : take (length ws) (residualOf s a) ≡ ws) (rest : allZero (drop (length ws) (residualOf s a)) ≡ true) where
-    pub residual-reads : (i : ℕ) → i < residualWords → wordAt s (residual a i) ≡ getD ws i 0
+    pub residual-reads : (i : ℕ) → i < residualWords → wordAt s (Residual a i) ≡ getD ws i 0
     residual-reads i l =
         sym (residual-at i l)
         ∙ ⊎-elim (λ (b : i < length ws). sym (getD-take (length ws) (residualOf s a) i 0 b) ∙ ap (λ (vs : List ℕ). getD vs i 0) front)
@@ -50,11 +50,11 @@ module _ (s : List ℕ) (a : ℕ) where
   module _ (whole : length s ≡ stateWords) (there : a < 32) where
     pub residual-length : length (residualOf s a) ≡ residualWords
     residual-length =
-        let l = place-fits (residual a (residualWords - 1)) (omega arith) there in
+        let l = place-fits (Residual a (residualWords - 1)) (omega arith) there in
         length-take-le residualWords (drop (residualAt a) s) (rw (length-drop (residualAt a) s) (omega arith))
 
     -- the residual's words are ws, and 0 after them
-    module _ (ws : List ℕ) (short : length ws ≤ residualWords) (reads : (i : ℕ) → i < residualWords → wordAt s (residual a i) ≡ getD ws i 0) where
+    module _ (ws : List ℕ) (short : length ws ≤ residualWords) (reads : (i : ℕ) → i < residualWords → wordAt s (Residual a i) ≡ getD ws i 0) where
       pub residual-front : take (length ws) (residualOf s a) ≡ ws
       residual-front =
           let e = residual-length in
@@ -71,6 +71,6 @@ module _ (s : List ℕ) (a : ℕ) where
 
     -- the term that is read
     pub term-read : (T : Term) → Low T → length (words T) ≤ residualWords → lengthOf s a ≡ length (words T)
-        → ((i : ℕ) → i < residualWords → wordAt s (residual a i) ≡ getD (words T) i 0) → termIn s a ≡ T
+        → ((i : ℕ) → i < residualWords → wordAt s (Residual a i) ≡ getD (words T) i 0) → termIn s a ≡ T
     term-read T low short e reads =
         ap (λ (n : ℕ). termOf (take n (residualOf s a))) e ∙ ap (λ (ws : List ℕ). termOf ws) (residual-front (words T) short reads) ∙ termOf-words T low

@@ -27,8 +27,8 @@ use Rattle.term.proofs.Inside.{ActionNode, Labelled, Inside as InsideTable, der
 use Rattle.state.specs.declared.Store.{Store}
 use Rattle.state.specs.declared.Store.the-variants.{Environment, Attributes, Entries}
 use Rattle.state.specs.Layout.{clockAt, zcAt, zpAt, keyLimit, residualWords, clockOf, stampOf, zcOf, zpOf, termIn, put, addKey}
-use Rattle.state.proofs.Places.{Place, confirms, propagates, clock, mark, value, waiting, size, residual, Inside, kindOf, kindOfStore, agentOfStore, same, same-one}
-use Rattle.state.proofs.Places.{agentOf as ownerOf}
+use Rattle.state.proofs.Places.{Place, Zc, Zp, Clock, Mark, Word, Waits, Length, Residual, Inside, placeKind, storeKind, storeAgent, same, same-one}
+use Rattle.state.proofs.Places.{placeAgent as ownerOf}
 use Rattle.state.proofs.Frames.{wordAt, SameAt, set-other, set-here, value-same, term-same, put-length, put-other, put-valueIn, add-length, add-other}
 use Rattle.state.proofs.Formed.{WellFormed}
 use Rattle.machine.specs.Acts.{isAbsent, wordIn, nextStamp, allHold, valueFor, lacksValue, writesEntry, choices, chosen, toConfirm, storeOf, setKey, acted}
@@ -48,14 +48,14 @@ use Rattle.theorems.proofs.Reading.{tuple, I-same, L-same, Zc-same, Zp-
 use Rattle.theorems.proofs.Willing.{willOf, wills-will, wills-does, wills-settled, acted-unique, acted-same}
 
 -- a place of agent y, and a place that is not
-apart : (p q : Place) (y : ℕ) → 0 < kindOf p → ownerOf p ≡ y → (0 < kindOf q → ownerOf q ≡ y → ⊥) → same p q ≡ false
-apart p q y k o f = is-false (same p q) (λ e. let i : p ≡ q = same-one p q e in f (subst (λ (r : Place). 0 < kindOf r) i k) (sym (ap (λ (r : Place). ownerOf r) i) ∙ o))
+apart : (p q : Place) (y : ℕ) → 0 < placeKind p → ownerOf p ≡ y → (0 < placeKind q → ownerOf q ≡ y → ⊥) → same p q ≡ false
+apart p q y k o f = is-false (same p q) (λ e. let i : p ≡ q = same-one p q e in f (subst (λ (r : Place). 0 < placeKind r) i k) (sym (ap (λ (r : Place). ownerOf r) i) ∙ o))
 
 -- A PAIR IS PUT: agents without that store stay
-put-agents : (store : Store) (k v m : ℕ) (s : List ℕ) → k < keyLimit → (y : ℕ) → (0 < kindOfStore store → agentOfStore store ≡ y → ⊥) → agentOf (put store k v m s) y ≡ agentOf s y
+put-agents : (store : Store) (k v m : ℕ) (s : List ℕ) → k < keyLimit → (y : ℕ) → (0 < storeKind store → storeAgent store ≡ y → ⊥) → agentOf (put store k v m s) y ≡ agentOf s y
 put-agents store k v m s key y f =
     agent-same (put store k v m s) s y (put-length store k v m s)
-    (λ p h b o. put-other store k v m s key p h (apart p (mark store k) y b o f) (apart p (value store k) y b o f))
+    (λ p h b o. put-other store k v m s key p h (apart p (Mark store k) y b o f) (apart p (Word store k) y b o f))
 
 -- the same key of the same store
 here : (j k a : ℕ) → (eqb j k && eqb a a) ≡ eqb k j
@@ -71,15 +71,15 @@ module _ (k v : ℕ) (s : List ℕ) (key : k < keyLimit) (whole : length s ≡ s
       → agentOf (put (Attributes x) k v 1 s) x ≡ ⟨ agentOf s x .I ⟦ k ≔ Present v ⟧ ⸴ agentOf s x .L ⸴ agentOf s x .P ⸴ agentOf s x .Zc ⸴ agentOf s x .Zp ⟩
   put-attribute x there = tuple
       (fun-ext λ j. put-valueIn (Attributes x) k v 1 s key whole there (omega arith) (Attributes x) j ∙ ap (λ (b : Bool). cond b (Present v) (agentOf s x .I j)) (here j k x))
-      (L-same after s x (λ j l. other (mark (Entries x) j) l (rw and-false) refl) (λ j l. other (value (Entries x) j) l refl (rw and-false)))
-      (term-same after s x (put-length (Attributes x) k v 1 s) (other (size x) tt refl refl) (λ i l. other (residual x i) l refl refl))
-      (Zc-same after s x (other (waiting confirms x) tt refl refl))
-      (Zp-same after s x (other (waiting propagates x) tt refl refl))
+      (L-same after s x (λ j l. other (Mark (Entries x) j) l (rw and-false) refl) (λ j l. other (Word (Entries x) j) l refl (rw and-false)))
+      (term-same after s x (put-length (Attributes x) k v 1 s) (other (Length x) tt refl refl) (λ i l. other (Residual x i) l refl refl))
+      (Zc-same after s x (other (Waits Zc x) tt refl refl))
+      (Zp-same after s x (other (Waits Zp x) tt refl refl))
     where
       after : List ℕ
       after = put (Attributes x) k v 1 s
 
-      other : (q : Place) → Inside q → same q (mark (Attributes x) k) ≡ false → same q (value (Attributes x) k) ≡ false → SameAt after s q
+      other : (q : Place) → Inside q → same q (Mark (Attributes x) k) ≡ false → same q (Word (Attributes x) k) ≡ false → SameAt after s q
       other = put-other (Attributes x) k v 1 s key
 
 -- AFTER THE KEY IS SET: Zc and the residual
@@ -106,33 +106,33 @@ module _ (t : Table) (s : List ℕ) (x : ℕ) (d : Derivation) (whole : length s
   final-zc : zcOf final x ≡ gains
   unfolding acted
   final-zc =
-      leave-other x (words (d .leaving)) (set keySet (zcAt x) gains) (waiting confirms x) tt refl (λ i l. refl)
-      ∙ set-here keySet (waiting confirms x) gains tt key-whole there
+      leave-other x (words (d .leaving)) (set keySet (zcAt x) gains) (Waits Zc x) tt refl (λ i l. refl)
+      ∙ set-here keySet (Waits Zc x) gains tt key-whole there
 
   -- what is the agent's own but neither Zc nor residual, and all that is not the agent's
-  final-other : (q : Place) → Inside q → same q (waiting confirms x) ≡ false → same q (size x) ≡ false → ((i : ℕ) → same q (residual x i) ≡ false) → SameAt final keySet q
+  final-other : (q : Place) → Inside q → same q (Waits Zc x) ≡ false → same q (Length x) ≡ false → ((i : ℕ) → same q (Residual x i) ≡ false) → SameAt final keySet q
   final-other q h a b c = acted-other t s x d q h a b (λ i l. c i)
 
   final-agent : Low (d .leaving) → length (words (d .leaving)) ≤ residualWords
       → agentOf final x ≡ ⟨ agentOf keySet x .I ⸴ agentOf keySet x .L ⸴ d .leaving ⸴ (λ k. has gains k) ⸴ agentOf keySet x .Zp ⟩
   final-agent low short = tuple
-      (I-same final keySet x (λ k l. final-other (mark (Attributes x) k) l refl refl (λ i. refl)) (λ k l. final-other (value (Attributes x) k) l refl refl (λ i. refl)))
-      (L-same final keySet x (λ k l. final-other (mark (Entries x) k) l refl refl (λ i. refl)) (λ k l. final-other (value (Entries x) k) l refl refl (λ i. refl)))
+      (I-same final keySet x (λ k l. final-other (Mark (Attributes x) k) l refl refl (λ i. refl)) (λ k l. final-other (Word (Attributes x) k) l refl refl (λ i. refl)))
+      (L-same final keySet x (λ k l. final-other (Mark (Entries x) k) l refl refl (λ i. refl)) (λ k l. final-other (Word (Entries x) k) l refl refl (λ i. refl)))
       (final-term low short)
       (ap (λ (w : ℕ). λ (k : ℕ). has w k) final-zc)
-      (Zp-same final keySet x (final-other (waiting propagates x) tt refl refl (λ i. refl)))
+      (Zp-same final keySet x (final-other (Waits Zp x) tt refl refl (λ i. refl)))
 
   final-others : (y : ℕ) → (y ≡ x → ⊥) → agentOf final y ≡ agentOf keySet y
   final-others y o =
       agent-same final keySet y long
-      (λ p h k e. final-other p h (apart p (waiting confirms x) y k e (λ l f. o (sym f))) (apart p (size x) y k e (λ l f. o (sym f))) (λ i. apart p (residual x i) y k e (λ l f. o (sym f))))
+      (λ p h k e. final-other p h (apart p (Waits Zc x) y k e (λ l f. o (sym f))) (apart p (Length x) y k e (λ l f. o (sym f))) (λ i. apart p (Residual x i) y k e (λ l f. o (sym f))))
 
   final-environment : systemOf final .E ≡ systemOf keySet .E
   final-environment =
-      fun-ext λ k. value-same final keySet Environment k (λ l. final-other (mark Environment k) l refl refl (λ i. refl)) (λ l. final-other (value Environment k) l refl refl (λ i. refl))
+      fun-ext λ k. value-same final keySet Environment k (λ l. final-other (Mark Environment k) l refl refl (λ i. refl)) (λ l. final-other (Word Environment k) l refl refl (λ i. refl))
 
   final-clock : clockOf final ≡ clockOf keySet
-  final-clock = final-other clock tt refl refl (λ i. refl)
+  final-clock = final-other Clock tt refl refl (λ i. refl)
 
   -- from what the set key makes of the system
   module _ (ok : Checked t) (inside : InsideTable t d) (short : length (words (d .leaving)) ≤ residualWords) (agents : ℕ) (is : x < agents) where
@@ -195,7 +195,7 @@ entry-time : (s : List ℕ) (a k : ℕ) (f : Entry) → entryOf s a k ≡ some f
 entry-time s a k f = by (ltb k keyLimit) (eqb (stampOf s a k) 0)
   where
     e : Entry
-    e = record { value = wordAt s (value (Entries a) k); time = stampOf s a k }
+    e = record { value = wordAt s (Word (Entries a) k); time = stampOf s a k }
 
     by : (b c : Bool) → cond b (cond {A = Option Entry} c none (some e)) none ≡ some f → f .time ≡ stampOf s a k
     by true true h = let z : _≡_ {A = ℕ} 0 1 = cc in absurd (omega arith)
@@ -217,7 +217,7 @@ nth-is {A} xs n o a e =
     (λ (l : length xs ≤ n). let f : none ≡ some a = sym (nth-past xs n l) ∙ e in let z : _≡_ {A = ℕ} 0 1 = cc in absurd (omega arith)) (lt-or-le n (length xs))
 
 clock-agents : (s : List ℕ) (m y : ℕ) → agentOf (set s clockAt m) y ≡ agentOf s y
-clock-agents s m y = agent-same (set s clockAt m) s y (length-set s clockAt m) (λ p h k o. set-other s clock m tt p h (apart p clock y k o (λ l f. omega arith)))
+clock-agents s m y = agent-same (set s clockAt m) s y (length-set s clockAt m) (λ p h k o. set-other s Clock m tt p h (apart p Clock y k o (λ l f. omega arith)))
 
 module _ (t : Table) (ok : Checked t) (s : List ℕ) (whole : length s ≡ stateWords) (formed : WellFormed t s) (x : ℕ) (is : x < t .sizes .agents) where
   there : x < 32
@@ -276,7 +276,7 @@ module _ (t : Table) (ok : Checked t) (s : List ℕ) (whole : length s ≡ state
         (put-attribute p v s key whole x there)
         (λ y o. put-agents (Attributes x) p v 1 s key y (λ l f. o (sym f)))
         (fun-ext λ j. put-valueIn (Attributes x) p v 1 s key whole there (omega arith) Environment j ∙ rw and-false)
-        (put-other (Attributes x) p v 1 s key clock tt refl refl)
+        (put-other (Attributes x) p v 1 s key Clock tt refl refl)
         (EVAL-I (ATTR (r .moves) (attribute-action t n k) is-settled) await value-is)
 
     done-environment : kindAt t n ≡ 4 → Done
@@ -286,7 +286,7 @@ module _ (t : Table) (ok : Checked t) (s : List ℕ) (whole : length s ≡ state
         (put-agents Environment p v 1 s key x (λ l f. omega arith))
         (λ y o. put-agents Environment p v 1 s key y (λ l f. omega arith))
         (put-environment p v s key whole)
-        (put-other Environment p v 1 s key clock tt refl refl)
+        (put-other Environment p v 1 s key Clock tt refl refl)
         (EVAL-E (ENV (r .moves) (environment-action t n k) is-settled) await value-is)
 
     done-stigmergy : kindAt t n ≡ 3 → Done
@@ -297,10 +297,10 @@ module _ (t : Table) (ok : Checked t) (s : List ℕ) (whole : length s ≡ state
         ∙ ap (λ (o : Agent). ⟨ o .I ⸴ o .L ⸴ o .P ⸴ o .Zc ⸴ o .Zp ∪｛ p ｝ ⟩) (put-agent x p v m s key whole there (omega arith))
         ∙ ap (λ (i : ℕ). ⟨ me .I ⸴ me .L ⟦ p ≔ some (entry v i) ⟧ ⸴ me .P ⸴ me .Zc ⸴ me .Zp ∪｛ p ｝ ⟩) (add-one (clockOf s)))
         (λ y o. clock-agents queued m y
-        ∙ agent-same queued entered y (add-length propagates x p entered) (λ q h b f. add-other propagates x p entered q h (apart q (waiting propagates x) y b f (λ l i. o (sym i))))
+        ∙ agent-same queued entered y (add-length Zp x p entered) (λ q h b f. add-other Zp x p entered q h (apart q (Waits Zp x) y b f (λ l i. o (sym i))))
         ∙ put-agents (Entries x) p v m s key y (λ l f. o (sym f)))
-        (fun-ext λ j. value-same (set queued clockAt m) s Environment j (λ l. stays (mark Environment j) l refl refl (rw and-false) refl) (λ l. stays (value Environment j) l refl refl refl (rw and-false)))
-        (set-here queued clock m tt (add-length propagates x p entered ∙ entered-whole) (omega arith) ∙ add-one (clockOf s))
+        (fun-ext λ j. value-same (set queued clockAt m) s Environment j (λ l. stays (Mark Environment j) l refl refl (rw and-false) refl) (λ l. stays (Word Environment j) l refl refl refl (rw and-false)))
+        (set-here queued Clock m tt (add-length Zp x p entered ∙ entered-whole) (omega arith) ∙ add-one (clockOf s))
         (EVAL-L (LSTIG (r .moves) (stigmergy-action t n k) is-settled) await value-is
         (inserted (me .L) p (entry v (suc (clockOf s))) (λ f i. omega (arith, entry-time s x p f i, formed .formed .pairs (Entries x) is p key .bound))))
       where
@@ -316,9 +316,9 @@ module _ (t : Table) (ok : Checked t) (s : List ℕ) (whole : length s ≡ state
         entered-whole : length entered ≡ stateWords
         entered-whole = put-length (Entries x) p v m s ∙ whole
 
-        stays : (q : Place) → Inside q → same q clock ≡ false → same q (waiting propagates x) ≡ false → same q (mark (Entries x) p) ≡ false → same q (value (Entries x) p) ≡ false
+        stays : (q : Place) → Inside q → same q Clock ≡ false → same q (Waits Zp x) ≡ false → same q (Mark (Entries x) p) ≡ false → same q (Word (Entries x) p) ≡ false
             → SameAt (set queued clockAt m) s q
-        stays q h a b c e = set-other queued clock m tt q h a ∙ add-other propagates x p entered q h b ∙ put-other (Entries x) p v m s key q h c e
+        stays q h a b c e = set-other queued Clock m tt q h a ∙ add-other Zp x p entered q h b ∙ put-other (Entries x) p v m s key q h c e
 
   -- AN ENABLED DERIVATION IS DONE by the rules, and leaves what the words then stand for
   act-by : (l : Label) (g : List ℕ) (T : Term) → Enabled t s x (derivation l g T) → length (words T) ≤ residualWords
@@ -358,8 +358,8 @@ module _ (t : Table) (ok : Checked t) (s : List ℕ) (whole : length s ≡ state
   enabled {d} m g v =
       record {
         moves = wills-does m;
-        confirmed = nothing-zero keyLimit (zcOf s x) (formed .formed .sets confirms x is .narrow) (λ k l. wills-settled m k .0);
-        propagated = nothing-zero keyLimit (zpOf s x) (formed .formed .sets propagates x is .narrow) (λ k l. wills-settled m k .1);
+        confirmed = nothing-zero keyLimit (zcOf s x) (formed .formed .sets Zc x is .narrow) (λ k l. wills-settled m k .0);
+        propagated = nothing-zero keyLimit (zpOf s x) (formed .formed .sets Zp x is .narrow) (λ k l. wills-settled m k .1);
         guards = guards-await t s x (d .guards) .1 g;
         present = v;
       }
@@ -386,14 +386,14 @@ module _ (t : Table) (ok : Checked t) (s : List ℕ) (whole : length s ≡ state
   clock-entry n k =
       let entered = put (Entries x) (pAt t n) (wordIn (valueFor t s x n)) (nextStamp s) s in
       ap (λ (u : List ℕ). clockOf u) (set-entry t s x n k)
-      ∙ set-here (addKey (zpAt x) (pAt t n) entered) clock (nextStamp s) tt
-      (add-length propagates x (pAt t n) entered ∙ put-length (Entries x) (pAt t n) (wordIn (valueFor t s x n)) (nextStamp s) s ∙ whole) (omega arith)
+      ∙ set-here (addKey (zpAt x) (pAt t n) entered) Clock (nextStamp s) tt
+      (add-length Zp x (pAt t n) entered ∙ put-length (Entries x) (pAt t n) (wordIn (valueFor t s x n)) (nextStamp s) s ∙ whole) (omega arith)
       ∙ add-one (clockOf s)
 
   clock-other : (n : ℕ) → ActionNode t n → (kindAt t n ≡ 3 → ⊥) → clockOf (setKey t s x (acts n)) ≡ clockOf s
   clock-other n h d =
       ap (λ (u : List ℕ). clockOf u) (set-value t s x n d)
-      ∙ put-other (storeOf t s x n) (pAt t n) (wordIn (valueFor t s x n)) 1 s (action-key t s x (ok .sound) n h) clock tt refl refl
+      ∙ put-other (storeOf t s x n) (pAt t n) (wordIn (valueFor t s x n)) 1 s (action-key t s x (ok .sound) n h) Clock tt refl refl
 
   -- it stays within its limit where a write has room
   clock-fits : (l : Label) → Labelled t l → (clockOf (setKey t s x l) ≤ 65535) ↔ (writesEntry t s x l ≡ true → clockOf s < 65535)

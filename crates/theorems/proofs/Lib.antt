@@ -7,3 +7,8 @@ pub mod Passing
 pub mod Reading
 pub mod Willing
 pub mod Acting
+pub mod Offers
+pub mod Ready
+pub mod Demand2
+pub mod Instance
+pub mod Seen

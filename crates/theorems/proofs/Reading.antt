@@ -1,6 +1,6 @@
 -- The agents that a state's words stand for, after a change of the words.
 -- Assumes nothing.
-use Prim.Native.Nat.{ℕ, _<_, _≤_}
+use Prim.Native.Nat.{ℕ, zero, suc, _<_, _≤_}
 use mathlib.Core.Bool.{Bool, true, false, cond, not, _&&_, _||_, and-false}
 use mathlib.Core.Logic.{_⊎_, inl, inr, ⊎-elim}
 use mathlib.Core.Option.{Option, none, some}
@@ -16,14 +16,13 @@ use Rattle.term.specs.Acceptance.{stateWords}
 use Rattle.term.specs.Terms.{Term}
 use Rattle.state.specs.declared.Store.the-variants.{Environment, Attributes, Entries}
 use Rattle.state.specs.Layout.{keyLimit, residualWords, wordOf, stampOf, zcAt, zpAt, put, addKey, dropKey}
-use Rattle.state.proofs.Places.{Place, Waiting, confirms, propagates, mark, value, waiting, size, residual, Inside, kindOf, same}
-use Rattle.state.proofs.Places.{agentOf as ownerOf}
+use Rattle.state.proofs.Places.{Place, KeySet, Zc, Zp, Mark, Word, Waits, Length, Residual, Inside, placeKind, placeAgent, same}
 use Rattle.state.proofs.Frames.{wordAt, SameAt, value-same, term-same, put-length, put-other, put-mark, put-value, put-valueIn, add-length, add-other, has-add, drop-length, drop-other, has-drop}
 use Rattle.labs.specs.Agents.{⟨_⸴_⸴_⸴_⸴_⟩, Agent, Entry, Interface, Stigmergy, Keys, _⟦_≔_⟧, _∪｛_｝, _∖｛_｝}
 use Rattle.labs.specs.Reading.{entryOf, agentOf, systemOf}
 
-pub tuple : {I I′ : Interface} {L L′ : Stigmergy} {P P′ : Term} {Zc Zc′ Zp Zp′ : Keys} → I ≡ I′ → L ≡ L′ → P ≡ P′ → Zc ≡ Zc′ → Zp ≡ Zp′ →
-    ⟨ I ⸴ L ⸴ P ⸴ Zc ⸴ Zp ⟩ ≡ ⟨ I′ ⸴ L′ ⸴ P′ ⸴ Zc′ ⸴ Zp′ ⟩
+pub tuple : {I I′ : Interface} {L L′ : Stigmergy} {P P′ : Term} {C C′ Q Q′ : Keys} → I ≡ I′ → L ≡ L′ → P ≡ P′ → C ≡ C′ → Q ≡ Q′ →
+    ⟨ I ⸴ L ⸴ P ⸴ C ⸴ Q ⟩ ≡ ⟨ I′ ⸴ L′ ⸴ P′ ⸴ C′ ⸴ Q′ ⟩
 tuple p q r u v = cc
 
 abbrev pub entry : ℕ → ℕ → Entry
@@ -33,6 +32,11 @@ entry v time = record { value = v; time = time }
 abbrev pub stamped : ℕ → ℕ → Option Entry
 stamped v stamp = cond (eqb stamp 0) none (some (entry v stamp))
 
+-- its stamp
+abbrev pub timeIn : Option Entry → ℕ
+timeIn none = 0
+timeIn (some e) = e .time
+
 module _ (s : List ℕ) (a k : ℕ) where
   pub entry-read : k < keyLimit → entryOf s a k ≡ stamped (wordOf s (Entries a) k) (stampOf s a k)
   entry-read l = rw (lt-ltb k keyLimit l)
@@ -40,12 +44,19 @@ module _ (s : List ℕ) (a k : ℕ) where
   pub entry-present : k < keyLimit → 0 < stampOf s a k → entryOf s a k ≡ some (entry (wordOf s (Entries a) k) (stampOf s a k))
   entry-present l h = entry-read l ∙ rw (ne-eqb (stampOf s a k) 0 (omega arith))
 
+  pub entry-stamp : k < keyLimit → timeIn (entryOf s a k) ≡ stampOf s a k
+  entry-stamp l = ap timeIn (entry-read l) ∙ by (stampOf s a k)
+    where
+      by : (m : ℕ) → timeIn (stamped (wordOf s (Entries a) k) m) ≡ m
+      by zero = refl
+      by (suc m) = rw (ne-eqb (suc m) 0 (omega arith))
+
 -- EACH PART IS READ OFF ITS OWN WORDS
 module _ (s u : List ℕ) (a : ℕ) where
-  pub I-same : ((k : ℕ) → k < keyLimit → SameAt s u (mark (Attributes a) k)) → ((k : ℕ) → k < keyLimit → SameAt s u (value (Attributes a) k)) → agentOf s a .I ≡ agentOf u a .I
+  pub I-same : ((k : ℕ) → k < keyLimit → SameAt s u (Mark (Attributes a) k)) → ((k : ℕ) → k < keyLimit → SameAt s u (Word (Attributes a) k)) → agentOf s a .I ≡ agentOf u a .I
   I-same f g = fun-ext λ k. value-same s u (Attributes a) k (f k) (g k)
 
-  pub entry-same : (k : ℕ) → (k < keyLimit → SameAt s u (mark (Entries a) k)) → (k < keyLimit → SameAt s u (value (Entries a) k)) → entryOf s a k ≡ entryOf u a k
+  pub entry-same : (k : ℕ) → (k < keyLimit → SameAt s u (Mark (Entries a) k)) → (k < keyLimit → SameAt s u (Word (Entries a) k)) → entryOf s a k ≡ entryOf u a k
   entry-same k f g = by (ltb k keyLimit) refl
     where
       by : (b : Bool) → ltb k keyLimit ≡ b →
@@ -53,22 +64,22 @@ module _ (s u : List ℕ) (a : ℕ) where
       by true e = rw (f (ltb-true k keyLimit e), g (ltb-true k keyLimit e))
       by false e = refl
 
-  pub L-same : ((k : ℕ) → k < keyLimit → SameAt s u (mark (Entries a) k)) → ((k : ℕ) → k < keyLimit → SameAt s u (value (Entries a) k)) → agentOf s a .L ≡ agentOf u a .L
+  pub L-same : ((k : ℕ) → k < keyLimit → SameAt s u (Mark (Entries a) k)) → ((k : ℕ) → k < keyLimit → SameAt s u (Word (Entries a) k)) → agentOf s a .L ≡ agentOf u a .L
   L-same f g = fun-ext λ k. entry-same k (f k) (g k)
 
-  pub Zc-same : SameAt s u (waiting confirms a) → agentOf s a .Zc ≡ agentOf u a .Zc
+  pub Zc-same : SameAt s u (Waits Zc a) → agentOf s a .Zc ≡ agentOf u a .Zc
   Zc-same e = ap (λ (w : ℕ). λ (x : ℕ). has w x) e
 
-  pub Zp-same : SameAt s u (waiting propagates a) → agentOf s a .Zp ≡ agentOf u a .Zp
+  pub Zp-same : SameAt s u (Waits Zp a) → agentOf s a .Zp ≡ agentOf u a .Zp
   Zp-same e = ap (λ (w : ℕ). λ (x : ℕ). has w x) e
 
   -- an agent whose words are the same is the same
-  pub agent-same : length s ≡ length u → ((p : Place) → Inside p → 0 < kindOf p → ownerOf p ≡ a → SameAt s u p) → agentOf s a ≡ agentOf u a
+  pub agent-same : length s ≡ length u → ((p : Place) → Inside p → 0 < placeKind p → placeAgent p ≡ a → SameAt s u p) → agentOf s a ≡ agentOf u a
   agent-same e h = tuple
-      (I-same (λ k l. h (mark (Attributes a) k) l (omega arith) refl) (λ k l. h (value (Attributes a) k) l (omega arith) refl))
-      (L-same (λ k l. h (mark (Entries a) k) l (omega arith) refl) (λ k l. h (value (Entries a) k) l (omega arith) refl))
-      (term-same s u a e (h (size a) tt (omega arith) refl) (λ i l. h (residual a i) l (omega arith) refl))
-      (Zc-same (h (waiting confirms a) tt (omega arith) refl)) (Zp-same (h (waiting propagates a) tt (omega arith) refl))
+      (I-same (λ k l. h (Mark (Attributes a) k) l (omega arith) refl) (λ k l. h (Word (Attributes a) k) l (omega arith) refl))
+      (L-same (λ k l. h (Mark (Entries a) k) l (omega arith) refl) (λ k l. h (Word (Entries a) k) l (omega arith) refl))
+      (term-same s u a e (h (Length a) tt (omega arith) refl) (λ i l. h (Residual a i) l (omega arith) refl))
+      (Zc-same (h (Waits Zc a) tt (omega arith) refl)) (Zp-same (h (Waits Zp a) tt (omega arith) refl))
 
 -- AN ENTRY IS PUT
 module _ (a k v m : ℕ) (s : List ℕ) (key : k < keyLimit) (whole : length s ≡ stateWords) (there : a < 32) (pos : 0 < m) where
@@ -86,50 +97,50 @@ module _ (a k v m : ℕ) (s : List ℕ) (key : k < keyLimit) (whole : length s �
       elsewhere d =
           let e = ne-eqb j k (λ (h : j ≡ k). d (sym h)) in
           rw (ne-eqb k j d) (entry-same after s a j
-          (λ l. put-other (Entries a) k v m s key (mark (Entries a) j) l (rw e) refl)
-          (λ l. put-other (Entries a) k v m s key (value (Entries a) j) l refl (rw e)))
+          (λ l. put-other (Entries a) k v m s key (Mark (Entries a) j) l (rw e) refl)
+          (λ l. put-other (Entries a) k v m s key (Word (Entries a) j) l refl (rw e)))
 
   pub put-agent : agentOf after a ≡ ⟨ agentOf s a .I ⸴ agentOf s a .L ⟦ k ≔ some (entry v m) ⟧ ⸴ agentOf s a .P ⸴ agentOf s a .Zc ⸴ agentOf s a .Zp ⟩
   put-agent = tuple
       (fun-ext λ j. put-valueIn (Entries a) k v m s key whole there pos (Attributes a) j ∙ rw and-false)
       (fun-ext λ j. put-L j)
-      (term-same after s a (put-length (Entries a) k v m s) (put-other (Entries a) k v m s key (size a) tt refl refl)
-      (λ i l. put-other (Entries a) k v m s key (residual a i) l refl refl))
-      (Zc-same after s a (put-other (Entries a) k v m s key (waiting confirms a) tt refl refl))
-      (Zp-same after s a (put-other (Entries a) k v m s key (waiting propagates a) tt refl refl))
+      (term-same after s a (put-length (Entries a) k v m s) (put-other (Entries a) k v m s key (Length a) tt refl refl)
+      (λ i l. put-other (Entries a) k v m s key (Residual a i) l refl refl))
+      (Zc-same after s a (put-other (Entries a) k v m s key (Waits Zc a) tt refl refl))
+      (Zp-same after s a (put-other (Entries a) k v m s key (Waits Zp a) tt refl refl))
 
 -- A SET OF KEYS IS CHANGED
-abbrev pub with : Waiting → Agent → Keys → Agent
-with confirms b Z = ⟨ b .I ⸴ b .L ⸴ b .P ⸴ Z ⸴ b .Zp ⟩
-with propagates b Z = ⟨ b .I ⸴ b .L ⸴ b .P ⸴ b .Zc ⸴ Z ⟩
+abbrev pub with : KeySet → Agent → Keys → Agent
+with Zc b Z = ⟨ b .I ⸴ b .L ⸴ b .P ⸴ Z ⸴ b .Zp ⟩
+with Zp b Z = ⟨ b .I ⸴ b .L ⸴ b .P ⸴ b .Zc ⸴ Z ⟩
 
 module _ (u s : List ℕ) (a : ℕ) (e : length u ≡ length s) where
-  pub waits-agent : (z : Waiting) → ((q : Place) → Inside q → same q (waiting z a) ≡ false → SameAt u s q) →
-      agentOf u a ≡ with z (agentOf s a) (λ j. has (wordAt u (waiting z a)) j)
-  waits-agent confirms other = tuple
-      (I-same u s a (λ j l. other (mark (Attributes a) j) l refl) (λ j l. other (value (Attributes a) j) l refl))
-      (L-same u s a (λ j l. other (mark (Entries a) j) l refl) (λ j l. other (value (Entries a) j) l refl))
-      (term-same u s a e (other (size a) tt refl) (λ i l. other (residual a i) l refl))
-      refl (Zp-same u s a (other (waiting propagates a) tt refl))
-  waits-agent propagates other = tuple
-      (I-same u s a (λ j l. other (mark (Attributes a) j) l refl) (λ j l. other (value (Attributes a) j) l refl))
-      (L-same u s a (λ j l. other (mark (Entries a) j) l refl) (λ j l. other (value (Entries a) j) l refl))
-      (term-same u s a e (other (size a) tt refl) (λ i l. other (residual a i) l refl))
-      (Zc-same u s a (other (waiting confirms a) tt refl)) refl
+  pub waits-agent : (z : KeySet) → ((q : Place) → Inside q → same q (Waits z a) ≡ false → SameAt u s q) →
+      agentOf u a ≡ with z (agentOf s a) (λ j. has (wordAt u (Waits z a)) j)
+  waits-agent Zc other = tuple
+      (I-same u s a (λ j l. other (Mark (Attributes a) j) l refl) (λ j l. other (Word (Attributes a) j) l refl))
+      (L-same u s a (λ j l. other (Mark (Entries a) j) l refl) (λ j l. other (Word (Entries a) j) l refl))
+      (term-same u s a e (other (Length a) tt refl) (λ i l. other (Residual a i) l refl))
+      refl (Zp-same u s a (other (Waits Zp a) tt refl))
+  waits-agent Zp other = tuple
+      (I-same u s a (λ j l. other (Mark (Attributes a) j) l refl) (λ j l. other (Word (Attributes a) j) l refl))
+      (L-same u s a (λ j l. other (Mark (Entries a) j) l refl) (λ j l. other (Word (Entries a) j) l refl))
+      (term-same u s a e (other (Length a) tt refl) (λ i l. other (Residual a i) l refl))
+      (Zc-same u s a (other (Waits Zc a) tt refl)) refl
 
 -- a key is added or dropped
 module _ (a k : ℕ) (s : List ℕ) (whole : length s ≡ stateWords) (there : a < 32) where
-  pub add-zp-agent : agentOf (addKey (zpAt a) k s) a ≡ with propagates (agentOf s a) (agentOf s a .Zp ∪｛ k ｝)
+  pub add-zp-agent : agentOf (addKey (zpAt a) k s) a ≡ with Zp (agentOf s a) (agentOf s a .Zp ∪｛ k ｝)
   add-zp-agent =
-      waits-agent (addKey (zpAt a) k s) s a (add-length propagates a k s) propagates (add-other propagates a k s)
-      ∙ ap (with propagates (agentOf s a)) (fun-ext λ j. has-add propagates a k s whole there j)
+      waits-agent (addKey (zpAt a) k s) s a (add-length Zp a k s) Zp (add-other Zp a k s)
+      ∙ ap (with Zp (agentOf s a)) (fun-ext λ j. has-add Zp a k s whole there j)
 
-  pub drop-zp-agent : agentOf (dropKey (zpAt a) k s) a ≡ with propagates (agentOf s a) (agentOf s a .Zp ∖｛ k ｝)
+  pub drop-zp-agent : agentOf (dropKey (zpAt a) k s) a ≡ with Zp (agentOf s a) (agentOf s a .Zp ∖｛ k ｝)
   drop-zp-agent =
-      waits-agent (dropKey (zpAt a) k s) s a (drop-length propagates a k s) propagates (drop-other propagates a k s)
-      ∙ ap (with propagates (agentOf s a)) (fun-ext λ j. has-drop propagates a k s whole there j)
+      waits-agent (dropKey (zpAt a) k s) s a (drop-length Zp a k s) Zp (drop-other Zp a k s)
+      ∙ ap (with Zp (agentOf s a)) (fun-ext λ j. has-drop Zp a k s whole there j)
 
-  pub drop-zc-agent : agentOf (dropKey (zcAt a) k s) a ≡ with confirms (agentOf s a) (agentOf s a .Zc ∖｛ k ｝)
+  pub drop-zc-agent : agentOf (dropKey (zcAt a) k s) a ≡ with Zc (agentOf s a) (agentOf s a .Zc ∖｛ k ｝)
   drop-zc-agent =
-      waits-agent (dropKey (zcAt a) k s) s a (drop-length confirms a k s) confirms (drop-other confirms a k s)
-      ∙ ap (with confirms (agentOf s a)) (fun-ext λ j. has-drop confirms a k s whole there j)
+      waits-agent (dropKey (zcAt a) k s) s a (drop-length Zc a k s) Zc (drop-other Zc a k s)
+      ∙ ap (with Zc (agentOf s a)) (fun-ext λ j. has-drop Zc a k s whole there j)

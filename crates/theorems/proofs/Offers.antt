@@ -1,0 +1,255 @@
+-- TABLE 8 on a state's words: propagate and confirm stand for the message that every other agent hears, and for no other system;
+-- the machine's takers are the agents that take the entry.
+-- Assumes nothing.
+use Prim.Native.Nat.{ℕ, _<_, _≤_}
+use mathlib.Core.Bool.{Bool, true, false, cond, _&&_, and-false}
+use mathlib.Core.Logic.{⊎-elim}
+use mathlib.Core.Option.{Option, none, some}
+use mathlib.Core.Path.{_≡_, refl, sym, ap, subst, _∙_, fun-ext}
+use mathlib.Core.List.{List}
+use native.Mathlib.Omega.{arith}
+use lib.Dec.{eqb, ltb}
+use lib.ListN.{length}
+use borrow.Author.Tests.{ltb-true, lt-ltb, eqb-true, eq-eqb, ne-eqb}
+use Rattle.basis.specs.Numbers.{forEach, howMany}
+use Rattle.basis.specs.KeySets.{has}
+use Rattle.basis.proofs.Numbers.{forEach-same, forEach-at}
+use Rattle.basis.proofs.Tests.{not-both, and-left, and-right, and-both, same-or-other}
+use Rattle.table.specs.Tables.{Table}
+use Rattle.term.specs.Acceptance.{stateWords}
+use Rattle.state.specs.declared.Store.the-variants.{Environment, Entries}
+use Rattle.state.specs.Layout.{keyLimit, clockOf, zcAt, zpAt, wordOf, stampOf, zcOf, zpOf, addKey, dropKey}
+use Rattle.state.specs.Layout.{put as putPair}
+use Rattle.state.specs.Evaluation.{linkHolds}
+use Rattle.state.proofs.Places.{Place, KeySet, Zc, Zp, Clock, Mark, Word, Waits, placeAt, Inside}
+use Rattle.state.proofs.Frames.{put-length, drop-length, drop-other, value-same}
+use Rattle.machine.specs.Offers.{newer, takeEntry, hears, takes, answers, offer, offered, takers, propagated, confirmed}
+use Rattle.machine.proofs.Offers.{elsewhere, offer-length, offered-length, offer-other}
+use Rattle.labs.specs.Agents.{⟨_⸴_⸴_⸴_⸴_⟩, Agent, Entry, Stigmergy, System, _⟦_≔_⟧, _∪｛_｝, _∖｛_｝, Inserted, add, update}
+use Rattle.labs.specs.Systems.{Kind, put, qry, Message, message, Sends, PROPAGATE, CONFIRM, Older, Newer, Linked, Hears, PUT, QRY₁, QRY₂, STAY, Passed}
+use Rattle.labs.specs.Reading.{entryOf, agentOf, systemOf}
+use Rattle.theorems.specs.Demand2.{Same}
+use Rattle.theorems.proofs.Expressions.{link-holds}
+use Rattle.theorems.proofs.Reading.{entry, stamped, entry-read, entry-present, agent-same, put-agent, with, add-zp-agent, drop-zp-agent, drop-zc-agent}
+use Rattle.theorems.proofs.Passing.{sends-zp, sends-zc, passed-unique, passed-count}
+
+-- an entry of stamp m, beside one of stamp n
+module _ (v m n : ℕ) where
+  older : m < n → Older (stamped v m) n
+  older h = by (eqb m 0)
+    where
+      by : (b : Bool) → Older (cond b none (some (entry v m))) n
+      by true = tt
+      by false = h
+
+  of-older : 0 < n → Older (stamped v m) n → m < n
+  of-older pos = by (eqb m 0) refl
+    where
+      by : (b : Bool) → eqb m 0 ≡ b → Older (cond b none (some (entry v m))) n → m < n
+      by true e h = omega (arith, eqb-true m 0 e)
+      by false e h = h
+
+  is-newer : n < m → Newer (stamped v m) n
+  is-newer h = rw (ne-eqb m 0 (omega arith)) h
+
+  of-newer : Newer (stamped v m) n → n < m
+  of-newer = by (eqb m 0)
+    where
+      by : (b : Bool) → Newer (cond b none (some (entry v m))) n → n < m
+      by true h = absurd h
+      by false h = h
+
+  inserted : (L : Stigmergy) (k w : ℕ) → L k ≡ stamped v m → m < n → Inserted L k (entry w n) (L ⟦ k ≔ some (entry w n) ⟧)
+  inserted L k w = by (eqb m 0)
+    where
+      by : (b : Bool) → L k ≡ cond b none (some (entry v m)) → m < n → Inserted L k (entry w n) (L ⟦ k ≔ some (entry w n) ⟧)
+      by true e h = add e
+      by false e h = update e h
+
+abbrev sentKind : Bool → Kind
+sentKind asks = cond asks qry put
+
+asking : (asks : Bool) → sentKind asks ≡ qry → asks ≡ true
+asking true e = refl
+asking false e = let z : _≡_ {A = ℕ} 0 1 = cc in absurd (omega arith)
+
+-- an agent that takes the entry
+abbrev took : ℕ → Entry → Agent → Agent
+took k e a = ⟨ a .I ⸴ a .L ⟦ k ≔ some e ⟧ ⸴ a .P ⸴ a .Zc ∖｛ k ｝ ⸴ a .Zp ∪｛ k ｝ ⟩
+
+took-agent : (k v m y : ℕ) (s : List ℕ) → k < keyLimit → length s ≡ stateWords → y < 32 → 0 < m → agentOf (takeEntry k v m y s) y ≡ took k (entry v m) (agentOf s y)
+unfolding takeEntry
+took-agent k v m y s key whole there pos =
+    let p : length (putPair (Entries y) k v m s) ≡ stateWords = put-length (Entries y) k v m s ∙ whole in
+    add-zp-agent y k (dropKey (zcAt y) k (putPair (Entries y) k v m s)) (drop-length Zc y k (putPair (Entries y) k v m s) ∙ p) there
+    ∙ ap (λ (a : Agent). with Zp a (a .Zp ∪｛ k ｝))
+    (drop-zc-agent y k (putPair (Entries y) k v m s) p there
+    ∙ ap (λ (a : Agent). with Zc a (a .Zc ∖｛ k ｝)) (put-agent y k v m s key whole there pos))
+
+module _ (t : Table) (was : List ℕ) (x k agents : ℕ) (whole : length was ≡ stateWords) (few : agents ≤ 32) (there : x < agents) (key : k < keyLimit) (entered : 0 < stampOf was x k) where
+  abbrev mine : Entry
+  mine = entry (wordOf was (Entries x) k) (stampOf was x k)
+
+  abbrev said : Kind → Message
+  said kind = message kind (agentOf was x) k mine
+
+  takes-self : takes t was x k x ≡ false
+  unfolding takes hears
+  takes-self = rw (eq-eqb x x refl)
+
+  answers-self : answers t was x k x ≡ false
+  unfolding answers hears
+  answers-self = rw (eq-eqb x x refl)
+
+  module _ (asks : Bool) where
+    abbrev spread : List ℕ
+    spread = offered t was x k asks agents
+
+    abbrev turn : ℕ → List ℕ → List ℕ
+    turn = offer t was x k asks
+
+    -- another agent's turn changes nothing of y
+    away : (y z : ℕ) → (z ≡ y → ⊥) → (s : List ℕ) → agentOf (turn z s) y ≡ agentOf s y
+    away y z d s = agent-same (turn z s) s y (offer-length t was x k asks z s)
+        (λ p i pos e. offer-other t was x k asks key z s p i (λ (o : _). absurd (d (sym o ∙ e))))
+
+    own-turn : (s : List ℕ) → turn x s ≡ s
+    unfolding offer
+    own-turn s = rw (offer, takes-self, answers-self, and-false)
+
+    sender-same : agentOf spread x ≡ agentOf was x
+    sender-same = forEach-same turn (λ (u : List ℕ). agentOf u x) agents
+        (λ y l s. ⊎-elim (λ (e : y ≡ x). rw (e, own-turn s)) (λ (d : y ≡ x → ⊥). away x y d s) (same-or-other y x)) was
+
+    spread-whole : length spread ≡ stateWords
+    spread-whole = offered-length t was x k asks agents ∙ whole
+
+    environment-same : systemOf spread .E ≡ systemOf was .E
+    environment-same = forEach-same turn (λ (u : List ℕ). systemOf u .E) agents
+        (λ y l s. fun-ext λ j. value-same (turn y s) s Environment j
+        (λ i. offer-other t was x k asks key y s (Mark Environment j) i (λ e. refl)) (λ i. offer-other t was x k asks key y s (Word Environment j) i (λ e. refl))) was
+
+    clock-same : clockOf spread ≡ clockOf was
+    clock-same = forEach-same turn (λ (u : List ℕ). clockOf u) agents (λ y l s. offer-other t was x k asks key y s Clock tt (λ e. refl)) was
+
+    -- AN AGENT THAT HEARS
+    module _ (y : ℕ) (below : y < agents) (other : y ≡ x → ⊥) where
+      abbrev now : List ℕ
+      now = forEach turn y was
+
+      before : agentOf now y ≡ agentOf was y
+      before = forEach-same turn (λ (u : List ℕ). agentOf u y) y (λ z l s. away y z (omega arith) s) was
+
+      now-whole : length now ≡ stateWords
+      now-whole = offered-length t was x k asks y ∙ whole
+
+      turned : agentOf spread y ≡ agentOf (turn y now) y
+      turned = forEach-at turn (λ (u : List ℕ). agentOf u y) y agents below (λ z l d s. away y z d s) was
+
+      abbrev Result : Bool → Agent → Type 0
+      Result b a = Hears t (systemOf was .E) (said (sentKind asks)) (agentOf was y) b a
+
+      heard : hears t was x k y ≡ linkHolds t was k x y
+      unfolding hears
+      heard = rw (ne-eqb x y (λ (e : x ≡ y). other (sym e)))
+
+      linked : hears t was x k y ≡ true → Linked t (systemOf was .E) (said (sentKind asks)) (agentOf was y)
+      linked e = link-holds t was x y k .0 (sym heard ∙ e)
+
+      of-linked : Linked t (systemOf was .E) (said (sentKind asks)) (agentOf was y) → hears t was x k y ≡ true
+      of-linked h = heard ∙ link-holds t was x y k .1 h
+
+      held : agentOf was y .L k ≡ stamped (wordOf was (Entries y) k) (stampOf was y k)
+      held = entry-read was y k key
+
+      taking : (b : Bool) → stampOf was y k < stampOf was x k → hears t was x k y ≡ true → Hears t (systemOf was .E) (said (sentKind b)) (agentOf was y) true (took k mine (agentOf was y))
+      taking b l e = by b
+        where
+          is-older : Older (agentOf was y .L k) (stampOf was x k)
+          is-older = rw held (older (wordOf was (Entries y) k) (stampOf was y k) (stampOf was x k) l)
+
+          is-inserted : Inserted (agentOf was y .L) k mine (agentOf was y .L ⟦ k ≔ some mine ⟧)
+          is-inserted = inserted (wordOf was (Entries y) k) (stampOf was y k) (stampOf was x k) (agentOf was y .L) k (wordOf was (Entries x) k) held l
+
+          by : (b : Bool) → Hears t (systemOf was .E) (said (sentKind b)) (agentOf was y) true (took k mine (agentOf was y))
+          by true = QRY₁ refl (linked e) is-older is-inserted
+          by false = PUT refl (linked e) is-older is-inserted
+
+      by-offer : (b : Bool) → takes t was x k y ≡ b → (c : Bool) → (asks && answers t was x k y) ≡ c →
+          Result b (agentOf (cond b (takeEntry k (wordOf was (Entries x) k) (stampOf was x k) y now) (cond c (addKey (zpAt y) k now) now)) y)
+      unfolding takes answers
+      by-offer true e c f =
+          subst (Result true) (sym (took-agent k (wordOf was (Entries x) k) (stampOf was x k) y now key now-whole (omega arith) entered ∙ ap (took k mine) before))
+          (taking asks (ltb-true (stampOf was y k) (stampOf was x k) (and-right (hears t was x k y) _ e)) (and-left (hears t was x k y) _ e))
+      by-offer false e true f =
+          let a = and-right asks _ f in
+          subst (Result false) (sym (add-zp-agent y k now now-whole (omega arith) ∙ ap (λ (a : Agent). with Zp a (a .Zp ∪｛ k ｝)) before))
+          (QRY₂ (ap sentKind (and-left asks _ f)) (linked (and-left (hears t was x k y) _ a))
+          (rw held (is-newer (wordOf was (Entries y) k) (stampOf was y k) (stampOf was x k) (ltb-true (stampOf was x k) (stampOf was y k) (and-right (hears t was x k y) _ a)))))
+      by-offer false e false f = subst (Result false) (sym before) (STAY
+          (λ h o. not-both (and-both (hears t was x k y) _ (of-linked h)
+          (lt-ltb (stampOf was y k) (stampOf was x k) (of-older (wordOf was (Entries y) k) (stampOf was y k) (stampOf was x k) entered (rw held at o)))) e)
+          (λ q h o. not-both (and-both asks _ (asking asks q) (and-both (hears t was x k y) _ (of-linked h)
+          (lt-ltb (stampOf was x k) (stampOf was y k) (of-newer (wordOf was (Entries y) k) (stampOf was y k) (stampOf was x k) (rw held at o))))) f))
+
+      heard-by : (z : KeySet) → Result (takes t was x k y) (agentOf (dropKey (placeAt (Waits z x)) k spread) y)
+      unfolding offer
+      heard-by z = subst (λ (a : Agent). Result (takes t was x k y) a) (sym (drop-away z ∙ turned)) (by-offer (takes t was x k y) refl (asks && answers t was x k y) refl)
+        where
+          drop-away : (z : KeySet) → agentOf (dropKey (placeAt (Waits z x)) k spread) y ≡ agentOf spread y
+          drop-away z = agent-same (dropKey (placeAt (Waits z x)) k spread) spread y (drop-length z x k spread)
+              (λ p i pos e. drop-other z x k spread p i (elsewhere p (Waits z x) (omega arith) (λ (o : _). absurd (other (sym e ∙ o)))))
+
+  -- THE STEPS
+  module _ (z : KeySet) (asks : Bool) where
+    abbrev after : List ℕ
+    after = dropKey (placeAt (Waits z x)) k (spread asks)
+
+    environment-stays : systemOf after .E ≡ systemOf was .E
+    environment-stays = fun-ext (λ j. value-same after (spread asks) Environment j
+        (λ i. drop-other z x k (spread asks) (Mark Environment j) i refl) (λ i. drop-other z x k (spread asks) (Word Environment j) i refl)) ∙ environment-same asks
+
+    clock-stays : clockOf after ≡ clockOf was
+    clock-stays = drop-other z x k (spread asks) Clock tt refl ∙ clock-same asks
+
+  pub propagated-passed : has (zpOf was x) k ≡ true → Passed t agents x put k (takes t was x k) (systemOf was) (systemOf (propagated t was x k agents))
+  propagated-passed h = record {
+    there = there;
+    entry = mine;
+    sends = subst (λ (a : Agent). Sends (agentOf was x) (said put) a)
+        (sym (drop-zp-agent x k (spread false) (spread-whole false) (omega arith) ∙ ap (λ (a : Agent). with Zp a (a .Zp ∖｛ k ｝)) (sender-same false)))
+        (PROPAGATE h (entry-present was x k key entered));
+    itself = takes-self;
+    hears = λ y l d. heard-by false y l d Zp;
+    environment-stays = environment-stays Zp false;
+    clock-stays = clock-stays Zp false;
+  }
+
+  pub confirmed-passed : has (zcOf was x) k ≡ true → Passed t agents x qry k (takes t was x k) (systemOf was) (systemOf (confirmed t was x k agents))
+  confirmed-passed h = record {
+    there = there;
+    entry = mine;
+    sends = subst (λ (a : Agent). Sends (agentOf was x) (said qry) a)
+        (sym (drop-zc-agent x k (spread true) (spread-whole true) (omega arith) ∙ ap (λ (a : Agent). with Zc a (a .Zc ∖｛ k ｝)) (sender-same true)))
+        (CONFIRM h (entry-present was x k key entered));
+    itself = takes-self;
+    hears = λ y l d. heard-by true y l d Zc;
+    environment-stays = environment-stays Zc true;
+    clock-stays = clock-stays Zc true;
+  }
+
+-- THE THEOREMS: the rules give the step on words and no other, and the same number of takers. `pending` is what a well-formed state has
+module _ (t : Table) (was : List ℕ) (x k agents : ℕ) (whole : length was ≡ stateWords) (few : agents ≤ 32) (key : k < keyLimit) {taking : ℕ → Bool} {S′ : System} where
+  pub passed-propagated : (pending : has (zpOf was x) k ≡ true → 0 < stampOf was x k) → Passed t agents x put k taking (systemOf was) S′ →
+      (has (zpOf was x) k ≡ true) × (howMany taking agents ≡ takers t was x k agents) × Same agents S′ (systemOf (propagated t was x k agents))
+  passed-propagated pending p =
+      let h = sends-zp (p .sends) refl in
+      let q = propagated-passed t was x k agents whole few (p .there) key (pending h) h in
+      (h, passed-count p q, passed-unique p q)
+
+  pub passed-confirmed : (pending : has (zcOf was x) k ≡ true → 0 < stampOf was x k) → Passed t agents x qry k taking (systemOf was) S′ →
+      (has (zcOf was x) k ≡ true) × (howMany taking agents ≡ takers t was x k agents) × Same agents S′ (systemOf (confirmed t was x k agents))
+  passed-confirmed pending p =
+      let h = sends-zc (p .sends) refl in
+      let q = confirmed-passed t was x k agents whole few (p .there) key (pending h) h in
+      (h, passed-count p q, passed-unique p q)

@@ -1,0 +1,78 @@
+-- READY: what load leaves of an accepted table is ready, and stands for agents at their starting processes that know nothing.
+-- Assumes nothing.
+use Prim.Native.Nat.{ℕ, _<_}
+use mathlib.Core.Bool.{Bool, true, false}
+use mathlib.Core.Logic.{_↔_}
+use mathlib.Core.Option.{Option, none}
+use mathlib.Core.Path.{_≡_, refl, sym, ap, _∙_, fun-ext}
+use mathlib.Core.List.{List}
+use lib.Dec.{ltb}
+use lib.ListN.{length}
+use borrow.Author.Tests.{ltb-true}
+use Rattle.basis.specs.KeySets.{has}
+use Rattle.basis.proofs.KeySets.{has-nothing}
+use Rattle.basis.proofs.Tests.{cond-cases}
+use Rattle.value.specs.declared.Value.the-variants.{Absent}
+use Rattle.table.specs.Tables.{Table, tableOf, startAt}
+use Rattle.table.specs.Sound.{Limits}
+use Rattle.table.proofs.Promises.{start-process}
+use Rattle.term.specs.Acceptance.{stateWords}
+use Rattle.term.specs.Accepted.{Accepted, Checked}
+use Rattle.term.specs.Terms.{Node}
+use Rattle.state.specs.declared.Store.the-variants.{Environment, Attributes, Entries}
+use Rattle.state.specs.Layout.{keyLimit}
+use Rattle.state.specs.WellFormed.{loaded}
+use Rattle.state.proofs.Places.{Zc, Zp}
+use Rattle.state.proofs.Formed.{Proper, well-formed-read, well-formed-test}
+use Rattle.state.proofs.Load.{loaded-length, loaded-clock, loaded-mark, loaded-value, loaded-set, loaded-term, loaded-proper}
+use Rattle.machine.proofs.Steps.{state-checks}
+use Rattle.labs.specs.Agents.{⟨_⸴_⸴_⸴_⸴_⟩, Entry, System}
+use Rattle.labs.specs.Reading.{entryOf, systemOf}
+use Rattle.theorems.specs.Demand2.{Bytes, State, Same, Ready}
+use Rattle.theorems.proofs.Reading.{tuple, stamped}
+
+module _ (t : Table) (s : List ℕ) (limits : Limits (t .sizes)) where
+  pub state-proper : State t s ↔ Proper t s
+  state-proper = (
+    λ h. record { whole = h .whole; small = h .narrow; formed = well-formed-read t limits s (h .whole) (h .formed) },
+    λ p. record { whole = p .whole; narrow = p .small; formed = well-formed-test t limits s (p .whole) (p .formed) },
+  )
+
+module _ (bytes : List ℕ) (small : Bytes bytes) (scratch : ℕ) (accepted : Accepted bytes stateWords scratch) where
+  -- a well-formed state of an accepted table is ready
+  pub state-ready : (s : List ℕ) → State (tableOf bytes) s → Ready bytes s scratch
+  state-ready s h = record {
+    small = small;
+    state = h;
+    passed = state-checks bytes s scratch .1 (rw (h .whole) accepted, h .formed);
+  }
+
+  abbrev t : Table
+  t = tableOf bytes
+
+  pub loaded-ready : Ready bytes (loaded (tableOf bytes)) scratch
+  loaded-ready =
+      let c = accepted .table in
+      state-ready (loaded t) (state-proper t (loaded t) (c .sound .shaped .limits) .1 (loaded-proper t (c .sound .shaped .limits) (start-process t (c .sound))))
+
+  -- no value, no entry, no pending key
+  abbrev pub begun : System
+  begun = record {
+    E = λ k. Absent;
+    clock = 0;
+    agent = λ a. ⟨ (λ k. Absent) ⸴ (λ k. none) ⸴ Node (startAt (tableOf bytes) a) ⸴ (λ k. false) ⸴ (λ k. false) ⟩;
+  }
+
+  no-entry : (a k : ℕ) → entryOf (loaded t) a k ≡ none
+  no-entry a k = cond-cases (λ (o : Option Entry). o ≡ none) (ltb k keyLimit) (λ e. rw (loaded-mark t (Entries a) k (ltb-true k keyLimit e))) (λ e. refl)
+
+  pub loaded-begun : Same (tableOf bytes .sizes .agents) (systemOf (loaded (tableOf bytes))) begun
+  loaded-begun =
+      let c = accepted .table in
+      record {
+        environment-same = fun-ext λ k. loaded-value t Environment k;
+        clock-same = loaded-clock t;
+        agents-same = λ a l. tuple (fun-ext λ k. loaded-value t (Attributes a) k) (fun-ext λ k. no-entry a k)
+            (loaded-term t (c .sound .shaped .limits) (start-process t (c .sound)) a l)
+            (fun-ext λ k. ap (λ (w : ℕ). has w k) (loaded-set t Zc a) ∙ has-nothing k) (fun-ext λ k. ap (λ (w : ℕ). has w k) (loaded-set t Zp a) ∙ has-nothing k);
+      }
