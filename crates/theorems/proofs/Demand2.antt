@@ -21,12 +21,13 @@ use Rattle.state.specs.declared.Store.the-variants.{Environment, Attributes, En
 use Rattle.state.specs.Layout.{keyLimit, residualWords, stampOf, zcOf, zpOf, valueIn, termIn}
 use Rattle.state.proofs.Places.{KeySet, Zc, Zp, Waits}
 use Rattle.state.proofs.Frames.{wordAt}
-use Rattle.state.proofs.Formed.{WellFormed, There, well-formed-read}
+use Rattle.state.proofs.Formed.{WellFormed, Proper, There, well-formed-read}
 use Rattle.state.proofs.Exact.{ShowSame, show-exact}
 use Rattle.machine.specs.Acts.{choices, chosen, acted}
 use Rattle.machine.specs.Offers.{takers, propagated, confirmed}
 use Rattle.machine.specs.Steps.{Outcome, takenBy, after, ownChecks, stepOf}
-use Rattle.machine.proofs.Steps.{InRange, Able, Done, act-able, state-checks, done-step, step-done}
+use Rattle.machine.proofs.Steps.{InRange, Done, act-able, step-in, done-step, step-done}
+use Rattle.machine.proofs.Keep.{checks-accepted, checks-proper, step-checked}
 use Rattle.machine.proofs.Steps.{propagates as may-propagate, confirms as may-confirm}
 use Rattle.labs.specs.Agents.{Agent, Interface, System}
 use Rattle.labs.specs.Expressions.{valueIn as valueOfEntry}
@@ -36,6 +37,7 @@ use Rattle.theorems.specs.Demand2.{Allowed, act, propagate, confirm, don
 use Rattle.theorems.proofs.Moves.{moves-listed}
 use Rattle.theorems.proofs.Expressions.{entry-value}
 use Rattle.theorems.proofs.Reading.{timeIn, entry-stamp}
+use Rattle.theorems.proofs.Ready.{state-proper}
 use Rattle.theorems.proofs.Acting.{act-exactly}
 use Rattle.theorems.proofs.Offers.{propagated-passed, confirmed-passed, passed-propagated, passed-confirmed}
 
@@ -45,12 +47,6 @@ chosen-is h = cc
 same-refl : {agents : ℕ} {S : System} → Same agents S S
 same-refl = record { environment-same = refl; clock-same = refl; agents-same = λ a l. refl }
 
-sym-same : {agents : ℕ} {S S′ : System} → Same agents S S′ → Same agents S′ S
-sym-same h = record { environment-same = sym (h .environment-same); clock-same = sym (h .clock-same); agents-same = λ a l. sym (h .agents-same a l) }
-
-abbrev Keeps : Type 0
-Keeps = (bytes s s′ : List ℕ) (scratch kind x number taken : ℕ) → Ready bytes s scratch → stepOf bytes s scratch kind x number ≡ done taken s′ → State (tableOf bytes) s′
-
 module _ (bytes s : List ℕ) (scratch : ℕ) (ready : Ready bytes s scratch) where
   abbrev t : Table
   t = tableOf bytes
@@ -59,7 +55,7 @@ module _ (bytes s : List ℕ) (scratch : ℕ) (ready : Ready bytes s scratch) wh
   A = t .sizes .agents
 
   accepted : Accepted bytes (length s) scratch
-  accepted = state-checks bytes s scratch .0 (ready .passed) .0
+  accepted = checks-accepted bytes (ready .small) s (ready .state .narrow) scratch (ready .passed)
 
   checked : Checked t
   checked = accepted .table
@@ -68,7 +64,7 @@ module _ (bytes s : List ℕ) (scratch : ℕ) (ready : Ready bytes s scratch) wh
   limits = checked .sound .shaped .limits
 
   formed : WellFormed t s
-  formed = well-formed-read t limits s (ready .state .whole) (ready .state .formed)
+  formed = checks-proper bytes (ready .small) s (ready .state .narrow) scratch (ready .passed) .formed
 
   key : (k : ℕ) → k < t .sizes .stigmergy → k < keyLimit
   key k l = omega (arith, limits .stigmergy)
@@ -153,20 +149,24 @@ module _ (bytes s : List ℕ) (scratch : ℕ) (ready : Ready bytes s scratch) wh
           terms = λ a h. ap (λ (b : Agent). b .P) (agent a h);
         }) (first .whole) (second .whole)
 
-module _ (keeps : Keeps) where
-  exactly : (bytes s s′ : List ℕ) (scratch kind x number taken : ℕ) → Ready bytes s scratch →
-      (stepOf bytes s scratch kind x number ≡ done taken s′)
-      ↔ (State (tableOf bytes) s′ × Allowed (tableOf bytes) (systemOf s) (systemOf s′) kind x number taken)
-  exactly bytes s s′ scratch kind x number taken r = (
-    λ e. (keeps bytes s s′ scratch kind x number taken r e, allowed bytes s scratch r s′ kind x number taken e),
-    λ h. let w = every bytes s scratch r kind x number taken (systemOf s′) (h .1) in
-        w .1 ∙ ap (done taken) (one bytes s scratch r (w .0) s′ (keeps bytes s (w .0) scratch kind x number taken r (w .1)) (h .0) (sym-same (w .2))),
+  -- A DONE STEP LEAVES A WELL-FORMED STATE
+  kept : (s′ : List ℕ) (kind x number taken : ℕ) → stepOf bytes s scratch kind x number ≡ done taken s′ → State t s′
+  kept s′ kind x number taken e =
+      let f = ap (λ (o : Outcome). o .state) (sym (step-in bytes s scratch kind x number (ready .passed)) ∙ e) in
+      state-proper t s′ limits .1 (subst (Proper t) f (step-checked bytes (ready .small) s (ready .state .narrow) scratch (ready .passed) kind x number))
+
+  exactly : (s′ : List ℕ) (kind x number taken : ℕ) →
+      (stepOf bytes s scratch kind x number ≡ done taken s′) ↔ (State t s′ × Allowed t (systemOf s) (systemOf s′) kind x number taken)
+  exactly s′ kind x number taken = (
+    λ e. (kept s′ kind x number taken e, allowed s′ kind x number taken e),
+    λ h. let w = every kind x number taken (systemOf s′) (h .1) in
+        w .1 ∙ ap (done taken) (sym (one s′ (w .0) (h .0) (kept (w .0) kind x number taken (w .1)) (w .2))),
   )
 
-  pub demand-2 : Demand-2
-  demand-2 = record {
-    exactly = exactly;
-    every = λ bytes s scratch kind x number taken r S′ h. every bytes s scratch r kind x number taken S′ h;
-    one = λ bytes s s′ scratch r state same. one bytes s scratch r s s′ (r .state) state same;
-    transitions = λ bytes s scratch x r l d. moves-listed (tableOf bytes) (checked bytes s scratch r) (agentOf s x .P) d;
-  }
+pub demand-2 : Demand-2
+demand-2 = record {
+  exactly = λ bytes s s′ scratch kind x number taken r. exactly bytes s scratch r s′ kind x number taken;
+  every = λ bytes s scratch kind x number taken r S′ h. every bytes s scratch r kind x number taken S′ h;
+  one = λ bytes s s′ scratch r state same. one bytes s scratch r s s′ (r .state) state same;
+  transitions = λ bytes s scratch x r l d. moves-listed (tableOf bytes) (checked bytes s scratch r) (agentOf s x .P) d;
+}
