@@ -17,7 +17,7 @@ use Rattle.value.specs.declared.Truth.{Truth}
 use Rattle.value.specs.Truths.{truth, undefined, compare}
 use Rattle.table.specs.Tables.{Table, kindAt, pAt, qAt, linkAt}
 use Rattle.state.specs.declared.Store.the-variants.{Attributes, Entries}
-use Rattle.state.specs.Layout.{wordOf, stampOf, valueIn}
+use Rattle.state.specs.Layout.{keyLimit, wordOf, stampOf, valueIn}
 use Rattle.state.specs.Evaluation.{valueStep, valueOf, truthStep, truthBelow, holds, linkHolds}
 use Rattle.labs.specs.Agents.{Entry}
 use Rattle.labs.specs.Expressions.{Expr, value, Guard, truly, comparison, negation, conjunction, disjunction}
@@ -48,7 +48,7 @@ knowledgeOf s x y = record { E = systemOf s .E; sender = agentOf s x; receiver =
 -- an agent's entry, as a value
 pub entry-value : (s : List ℕ) (a k : ℕ) → valueOfEntry (entryOf s a k) ≡ valueIn s (Entries a) k
 unfolding valueIn
-entry-value s a k = by (ltb k 16) (eqb (stampOf s a k) 0)
+entry-value s a k = by (ltb k keyLimit) (eqb (stampOf s a k) 0)
   where
     by : (b c : Bool)
         → valueOfEntry (cond b (cond {A = Option Entry} c none (some (record { value = wordOf s (Entries a) k; time = stampOf s a k }))) none)
