@@ -1,19 +1,19 @@
 -- TABLES 7, 15 AND 16: an act on words is the rules' act on the system that the words stand for.
 -- Assumes nothing.
-use Prim.Native.Nat.{ℕ, zero, suc, _+_, _<_, _≤_}
+use Prim.Native.Nat.{ℕ, zero, suc, _<_, _≤_}
 use mathlib.Core.Bool.{Bool, true, false, cond, _&&_, _||_, and-false}
-use mathlib.Core.Logic.{_⊎_, ⊎-elim, _↔_}
+use mathlib.Core.Logic.{⊎-elim, _↔_}
 use mathlib.Core.Option.{Option, none, some}
 use mathlib.Core.Path.{_≡_, refl, sym, ap, subst, _∙_, fun-ext}
 use mathlib.Core.List.{List, []}
 use native.Mathlib.Omega.{arith}
 use native.Mathlib.Numerals.{add-one}
-use lib.Dec.{eqb, ltb}
+use lib.Dec.{eqb}
 use lib.ListN.{length, getD, getElem?, set, length-set}
-use borrow.Author.Tests.{eqb-true, eq-eqb, ne-eqb}
+use borrow.Author.Tests.{eqb-true, eq-eqb}
 use Rattle.basis.specs.KeySets.{has, plusAll}
 use Rattle.basis.proofs.KeySets.{has-plusAll, has-nothing, nothing-zero}
-use Rattle.basis.proofs.Tests.{not-both, is-false, same-test, and-left, and-both, lt-or-le, same-or-other}
+use Rattle.basis.proofs.Tests.{not-both, same-test, and-left, and-both, lt-or-le, same-or-other}
 use Rattle.basis.proofs.Lists.{nth-past, nth-in}
 use Rattle.value.specs.declared.Value.{Value}
 use Rattle.value.specs.declared.Value.the-variants.{Absent, Present}
@@ -22,34 +22,34 @@ use Rattle.term.specs.Terms.{Term, Idle, words}
 use Rattle.term.specs.Processes.{Label, ticks, acts, Derivation, derivation, allFew}
 use Rattle.term.specs.Acceptance.{stateWords}
 use Rattle.term.specs.Accepted.{Checked}
-use Rattle.term.proofs.Words.{Low, Over, over-low}
+use Rattle.term.proofs.Words.{Low, over-low}
 use Rattle.term.proofs.Inside.{ActionNode, Labelled, Inside as InsideTable, derivation-inside}
 use Rattle.state.specs.declared.Store.{Store}
 use Rattle.state.specs.declared.Store.the-variants.{Environment, Attributes, Entries}
-use Rattle.state.specs.Layout.{clockAt, zcAt, zpAt, keyLimit, residualWords, clockOf, stampOf, zcOf, zpOf, termIn, put, addKey}
-use Rattle.state.proofs.Places.{Place, KeySet, Zc, Zp, Clock, Mark, Word, Waits, Length, Residual, Inside, placeKind, storeKind, storeAgent, same, same-one}
+use Rattle.state.specs.Layout.{clockAt, zcAt, zpAt, keyLimit, residualWords, clockOf, zcOf, zpOf, termIn, put, addKey}
+use Rattle.state.proofs.Places.{Place, Zc, Zp, Clock, Mark, Word, Waits, Length, Residual, Inside, placeKind, storeKind, storeAgent, same, same-not}
 use Rattle.state.proofs.Places.{placeAgent as ownerOf}
-use Rattle.state.proofs.Frames.{wordAt, SameAt, set-other, set-here, value-same, term-same, put-length, put-other, put-valueIn, add-length, add-other}
+use Rattle.state.proofs.Frames.{SameAt, set-other, set-here, value-same, term-same, put-length, put-other, put-valueIn, add-length, add-other}
 use Rattle.state.proofs.Formed.{WellFormed}
 use Rattle.machine.specs.Acts.{isAbsent, wordIn, nextStamp, allHold, valueFor, lacksValue, writesEntry, choices, chosen, toConfirm, storeOf, setKey, acted}
 use Rattle.machine.proofs.Leave.{leave-term, leave-other}
 use Rattle.machine.proofs.Steps.{Able}
-use Rattle.machine.proofs.Acts.{action-key, store-attribute, store-entry, store-environment, set-tick, set-value, set-entry, set-length, acted-length, acted-other}
+use Rattle.machine.proofs.Acts.{action-key, store-attribute, store-environment, set-tick, set-value, set-entry, set-length, acted-length, acted-other}
 use Rattle.labs.specs.Agents.{⟨_⸴_⸴_⸴_⸴_⟩, Agent, Entry, Interface, Stigmergy, Keys, System, _⟦_≔_⟧, _∪｛_｝, _∪_, Inserted, add, update}
 use Rattle.labs.specs.Expressions.{Expr, E⟦_⟧, exprOf}
 use Rattle.labs.specs.Processes.{Variable, attribute, stigmergy, environment}
 use Rattle.labs.specs.Systems.{Settled, known, Will, ε, _▹_, Wills, SKIP, ATTR, LSTIG, ENV, alone, Await, guardKeys, Acts, EPSILON, EVAL-I, EVAL-L, EVAL-E, Acted}
-use Rattle.labs.specs.Reading.{entryOf, agentOf, systemOf}
+use Rattle.labs.specs.Reading.{agentOf, systemOf}
 use Rattle.theorems.specs.Demand2.{Same}
 use Rattle.theorems.proofs.Moves.{Does, moves-complete, moves-chosen}
 use Rattle.theorems.proofs.Expressions.{expression-value}
 use Rattle.theorems.proofs.Actions.{attribute-action, stigmergy-action, environment-action, guards-await, labelKeys, to-confirm}
-use Rattle.theorems.proofs.Reading.{tuple, I-same, L-same, Zc-same, Zp-same, agent-same, entry, put-agent, add-zp-agent}
+use Rattle.theorems.proofs.Reading.{tuple, I-same, L-same, Zc-same, Zp-same, agent-same, entry, timeIn, entry-stamp, put-agent, add-zp-agent}
 use Rattle.theorems.proofs.Willing.{willOf, wills-will, wills-does, wills-settled, acted-unique, acted-same}
 
 -- a place of agent y, and a place that is not
 apart : (p q : Place) (y : ℕ) → 0 < placeKind p → ownerOf p ≡ y → (0 < placeKind q → ownerOf q ≡ y → ⊥) → same p q ≡ false
-apart p q y k o f = is-false (same p q) (λ e. let i : p ≡ q = same-one p q e in f (subst (λ (r : Place). 0 < placeKind r) i k) (sym (ap (λ (r : Place). ownerOf r) i) ∙ o))
+apart p q y k o f = same-not p q (λ (i : p ≡ q). f (subst (λ (r : Place). 0 < placeKind r) i k) (sym (ap (λ (r : Place). ownerOf r) i) ∙ o))
 
 -- A PAIR IS PUT: agents without that store stay
 put-agents : (store : Store) (k v m : ℕ) (s : List ℕ) → k < keyLimit → (y : ℕ) → (0 < storeKind store → storeAgent store ≡ y → ⊥) → agentOf (put store k v m s) y ≡ agentOf s y
@@ -190,18 +190,6 @@ present-value : (o : Value) → isAbsent o ≡ false → o ≡ Present (wordIn o
 present-value Absent e = absurd (not-both refl e)
 present-value (Present v) e = refl
 
--- an entry's time is its stamp
-entry-time : (s : List ℕ) (a k : ℕ) (f : Entry) → entryOf s a k ≡ some f → f .time ≡ stampOf s a k
-entry-time s a k f = by (ltb k keyLimit) (eqb (stampOf s a k) 0)
-  where
-    e : Entry
-    e = record { value = wordAt s (Word (Entries a) k); time = stampOf s a k }
-
-    by : (b c : Bool) → cond b (cond {A = Option Entry} c none (some e)) none ≡ some f → f .time ≡ stampOf s a k
-    by true true h = let z : _≡_ {A = ℕ} 0 1 = cc in absurd (omega arith)
-    by true false h = let i : e ≡ f = cc in sym (ap (λ (g : Entry). g .time) i)
-    by false c h = let z : _≡_ {A = ℕ} 0 1 = cc in absurd (omega arith)
-
 -- TABLE 1: what is newer than all that was there is inserted
 inserted : (L : Stigmergy) (x : ℕ) (e : Entry) → ((f : Entry) → L x ≡ some f → f .time < e .time) → Inserted L x e (L ⟦ x ≔ some e ⟧)
 inserted L x e h = by (L x) refl
@@ -302,7 +290,7 @@ module _ (t : Table) (ok : Checked t) (s : List ℕ) (whole : length s ≡ state
         (fun-ext λ j. value-same (set queued clockAt m) s Environment j (λ l. stays (Mark Environment j) l refl refl (rw and-false) refl) (λ l. stays (Word Environment j) l refl refl refl (rw and-false)))
         (set-here queued Clock m tt (add-length Zp x p entered ∙ entered-whole) (omega arith) ∙ add-one (clockOf s))
         (EVAL-L (LSTIG (r .moves) (stigmergy-action t n k) is-settled) await value-is
-        (inserted (me .L) p (entry v (suc (clockOf s))) (λ f i. omega (arith, entry-time s x p f i, formed .formed .pairs (Entries x) is p key .bound))))
+        (inserted (me .L) p (entry v (suc (clockOf s))) (λ f i. omega (arith, sym (ap timeIn i) ∙ entry-stamp s x p key, formed .formed .pairs (Entries x) is p key .bound))))
       where
         m : ℕ
         m = nextStamp s

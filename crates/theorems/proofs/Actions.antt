@@ -1,17 +1,16 @@
 -- ACTIONS AND GUARDS: what an action assigns by its kind, when a derivation's guards hold, and which keys it has an agent confirm.
 -- Assumes nothing.
-use Prim.Native.Nat.{ℕ, zero, suc, _-_, _<_, _≤_}
+use Prim.Native.Nat.{ℕ, zero, suc, _-_, _≤_}
 use mathlib.Core.Bool.{Bool, true, false, cond, _&&_, _||_}
 use mathlib.Core.Path.{_≡_, refl, sym, ap, ap₂, _∙_}
 use mathlib.Core.List.{List, [], _∷_}
-use mathlib.Core.Logic.{_↔_, ⊎-elim}
+use mathlib.Core.Logic.{_↔_}
 use mathlib.Core.Option.{Option, none, some}
 use native.Mathlib.Omega.{arith}
 use lib.Dec.{eqb, ltb, eqb·suc-zero}
 use lib.ListN.{getD}
-use borrow.Author.Tests.{ltb-true, lt-ltb, le-ltb, eqb-true, eqb-false}
+use borrow.Author.Tests.{lt-ltb}
 use Rattle.table.specs.Tables.{Table, kindAt, pAt, qAt}
-use Rattle.table.specs.Nodes.{isExpression}
 use Rattle.table.specs.Sound.{Sound}
 use Rattle.table.proofs.Operands.{LowerExpression}
 use Rattle.table.proofs.Promises.{attribute-set-operands, stigmergy-set-operands, environment-set-operands}
@@ -20,10 +19,10 @@ use Rattle.term.proofs.Each.{Each}
 use Rattle.term.proofs.Inside.{ActionNode, GuardNode, Labelled, Inside}
 use Rattle.state.specs.declared.Store.the-variants.{Entries}
 use Rattle.state.specs.Layout.{keyLimit, wordOf, stampOf}
-use Rattle.state.specs.Evaluation.{holds, reads}
+use Rattle.state.specs.Evaluation.{holds}
 use Rattle.machine.specs.Acts.{allHold, guardsRead, labelReads, toConfirm}
-use Rattle.labs.specs.Agents.{Agent, Entry, Keys}
-use Rattle.labs.specs.Expressions.{exprOf, guardOf, K⟦_⟧}
+use Rattle.labs.specs.Agents.{Entry, Keys}
+use Rattle.labs.specs.Expressions.{exprOf, K⟦_⟧}
 use Rattle.labs.specs.Processes.{Variable, attribute, stigmergy, environment, assign, actionOf}
 use Rattle.labs.specs.Systems.{present, known, Await, guardKeys}
 use Rattle.labs.specs.Reading.{entryOf, agentOf, systemOf}

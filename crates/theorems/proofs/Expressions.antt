@@ -1,29 +1,27 @@
 -- TABLES 4 TO 6: the machine's values and truths of nodes are the document's, of the expressions and guards that the nodes stand for,
 -- with the knowledge that the state's words hold.
 -- Assumes nothing.
-use Prim.Native.Nat.{ℕ, zero, suc, _<_, _≤_}
+use Prim.Native.Nat.{ℕ, zero, suc}
 use mathlib.Core.Bool.{Bool, true, false, cond, not, _&&_, _||_}
-use mathlib.Core.Path.{_≡_, refl, sym, ap, _∙_}
+use mathlib.Core.Path.{_≡_, refl}
 use mathlib.Core.List.{List}
 use mathlib.Core.Logic.{_⊎_, inl, inr, ⊎-elim, _↔_}
 use mathlib.Core.Option.{Option, none, some}
 use native.Mathlib.Omega.{arith}
 use lib.Dec.{eqb, ltb}
-use borrow.Author.Tests.{eqb-true}
 use Rattle.basis.specs.Below.{below}
 use Rattle.basis.proofs.Tests.{not-both, and-left, and-right, and-both, or-either, or-left, or-right}
 use Rattle.value.specs.declared.Value.{Value}
 use Rattle.value.specs.declared.Value.the-variants.{Absent, Present}
 use Rattle.value.specs.declared.Truth.{Truth}
-use Rattle.value.specs.Values.{operate}
-use Rattle.value.specs.Truths.{truth, undefined, compare, connect, testOf}
+use Rattle.value.specs.Truths.{truth, undefined, compare}
 use Rattle.table.specs.Tables.{Table, kindAt, pAt, qAt, linkAt}
 use Rattle.state.specs.declared.Store.the-variants.{Attributes, Entries}
-use Rattle.state.specs.Layout.{wordOf, stampOf, valueIn}
+use Rattle.state.specs.Layout.{keyLimit, wordOf, stampOf, valueIn}
 use Rattle.state.specs.Evaluation.{valueStep, valueOf, truthStep, truthBelow, holds, linkHolds}
-use Rattle.labs.specs.Agents.{Agent, Entry}
-use Rattle.labs.specs.Expressions.{Expr, attribute, stigmergy, operation, value, Guard, truly, comparison, negation, conjunction, disjunction}
-use Rattle.labs.specs.Expressions.{Knowledge, party, E⟦_⟧, _⊢_, _⊨_, noExpr, exprStep, exprOf, guardStep, guardOf, φ, valueIn as valueOfEntry}
+use Rattle.labs.specs.Agents.{Entry}
+use Rattle.labs.specs.Expressions.{Expr, value, Guard, truly, comparison, negation, conjunction, disjunction}
+use Rattle.labs.specs.Expressions.{Knowledge, E⟦_⟧, _⊢_, _⊨_, noExpr, exprStep, exprOf, guardStep, guardOf, φ, valueIn as valueOfEntry}
 use Rattle.labs.specs.Reading.{entryOf, agentOf, systemOf}
 
 -- what two recursions make of a number is related, where their steps keep it so
@@ -50,7 +48,7 @@ knowledgeOf s x y = record { E = systemOf s .E; sender = agentOf s x; receiver =
 -- an agent's entry, as a value
 pub entry-value : (s : List ℕ) (a k : ℕ) → valueOfEntry (entryOf s a k) ≡ valueIn s (Entries a) k
 unfolding valueIn
-entry-value s a k = by (ltb k 16) (eqb (stampOf s a k) 0)
+entry-value s a k = by (ltb k keyLimit) (eqb (stampOf s a k) 0)
   where
     by : (b c : Bool)
         → valueOfEntry (cond b (cond {A = Option Entry} c none (some (record { value = wordOf s (Entries a) k; time = stampOf s a k }))) none)

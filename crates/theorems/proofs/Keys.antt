@@ -1,11 +1,11 @@
 -- K⟦·⟧: the stigmergy keys that a node reads are those of the expression or the guard that it stands for, over a sound table.
 -- Assumes nothing.
 use Prim.Native.Nat.{ℕ, zero, suc, _+_, _<_, _≤_}
-use mathlib.Core.Bool.{Bool, true, false, cond, _&&_, _||_}
+use mathlib.Core.Bool.{Bool, true, false, _&&_, _||_, or-false}
 use mathlib.Core.Path.{_≡_, refl, sym, ap, ap₂, subst, _∙_}
 use mathlib.Core.Logic.{⊎-elim}
 use native.Mathlib.Omega.{arith}
-use lib.Dec.{eqb, ltb, leb}
+use lib.Dec.{eqb, leb}
 use borrow.Author.Tests.{lt-ltb, ne-eqb, leb-true}
 use Rattle.basis.specs.Below.{below}
 use Rattle.basis.proofs.Below.{below-at, below-same}
@@ -21,19 +21,15 @@ use Rattle.state.specs.Evaluation.{readsStep, reads}
 use Rattle.labs.specs.Expressions.{Expr, value, attribute, stigmergy, environment, operation, Guard, truly, comparison, negation, conjunction, disjunction}
 use Rattle.labs.specs.Expressions.{K⟦_⟧, K⟦_⟧ᵇ, noExpr, exprStep, exprOf, guardStep, guardOf}
 
--- a, a + 1, .., n of them
-abbrev Each : (ℕ → Type 0) → ℕ → ℕ → Type 0
-Each P a zero = Unit {0}
-Each P a (suc n) = P a × Each P (suc a) n
+-- of the n numbers from a on
+abbrev Range : (ℕ → Type 0) → ℕ → ℕ → Type 0
+Range P a zero = Unit {0}
+Range P a (suc n) = P a × Range P (suc a) n
 
-each-at : (P : ℕ → Type 0) (a n : ℕ) → Each P a n → (k : ℕ) → a ≤ k → k < a + n → P k
-each-at P a zero e k h l = absurd (omega arith)
-each-at P a (suc n) e k h l =
-    ⊎-elim (λ (i : a ≡ k). subst P i (e .0)) (λ (d : a ≡ k → ⊥). each-at P (suc a) n (e .1) k (omega arith) (omega arith)) (same-or-other a k)
-
-or-false : (b : Bool) → (b || false) ≡ b
-or-false true = refl
-or-false false = refl
+range-at : (P : ℕ → Type 0) (a n : ℕ) → Range P a n → (k : ℕ) → a ≤ k → k < a + n → P k
+range-at P a zero e k h l = absurd (omega arith)
+range-at P a (suc n) e k h l =
+    ⊎-elim (λ (i : a ≡ k). subst P i (e .0)) (λ (d : a ≡ k → ⊥). range-at P (suc a) n (e .1) k (omega arith) (omega arith)) (same-or-other a k)
 
 module _ (t : Table) (sound : Sound t) where
   abbrev N : ℕ
@@ -101,7 +97,7 @@ module _ (t : Table) (sound : Sound t) where
         (ap₂ (operation k) (below-same (exprStep t) noExpr n N p (w .0 .0) (omega arith)) (below-same (exprStep t) noExpr n N q (w .1 .0) (omega arith))))
         (reads-two n k x h e (ne-eqb k 34 (omega arith)) a b ∙ ap₂ (λ c d. c || d) (lower p (w .0 .0) (w .0 .1)) (lower q (w .1 .0) (w .1 .1)))
 
-    expression-cases : Each (OfKind n x) 32 9
+    expression-cases : Range (OfKind n x) 32 9
     unfolding exprStep lookup expressionRows
     expression-cases = (
       λ e. stands (value (constantAt t n)) (rw (exprStep, e)) (reads-kind n 32 x h e),
@@ -128,7 +124,7 @@ module _ (t : Table) (sound : Sound t) where
   keys-below x zero n l e = absurd (omega arith)
   keys-below x (suc b) n l e =
       let w = kind-bounds n 32 40 e in
-      each-at (OfKind n x) 32 9
+      range-at (OfKind n x) 32 9
       (expression-cases n x (λ m i. keys-below x b m (omega arith)) (expression-inner t sound n e)) (kindAt t n) (w .0) (omega arith) refl
 
   pub expression-keys : (n x : ℕ) → isExpression (kindAt t n) ≡ true → reads t n x ≡ K⟦ exprOf t n ⟧ x
@@ -165,7 +161,7 @@ module _ (t : Table) (sound : Sound t) where
         (rw (guardStep, e, ne-eqb k 16 (omega arith), lt-ltb k 20 (omega arith)))
         (reads-two n k x h e (ne-eqb k 34 (omega arith)) a b ∙ ap₂ (λ c d. c || d) (expression-keys p x (w .0 .1)) (expression-keys q x (w .1 .1)))
 
-    guard-cases : Each (GuardOfKind n x) 16 7
+    guard-cases : Range (GuardOfKind n x) 16 7
     unfolding guardStep lookup guardRows
     guard-cases = (
       λ e. guard-stands truly (rw (guardStep, e)) (reads-kind n 16 x h e),
@@ -199,7 +195,7 @@ module _ (t : Table) (sound : Sound t) where
   guards-below x zero n l e = absurd (omega arith)
   guards-below x (suc b) n l e =
       let w = kind-bounds n 16 22 e in
-      each-at (GuardOfKind n x) 16 7
+      range-at (GuardOfKind n x) 16 7
       (guard-cases n x (λ m i. guards-below x b m (omega arith)) (guard-inner t sound n e)) (kindAt t n) (w .0) (omega arith) refl
 
   pub guard-keys : (n x : ℕ) → isGuard (kindAt t n) ≡ true → reads t n x ≡ K⟦ guardOf t n ⟧ᵇ x

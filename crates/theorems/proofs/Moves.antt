@@ -3,7 +3,7 @@
 use Prim.Native.Nat.{ℕ, zero, suc}
 use mathlib.Core.Bool.{true, not}
 use mathlib.Core.Path.{_≡_, refl, ap, _∙_}
-use mathlib.Core.List.{List, [], _∷_, _++_}
+use mathlib.Core.List.{List}
 use mathlib.Core.Logic.{inl, inr, ⊎-elim, _↔_}
 use mathlib.Core.Option.{some}
 use lib.ListN.{getD, getElem?}
@@ -12,7 +12,7 @@ use Rattle.basis.proofs.Below.{below-induct}
 use Rattle.basis.proofs.Tests.{not-both}
 use Rattle.table.specs.Tables.{Table, kindAt, pAt, qAt, firstRoot, bodyAt}
 use Rattle.term.specs.Terms.{Term, Seq, Par, Tick, Idle, Node}
-use Rattle.term.specs.Processes.{Process, idle, tick, act, choice, guarded, call, seq, par, Label, ticks, acts, labelTicks, isTick, isAction}
+use Rattle.term.specs.Processes.{Process, idle, tick, act, choice, guarded, call, seq, par, Label, ticks, acts, labelTicks}
 use Rattle.term.specs.Processes.{Derivation, derivation, derivations, join, byKind, nodeStep, nodeWith, defined, nodeProcess, process}
 use Rattle.term.specs.Accepted.{Checked}
 use Rattle.term.proofs.Acceptance.{node-derivations}

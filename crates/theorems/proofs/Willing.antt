@@ -1,16 +1,16 @@
 -- TABLES 7, 15 AND 16 determine what they give: by one derivation of its process an agent acts in one way.
 -- Assumes nothing.
-use Prim.Native.Nat.{ℕ, suc, _<_}
+use Prim.Native.Nat.{ℕ, suc}
 use mathlib.Core.Path.{_≡_, refl, sym, ap, subst, _∙_}
 use mathlib.Core.Logic.{⊎-elim}
 use Rattle.basis.proofs.Tests.{same-or-other}
 use Rattle.value.specs.declared.Value.the-variants.{Present}
-use Rattle.table.specs.Tables.{Table, qAt}
+use Rattle.table.specs.Tables.{Table}
 use Rattle.term.specs.Processes.{Label, ticks, acts, Derivation}
-use Rattle.labs.specs.Agents.{⟨_⸴_⸴_⸴_⸴_⟩, Agent, Entry, Interface, Stigmergy, System, _⟦_≔_⟧, _∪｛_｝, Inserted}
-use Rattle.labs.specs.Expressions.{Expr, E⟦_⟧, K⟦_⟧, exprOf}
-use Rattle.labs.specs.Processes.{Variable, attribute, stigmergy, environment, Action, assign, actionOf, Moves}
-use Rattle.labs.specs.Systems.{Settled, Will, ε, _▹_, onward, Wills, SKIP, ATTR, LSTIG, ENV, alone, Await, awaited, Acts, EPSILON, EVAL-I, EVAL-L, EVAL-E, Acted}
+use Rattle.labs.specs.Agents.{⟨_⸴_⸴_⸴_⸴_⟩, Agent, Interface, Stigmergy, System, _⟦_≔_⟧, _∪｛_｝, Inserted}
+use Rattle.labs.specs.Expressions.{Expr, E⟦_⟧, K⟦_⟧}
+use Rattle.labs.specs.Processes.{attribute, stigmergy, environment, Action, assign, actionOf}
+use Rattle.labs.specs.Systems.{Settled, Will, ε, _▹_, onward, Wills, SKIP, ATTR, LSTIG, ENV, alone, awaited, Acts, EPSILON, EVAL-I, EVAL-L, EVAL-E, Acted}
 use Rattle.theorems.specs.Demand2.{Same}
 use Rattle.theorems.proofs.Moves.{Does}
 use Rattle.theorems.proofs.Expressions.{one-value}
