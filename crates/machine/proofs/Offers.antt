@@ -25,7 +25,7 @@ use Rattle.machine.specs.Offers.{takeEntry, takes, answers, offer, offer
 abbrev pub Elsewhere : ℕ → Place → Type 0
 Elsewhere y q = placeAgent q ≡ y → placeKind q ≡ 0
 
-pub elsewhere : (q p : Place) → 0 < placeKind p → Elsewhere (placeAgent p) q → same q p ≡ false
+elsewhere : (q p : Place) → 0 < placeKind p → Elsewhere (placeAgent p) q → same q p ≡ false
 elsewhere q p h f = same-not q p (λ d. omega (arith, ap placeKind d, f (ap placeAgent d)))
 
 -- agent y takes an entry: the word that is then at q, given those before

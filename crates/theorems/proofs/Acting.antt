@@ -3,7 +3,7 @@
 use Prim.Native.Nat.{ℕ, zero, suc, _<_, _≤_}
 use mathlib.Core.Bool.{Bool, true, false, cond, _&&_, _||_, and-false}
 use mathlib.Core.Logic.{⊎-elim, _↔_}
-use mathlib.Core.Option.{Option, none, some}
+use mathlib.Core.Option.{none, some}
 use mathlib.Core.Path.{_≡_, refl, sym, ap, subst, _∙_, fun-ext}
 use mathlib.Core.List.{List, []}
 use native.Mathlib.Omega.{arith}
@@ -35,7 +35,7 @@ use Rattle.machine.specs.Acts.{isAbsent, wordIn, nextStamp, allHold, valueFor, 
 use Rattle.machine.proofs.Leave.{leave-term, leave-other}
 use Rattle.machine.proofs.Steps.{Able}
 use Rattle.machine.proofs.Acts.{action-key, store-attribute, store-environment, set-tick, set-value, set-entry, set-length, acted-length, acted-other}
-use Rattle.labs.specs.Agents.{⟨_⸴_⸴_⸴_⸴_⟩, Agent, Entry, Interface, Stigmergy, Keys, System, _⟦_≔_⟧, _∪｛_｝, _∪_, Inserted, add, update}
+use Rattle.labs.specs.Agents.{⟨_⸴_⸴_⸴_⸴_⟩, Agent, Interface, Keys, System, _⟦_≔_⟧, _∪｛_｝, _∪_}
 use Rattle.labs.specs.Expressions.{Expr, E⟦_⟧, exprOf}
 use Rattle.labs.specs.Processes.{Variable, attribute, stigmergy, environment}
 use Rattle.labs.specs.Systems.{Settled, known, Will, ε, _▹_, Wills, SKIP, ATTR, LSTIG, ENV, alone, Await, guardKeys, Acts, EPSILON, EVAL-I, EVAL-L, EVAL-E, Acted}
@@ -45,6 +45,7 @@ use Rattle.theorems.proofs.Moves.{Does, moves-complete, moves-chosen}
 use Rattle.theorems.proofs.Expressions.{expression-value}
 use Rattle.theorems.proofs.Actions.{attribute-action, stigmergy-action, environment-action, guards-await, labelKeys, to-confirm}
 use Rattle.theorems.proofs.Reading.{tuple, I-same, L-same, Zc-same, Zp-same, agent-same, entry, timeIn, entry-stamp, put-agent, add-zp-agent}
+use Rattle.theorems.proofs.Passing.{inserted}
 use Rattle.theorems.proofs.Willing.{willOf, wills-will, wills-does, wills-settled, acted-unique, acted-same}
 
 -- a place of agent y, and a place that is not
@@ -190,16 +191,8 @@ present-value : (o : Value) → isAbsent o ≡ false → o ≡ Present (wordIn o
 present-value Absent e = absurd (not-both refl e)
 present-value (Present v) e = refl
 
--- TABLE 1: what is newer than all that was there is inserted
-inserted : (L : Stigmergy) (x : ℕ) (e : Entry) → ((f : Entry) → L x ≡ some f → f .time < e .time) → Inserted L x e (L ⟦ x ≔ some e ⟧)
-inserted L x e h = by (L x) refl
-  where
-    by : (o : Option Entry) → L x ≡ o → Inserted L x e (L ⟦ x ≔ some e ⟧)
-    by none i = add i
-    by (some f) i = update i (h f i)
-
 -- what stands at a place of a list
-nth-is : {A : Type 0} (xs : List A) (n : ℕ) (o a : A) → getElem? xs n ≡ some a → (n < length xs) × (getD xs n o ≡ a)
+pub nth-is : {A : Type 0} (xs : List A) (n : ℕ) (o a : A) → getElem? xs n ≡ some a → (n < length xs) × (getD xs n o ≡ a)
 nth-is {A} xs n o a e =
     ⊎-elim (λ (l : n < length xs). let f : some (getD xs n o) ≡ some a = sym (nth-in xs n o l) ∙ e in (l, cc))
     (λ (l : length xs ≤ n). let f : none ≡ some a = sym (nth-past xs n l) ∙ e in let z : _≡_ {A = ℕ} 0 1 = cc in absurd (omega arith)) (lt-or-le n (length xs))

@@ -1,9 +1,8 @@
--- DEMAND 2.
+-- DEMAND 2: a step is done exactly when the rules and the limits allow it, and leaves what they give.
 -- Assumes nothing.
 use Prim.Native.Nat.{ℕ, zero, suc, _<_}
 use mathlib.Core.Bool.{true}
 use mathlib.Core.Logic.{_↔_}
-use mathlib.Core.Option.{some}
 use mathlib.Core.Path.{_≡_, refl, sym, ap, subst, _∙_}
 use mathlib.Core.List.{List, []}
 use native.Mathlib.Omega.{arith}
@@ -36,11 +35,8 @@ use Rattle.theorems.proofs.Moves.{moves-listed}
 use Rattle.theorems.proofs.Expressions.{entry-value}
 use Rattle.theorems.proofs.Reading.{timeIn, entry-stamp}
 use Rattle.theorems.proofs.Ready.{state-proper}
-use Rattle.theorems.proofs.Acting.{act-exactly}
+use Rattle.theorems.proofs.Acting.{nth-is, act-exactly}
 use Rattle.theorems.proofs.Offers.{propagated-passed, confirmed-passed, passed-propagated, passed-confirmed}
-
-chosen-is : {d e : Derivation} → some d ≡ some e → d ≡ e
-chosen-is h = cc
 
 same-refl : {agents : ℕ} {S : System} → Same agents S S
 same-refl = record { environment-same = refl; clock-same = refl; agents-same = λ a l. refl }
@@ -113,7 +109,7 @@ module _ (bytes s : List ℕ) (scratch : ℕ) (ready : Ready bytes s scratch) wh
   every : (kind x number taken : ℕ) (S′ : System) → Allowed t (systemOf s) S′ kind x number taken → Made kind x number taken S′
   every kind x number taken S′ (act {d = d} a e few clock short) =
       let w = act-exactly t checked s (ready .state .whole) formed x (a .there) number d e S′ .0 (a, few, clock, short) in
-      let i : d ≡ chosen t s x number = chosen-is (sym e ∙ nth-in (choices t s x) number (derivation ticks [] Idle) (w .0 .there)) in
+      let i : d ≡ chosen t s x number = sym (nth-is (choices t s x) number (derivation ticks [] Idle) d e .1) in
       made 0 x number taken S′ (record { kind-below = omega arith; agent-below = a .there; key-below = λ h. absurd (omega arith) }) (act-able t s x number .1 (w .0)) refl
       (subst (λ (o : Derivation). Same A S′ (systemOf (acted t s x o))) i (w .1))
   every kind x k taken S′ (propagate l p) =

@@ -3,14 +3,13 @@
 -- Assumes nothing.
 use Prim.Native.Nat.{ℕ, _<_, _≤_}
 use mathlib.Core.Bool.{Bool, true, false, cond, _&&_, and-false}
-use mathlib.Core.Logic.{⊎-elim}
-use mathlib.Core.Option.{none, some}
+use mathlib.Core.Logic.{_↔_, ⊎-elim}
+use mathlib.Core.Option.{Option, none, some}
 use mathlib.Core.Path.{_≡_, refl, sym, ap, subst, _∙_, fun-ext}
 use mathlib.Core.List.{List}
 use native.Mathlib.Omega.{arith}
-use lib.Dec.{eqb}
 use lib.ListN.{length}
-use borrow.Author.Tests.{ltb-true, lt-ltb, eqb-true, eq-eqb, ne-eqb}
+use borrow.Author.Tests.{ltb-true, lt-ltb, eq-eqb, ne-eqb}
 use Rattle.basis.specs.Numbers.{forEach, howMany}
 use Rattle.basis.specs.KeySets.{has}
 use Rattle.basis.proofs.Numbers.{forEach-same, forEach-at}
@@ -21,50 +20,26 @@ use Rattle.state.specs.declared.Store.the-variants.{Environment, Entries}
 use Rattle.state.specs.Layout.{keyLimit, clockOf, zcAt, zpAt, wordOf, stampOf, zcOf, zpOf, addKey, dropKey}
 use Rattle.state.specs.Layout.{put as putPair}
 use Rattle.state.specs.Evaluation.{linkHolds}
-use Rattle.state.proofs.Places.{KeySet, Zc, Zp, Clock, Mark, Word, Waits, placeAt}
+use Rattle.state.proofs.Places.{KeySet, Zc, Zp, Clock, Mark, Word, Waits, placeAt, other-agent}
 use Rattle.state.proofs.Frames.{put-length, drop-length, drop-other, value-same}
 use Rattle.machine.specs.Offers.{takeEntry, hears, takes, answers, offer, offered, takers, propagated, confirmed}
-use Rattle.machine.proofs.Offers.{elsewhere, offer-length, offered-length, offer-other}
-use Rattle.labs.specs.Agents.{⟨_⸴_⸴_⸴_⸴_⟩, Agent, Entry, Stigmergy, System, _⟦_≔_⟧, _∪｛_｝, _∖｛_｝, Inserted, add, update}
+use Rattle.machine.proofs.Offers.{offer-length, offered-length, offer-other}
+use Rattle.labs.specs.Agents.{⟨_⸴_⸴_⸴_⸴_⟩, Agent, Entry, System, _⟦_≔_⟧, _∪｛_｝, _∖｛_｝, Inserted}
 use Rattle.labs.specs.Systems.{Kind, put, qry, Message, message, Sends, PROPAGATE, CONFIRM, Older, Newer, Linked, Hears, PUT, QRY₁, QRY₂, STAY, Passed}
 use Rattle.labs.specs.Reading.{agentOf, systemOf}
 use Rattle.theorems.specs.Demand2.{Same}
 use Rattle.theorems.proofs.Expressions.{link-holds}
-use Rattle.theorems.proofs.Reading.{entry, stamped, entry-read, entry-present, agent-same, put-agent, with, add-zp-agent, drop-zp-agent, drop-zc-agent}
-use Rattle.theorems.proofs.Passing.{sends-zp, sends-zc, passed-unique, passed-count}
+use Rattle.theorems.proofs.Reading.{entry, timeIn, entry-present, entry-stamp, agent-same, put-agent, with, add-zp-agent, drop-zp-agent, drop-zc-agent}
+use Rattle.theorems.proofs.Passing.{inserted, sends-zp, sends-zc, passed-unique, passed-count}
 
--- an entry of stamp m, beside one of stamp n
-module _ (v m n : ℕ) where
-  older : m < n → Older (stamped v m) n
-  older h = by (eqb m 0)
-    where
-      by : (b : Bool) → Older (cond b none (some (entry v m))) n
-      by true = tt
-      by false = h
+-- older and newer, by the stamp
+older-time : (o : Option Entry) (n : ℕ) → 0 < n → Older o n ↔ (timeIn o < n)
+older-time none n pos = (λ h. pos, λ h. tt)
+older-time (some e) n pos = (λ h. h, λ h. h)
 
-  of-older : 0 < n → Older (stamped v m) n → m < n
-  of-older pos = by (eqb m 0) refl
-    where
-      by : (b : Bool) → eqb m 0 ≡ b → Older (cond b none (some (entry v m))) n → m < n
-      by true e h = omega (arith, eqb-true m 0 e)
-      by false e h = h
-
-  is-newer : n < m → Newer (stamped v m) n
-  is-newer h = rw (ne-eqb m 0 (omega arith)) h
-
-  of-newer : Newer (stamped v m) n → n < m
-  of-newer = by (eqb m 0)
-    where
-      by : (b : Bool) → Newer (cond b none (some (entry v m))) n → n < m
-      by true h = absurd h
-      by false h = h
-
-  inserted : (L : Stigmergy) (k w : ℕ) → L k ≡ stamped v m → m < n → Inserted L k (entry w n) (L ⟦ k ≔ some (entry w n) ⟧)
-  inserted L k w = by (eqb m 0)
-    where
-      by : (b : Bool) → L k ≡ cond b none (some (entry v m)) → m < n → Inserted L k (entry w n) (L ⟦ k ≔ some (entry w n) ⟧)
-      by true e h = add e
-      by false e h = update e h
+newer-time : (o : Option Entry) (n : ℕ) → Newer o n ↔ (n < timeIn o)
+newer-time none n = (λ h. absurd h, λ h. omega arith)
+newer-time (some e) n = (λ h. h, λ h. h)
 
 abbrev sentKind : Bool → Kind
 sentKind asks = cond asks qry put
@@ -159,21 +134,24 @@ module _ (t : Table) (was : List ℕ) (x k agents : ℕ) (whole : length was ≡
       of-linked : Linked t (systemOf was .E) (said (sentKind asks)) (agentOf was y) → hears t was x k y ≡ true
       of-linked h = heard ∙ link-holds t was x y k .1 h
 
-      held : agentOf was y .L k ≡ stamped (wordOf was (Entries y) k) (stampOf was y k)
-      held = entry-read was y k key
+      held : timeIn (agentOf was y .L k) ≡ stampOf was y k
+      held = entry-stamp was y k key
+
+      older : Older (agentOf was y .L k) (stampOf was x k) ↔ (timeIn (agentOf was y .L k) < stampOf was x k)
+      older = older-time (agentOf was y .L k) (stampOf was x k) entered
+
+      newer : Newer (agentOf was y .L k) (stampOf was x k) ↔ (stampOf was x k < timeIn (agentOf was y .L k))
+      newer = newer-time (agentOf was y .L k) (stampOf was x k)
 
       taking : (b : Bool) → stampOf was y k < stampOf was x k → hears t was x k y ≡ true → Hears t (systemOf was .E) (said (sentKind b)) (agentOf was y) true (took k mine (agentOf was y))
       taking b l e = by b
         where
-          is-older : Older (agentOf was y .L k) (stampOf was x k)
-          is-older = rw held (older (wordOf was (Entries y) k) (stampOf was y k) (stampOf was x k) l)
-
           is-inserted : Inserted (agentOf was y .L) k mine (agentOf was y .L ⟦ k ≔ some mine ⟧)
-          is-inserted = inserted (wordOf was (Entries y) k) (stampOf was y k) (stampOf was x k) (agentOf was y .L) k (wordOf was (Entries x) k) held l
+          is-inserted = inserted (agentOf was y .L) k mine (λ f i. omega (arith, sym (ap timeIn i) ∙ held))
 
           by : (b : Bool) → Hears t (systemOf was .E) (said (sentKind b)) (agentOf was y) true (took k mine (agentOf was y))
-          by true = QRY₁ refl (linked e) is-older is-inserted
-          by false = PUT refl (linked e) is-older is-inserted
+          by true = QRY₁ refl (linked e) (older .1 (omega (arith, held))) is-inserted
+          by false = PUT refl (linked e) (older .1 (omega (arith, held))) is-inserted
 
       by-offer : (b : Bool) → takes t was x k y ≡ b → (c : Bool) → (asks && answers t was x k y) ≡ c →
           Result b (agentOf (cond b (takeEntry k (wordOf was (Entries x) k) (stampOf was x k) y now) (cond c (addKey (zpAt y) k now) now)) y)
@@ -185,12 +163,11 @@ module _ (t : Table) (was : List ℕ) (x k agents : ℕ) (whole : length was ≡
           let a = and-right asks _ f in
           subst (Result false) (sym (add-zp-agent y k now now-whole (omega arith) ∙ ap (λ (a : Agent). with Zp a (a .Zp ∪｛ k ｝)) before))
           (QRY₂ (ap sentKind (and-left asks _ f)) (linked (and-left (hears t was x k y) _ a))
-          (rw held (is-newer (wordOf was (Entries y) k) (stampOf was y k) (stampOf was x k) (ltb-true (stampOf was x k) (stampOf was y k) (and-right (hears t was x k y) _ a)))))
+          (newer .1 (omega (arith, held, ltb-true (stampOf was x k) (stampOf was y k) (and-right (hears t was x k y) _ a)))))
       by-offer false e false f = subst (Result false) (sym before) (STAY
-          (λ h o. not-both (and-both (hears t was x k y) _ (of-linked h)
-          (lt-ltb (stampOf was y k) (stampOf was x k) (of-older (wordOf was (Entries y) k) (stampOf was y k) (stampOf was x k) entered (rw held at o)))) e)
+          (λ h o. not-both (and-both (hears t was x k y) _ (of-linked h) (lt-ltb (stampOf was y k) (stampOf was x k) (omega (arith, held, older .0 o)))) e)
           (λ q h o. not-both (and-both asks _ (asking asks q) (and-both (hears t was x k y) _ (of-linked h)
-          (lt-ltb (stampOf was x k) (stampOf was y k) (of-newer (wordOf was (Entries y) k) (stampOf was y k) (stampOf was x k) (rw held at o))))) f))
+          (lt-ltb (stampOf was x k) (stampOf was y k) (omega (arith, held, newer .0 o))))) f))
 
       heard-by : (z : KeySet) → Result (takes t was x k y) (agentOf (dropKey (placeAt (Waits z x)) k spread) y)
       unfolding offer
@@ -198,7 +175,7 @@ module _ (t : Table) (was : List ℕ) (x k agents : ℕ) (whole : length was ≡
         where
           drop-away : (z : KeySet) → agentOf (dropKey (placeAt (Waits z x)) k spread) y ≡ agentOf spread y
           drop-away z = agent-same (dropKey (placeAt (Waits z x)) k spread) spread y (drop-length z x k spread)
-              (λ p i pos e. drop-other z x k spread p i (elsewhere p (Waits z x) (omega arith) (λ (o : _). absurd (other (sym e ∙ o)))))
+              (λ p i pos e. drop-other z x k spread p i (other-agent p (Waits z x) (λ (o : _). other (sym e ∙ o))))
 
   -- THE STEPS
   module _ (z : KeySet) (asks : Bool) where

@@ -10,7 +10,7 @@ use Rattle.basis.specs.Numbers.{howMany}
 use Rattle.basis.proofs.Numbers.{howMany-ext}
 use Rattle.basis.proofs.Tests.{same-or-other}
 use Rattle.table.specs.Tables.{Table}
-use Rattle.labs.specs.Agents.{⟨_⸴_⸴_⸴_⸴_⟩, Agent, Entry, Interface, Stigmergy, System, _∪｛_｝, _∖｛_｝, Inserted, add, update, discard}
+use Rattle.labs.specs.Agents.{⟨_⸴_⸴_⸴_⸴_⟩, Agent, Entry, Interface, Stigmergy, System, _⟦_≔_⟧, _∪｛_｝, _∖｛_｝, Inserted, add, update, discard}
 use Rattle.labs.specs.Systems.{Kind, put, qry, Message, message, Sends, PROPAGATE, CONFIRM, Older, Newer, Linked, Hears, PUT, QRY₁, QRY₂, STAY, Passed}
 use Rattle.theorems.specs.Demand2.{Same}
 
@@ -31,6 +31,14 @@ inserted-unique (update p u) (discard q r) = absurd (omega (arith, one-time p q)
 inserted-unique (discard p u) (add q) = absurd (no-entry q p)
 inserted-unique (discard p u) (update q r) = absurd (omega (arith, one-time p q))
 inserted-unique (discard p u) (discard q r) = refl
+
+-- what is newer than all that was there is inserted
+pub inserted : (L : Stigmergy) (x : ℕ) (e : Entry) → ((f : Entry) → L x ≡ some f → f .time < e .time) → Inserted L x e (L ⟦ x ≔ some e ⟧)
+inserted L x e h = by (L x) refl
+  where
+    by : (o : Option Entry) → L x ≡ o → Inserted L x e (L ⟦ x ≔ some e ⟧)
+    by none i = add i
+    by (some f) i = update i (h f i)
 
 -- TABLE 8
 older-or-newer : (o : Option Entry) (t : ℕ) → Older o t → Newer o t → ⊥
