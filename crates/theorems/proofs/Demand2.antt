@@ -20,12 +20,12 @@ use Rattle.state.specs.declared.Store.the-variants.{Environment, Attributes, En
 use Rattle.state.specs.Layout.{keyLimit, stampOf, valueIn}
 use Rattle.state.proofs.Places.{KeySet, Zc, Zp, Waits}
 use Rattle.state.proofs.Frames.{wordAt}
-use Rattle.state.proofs.Formed.{WellFormed, Proper, There, well-formed-read}
+use Rattle.state.proofs.Formed.{WellFormed, Proper, There}
 use Rattle.state.proofs.Exact.{show-exact}
 use Rattle.machine.specs.Acts.{choices, chosen, acted}
 use Rattle.machine.specs.Steps.{Outcome, takenBy, after, ownChecks, stepOf}
-use Rattle.machine.proofs.Steps.{InRange, Done, act-able, step-in, done-step, step-done}
-use Rattle.machine.proofs.Keep.{checks-accepted, checks-proper, step-checked}
+use Rattle.machine.proofs.Steps.{InRange, Done, act-able, state-checks, step-in, done-step, step-done}
+use Rattle.machine.proofs.Keep.{step-checked}
 use Rattle.machine.proofs.Steps.{propagates as may-propagate, confirms as may-confirm}
 use Rattle.labs.specs.Agents.{Agent, Interface, System}
 use Rattle.labs.specs.Expressions.{valueIn as valueOfEntry}
@@ -49,7 +49,7 @@ module _ (bytes s : List ℕ) (scratch : ℕ) (ready : Ready bytes s scratch) wh
   A = t .sizes .agents
 
   accepted : Accepted bytes (length s) scratch
-  accepted = checks-accepted bytes (ready .small) s (ready .state .narrow) scratch (ready .passed)
+  accepted = state-checks bytes s scratch .0 (ready .passed) .0
 
   checked : Checked t
   checked = accepted .table
@@ -58,7 +58,7 @@ module _ (bytes s : List ℕ) (scratch : ℕ) (ready : Ready bytes s scratch) wh
   limits = checked .sound .shaped .limits
 
   formed : WellFormed t s
-  formed = checks-proper bytes (ready .small) s (ready .state .narrow) scratch (ready .passed) .formed
+  formed = state-proper t s limits .0 (ready .state) .formed
 
   key : (k : ℕ) → k < t .sizes .stigmergy → k < keyLimit
   key k l = omega (arith, limits .stigmergy)
@@ -134,7 +134,7 @@ module _ (bytes s : List ℕ) (scratch : ℕ) (ready : Ready bytes s scratch) wh
     sets Zp a l k = ap (λ (b : Agent). b .Zp k) (agent a l)
 
     one : u ≡ v
-    one = show-exact t u v (well-formed-read t limits u (first .whole) (first .formed)) (well-formed-read t limits v (second .whole) (second .formed))
+    one = show-exact t u v (state-proper t u limits .0 first .formed) (state-proper t v limits .0 second .formed)
         (record {
           clock = same .clock-same;
           values = λ store h k l. values store h k;

@@ -1,17 +1,19 @@
 -- READY: what load leaves of an accepted table is ready, and stands for agents at their starting processes that know nothing.
 -- Assumes nothing.
-use Prim.Native.Nat.{ℕ}
+use Prim.Native.Nat.{ℕ, _^_, _<_}
 use mathlib.Core.Bool.{false}
 use mathlib.Core.Logic.{_↔_}
 use mathlib.Core.Option.{Option, none}
 use mathlib.Core.Path.{_≡_, refl, ap, _∙_, fun-ext}
 use mathlib.Core.List.{List}
 use lib.Dec.{ltb}
+use lib.ListN.{getD}
 use borrow.Author.Tests.{ltb-true}
 use Rattle.basis.specs.KeySets.{has}
 use Rattle.basis.proofs.KeySets.{has-nothing}
 use Rattle.basis.proofs.Tests.{cond-cases}
 use Rattle.value.specs.declared.Value.the-variants.{Absent}
+use Rattle.table.specs.Checks.{passes}
 use Rattle.table.specs.Tables.{Table, tableOf, startAt}
 use Rattle.table.specs.Sound.{Limits}
 use Rattle.table.proofs.Promises.{start-process}
@@ -24,7 +26,8 @@ use Rattle.state.specs.WellFormed.{loaded}
 use Rattle.state.proofs.Places.{Zc, Zp}
 use Rattle.state.proofs.Formed.{Proper, well-formed-read, well-formed-test}
 use Rattle.state.proofs.Load.{loaded-clock, loaded-mark, loaded-value, loaded-set, loaded-term, loaded-proper}
-use Rattle.machine.proofs.Steps.{state-checks}
+use Rattle.machine.specs.Steps.{stepOf}
+use Rattle.machine.proofs.Steps.{state-checks, done-step}
 use Rattle.labs.specs.Agents.{⟨_⸴_⸴_⸴_⸴_⟩, Entry, System}
 use Rattle.labs.specs.Reading.{entryOf, systemOf}
 use Rattle.theorems.specs.Demand2.{Bytes, State, Same, Ready}
@@ -75,3 +78,14 @@ module _ (bytes : List ℕ) (small : Bytes bytes) (scratch : ℕ) (accepted : Ac
             (loaded-term t (c .sound .shaped .limits) (start-process t (c .sound)) a l)
             (fun-ext λ k. ap (λ (w : ℕ). has w k) (loaded-set t Zc a) ∙ has-nothing k) (fun-ext λ k. ap (λ (w : ℕ). has w k) (loaded-set t Zp a) ∙ has-nothing k);
       }
+
+-- a step is done of a ready state only
+pub done-ready : (bytes s : List ℕ) (scratch kind x number : ℕ) → Bytes bytes → ((i : ℕ) → getD s i 0 < 2 ^ 32) →
+    stepOf bytes s scratch kind x number .check ≡ passes → Ready bytes s scratch
+done-ready bytes s scratch kind x number small narrow e =
+    let d = done-step bytes s scratch kind x number e in
+    record {
+      small = small;
+      state = record { whole = d .accepted .state; narrow = narrow; formed = d .formed };
+      passed = state-checks bytes s scratch .1 (d .accepted, d .formed);
+    }
