@@ -1,33 +1,33 @@
--- What a choice of an accepted table is, and what stands where after an act.
+-- What a choice of an accepted table is, and what is read after an act: the key that it sets, Zc, and the residual.
 -- Assumes nothing.
-use Prim.Native.Nat.{ℕ, zero, suc, _-_, _<_, _≤_}
-use mathlib.Core.Bool.{Bool, true, false, cond}
-use mathlib.Core.Path.{_≡_, refl, sym, ap, ap₂, _∙_}
+use Prim.Native.Nat.{ℕ, zero, suc, _<_, _≤_}
+use mathlib.Core.Bool.{false, cond}
+use mathlib.Core.Path.{_≡_, refl, ap, ap₂, _∙_}
 use mathlib.Core.Logic.{⊎-elim}
-use mathlib.Core.List.{List, [], _∷_}
+use mathlib.Core.List.{List, []}
 use native.Mathlib.Omega.{arith}
 use lib.Dec.{eqb}
-use lib.ListN.{length, getD, set, length-set}
-use borrow.Author.Tests.{eq-eqb, ne-eqb}
+use lib.ListN.{length, set, length-set}
+use borrow.Author.Tests.{ne-eqb}
 use Rattle.basis.specs.KeySets.{plus, plusAll}
 use Rattle.basis.proofs.Lists.{nth-in}
-use Rattle.basis.proofs.Tests.{same-or-other}
+use Rattle.basis.proofs.Tests.{cond-cases, same-or-other}
 use Rattle.table.specs.Tables.{Table, kindAt, pAt}
 use Rattle.table.specs.Sound.{Sound}
 use Rattle.table.proofs.Promises.{attribute-set-operands, stigmergy-set-operands, environment-set-operands}
 use Rattle.term.specs.Terms.{words, Idle}
-use Rattle.term.specs.Processes.{Label, ticks, acts, Derivation, derivation, process}
+use Rattle.term.specs.Processes.{Label, ticks, acts, Derivation, derivation}
 use Rattle.term.specs.Acceptance.{stateWords}
-use Rattle.term.proofs.Words.{Over}
+use Rattle.term.proofs.Words.{Low, Over}
 use Rattle.term.proofs.Members.{place-in}
 use Rattle.term.proofs.Inside.{ActionNode, Inside as InsideTable, derivation-inside}
 use Rattle.state.specs.declared.Store.{Store}
 use Rattle.state.specs.declared.Store.the-variants.{Environment, Attributes, Entries}
 use Rattle.state.specs.Layout.{clockAt, zcAt, zpAt, keyLimit, residualWords, zcOf, zpOf, termIn, put, addKey}
 use Rattle.state.proofs.Places.{Place, Zc, Zp, Clock, Mark, Word, Waits, Length, Residual, Inside, storeKind, same}
-use Rattle.state.proofs.Frames.{wordAt, SameAt, set-other, set-word, put-length, put-other, put-word, add-length, add-word}
-use Rattle.machine.specs.Acts.{nextStamp, wordIn, leave, choices, chosen, valueFor, toConfirm, storeOf, setKey, acted}
-use Rattle.machine.proofs.Leave.{leave-length, leave-other}
+use Rattle.state.proofs.Frames.{wordAt, SameAt, set-other, set-here, set-word, put-length, put-other, put-word, add-length, add-other, add-word}
+use Rattle.machine.specs.Acts.{nextStamp, wordIn, choices, chosen, valueFor, toConfirm, storeOf, setKey, acted}
+use Rattle.machine.proofs.Leave.{leave-length, leave-other, leave-term}
 
 module _ (t : Table) (was : List ℕ) (x : ℕ) where
   -- what a choice does, asks and leaves is of the table's nodes
@@ -78,6 +78,14 @@ module _ (t : Table) (was : List ℕ) (x : ℕ) where
   unfolding setKey
   set-value n d = rw (setKey, ne-eqb (kindAt t n) 3 d)
 
+  pub set-attribute : (n : ℕ) → kindAt t n ≡ 2 → setKey t was x (acts n) ≡ put (Attributes x) (pAt t n) (wordIn (valueFor t was x n)) 1 was
+  unfolding setKey
+  set-attribute n e = rw e
+
+  pub set-environment : (n : ℕ) → kindAt t n ≡ 4 → setKey t was x (acts n) ≡ put Environment (pAt t n) (wordIn (valueFor t was x n)) 1 was
+  unfolding setKey
+  set-environment n e = rw e
+
   module _ (n : ℕ) where
     abbrev k : ℕ
     k = pAt t n
@@ -94,7 +102,7 @@ module _ (t : Table) (was : List ℕ) (x : ℕ) where
     pub set-entry : kindAt t n ≡ 3
         → setKey t was x (acts n) ≡ set (addKey (zpAt x) (pAt t n) (put (Entries x) (pAt t n) (wordIn (valueFor t was x n)) (nextStamp was) was)) clockAt (nextStamp was)
     unfolding setKey
-    set-entry e = rw (setKey, eq-eqb (kindAt t n) 3 e, store-entry n e)
+    set-entry e = rw e
 
     queued-length : length queued ≡ length was
     queued-length = add-length Zp x k entered ∙ put-length (Entries x) k v (nextStamp was) was
@@ -114,6 +122,19 @@ module _ (t : Table) (was : List ℕ) (x : ℕ) where
         ∙ ap₂ (λ a b. cond (same q (Waits Zp x)) (plus a k) b)
         (put-other (Entries x) k v (nextStamp was) was key (Waits Zp x) tt refl refl)
         (put-word (Entries x) k v (nextStamp was) was key whole there q h))
+
+    -- of other words, the clock and Zp change where it is a stigmergy key, and nothing else
+    pub set-key-other : pAt t n < keyLimit → (q : Place) → Inside q → same q Clock ≡ false → same q (Waits Zp x) ≡ false
+        → same q (Mark (storeOf t was x n) (pAt t n)) ≡ false → same q (Word (storeOf t was x n) (pAt t n)) ≡ false → SameAt (setKey t was x (acts n)) was q
+    unfolding setKey
+    set-key-other key q h c z m w =
+        cond-cases (λ (u : List ℕ). SameAt u was q) (eqb (kindAt t n) 3)
+        (λ e. set-other (addKey (zpAt x) k (put store k v (nextStamp was) was)) Clock (nextStamp was) tt q h c
+        ∙ add-other Zp x k (put store k v (nextStamp was) was) q h z ∙ put-other store k v (nextStamp was) was key q h m w)
+        (λ e. put-other store k v 1 was key q h m w)
+      where
+        store : Store
+        store = storeOf t was x n
 
   pub set-length : (l : Label) → length (setKey t was x l) ≡ length was
   set-length ticks = ap (λ (s : List ℕ). length s) set-tick
@@ -138,3 +159,14 @@ module _ (t : Table) (was : List ℕ) (x : ℕ) where
         → ((i : ℕ) → i < residualWords → same q (Residual x i) ≡ false) → SameAt (acted t was x d) (setKey t was x (d .label)) q
     unfolding acted
     acted-other q h e f g = leave-other x (words (d .leaving)) (set keySet (zcAt x) gains) q h f g ∙ set-other keySet (Waits Zc x) gains tt q h e
+
+    module _ (whole : length was ≡ stateWords) (there : x < 32) where
+      pub acted-zc : zcOf (acted t was x d) x ≡ plusAll (toConfirm t was x d) keyLimit (zcOf (setKey t was x (d .label)) x)
+      unfolding acted
+      acted-zc =
+          leave-other x (words (d .leaving)) (set keySet (zcAt x) gains) (Waits Zc x) tt refl (λ i l. refl)
+          ∙ set-here keySet (Waits Zc x) gains tt (set-length (d .label) ∙ whole) there
+
+      pub acted-term : Low (d .leaving) → length (words (d .leaving)) ≤ residualWords → termIn (acted t was x d) x ≡ d .leaving
+      unfolding acted
+      acted-term low short = leave-term x (d .leaving) (set keySet (zcAt x) gains) (length-set keySet (zcAt x) gains ∙ set-length (d .label) ∙ whole) there low short

@@ -1,46 +1,38 @@
--- Steps keep states well formed, of the right length, and of words of 32 bits.
+-- Acts, propagations and confirmations keep states well formed, of the right length, and of words of 32 bits.
 -- Assumes nothing.
-use Prim.Native.Nat.{ℕ, zero, suc, _+_, _^_, _<_, _≤_}
-use mathlib.Core.Bool.{Bool, true, false, not, _&&_, _||_}
+use Prim.Native.Nat.{ℕ, _^_, _<_, _≤_}
+use mathlib.Core.Bool.{Bool, true, _&&_, _||_}
 use mathlib.Core.Logic.{⊎-elim}
 use mathlib.Core.Path.{_≡_, refl, sym, ap, subst, _∙_}
-use mathlib.Core.List.{List, [], _∷_}
+use mathlib.Core.List.{List}
 use native.Mathlib.Omega.{arith}
-use lib.Dec.{ltb, leb}
+use lib.Dec.{ltb}
 use lib.ListN.{length, getD, set}
-use lib.Seq.{getD-drop}
-use borrow.Author.Tests.{lt-ltb, ltb-true, ltb-false, leb-false, eq-eqb, not-false}
-use Rattle.basis.specs.KeySets.{has, plusAll}
-use Rattle.basis.proofs.Lists.{nth-in}
+use borrow.Author.Tests.{ltb-true, eq-eqb}
+use Rattle.basis.specs.KeySets.{plusAll}
 use Rattle.basis.proofs.Numbers.{forEach-keeps}
-use Rattle.basis.proofs.Tests.{and-right, or-neither, and-fails, cond-cases, not-both, same-or-other, lt-or-le}
+use Rattle.basis.proofs.Tests.{and-right, cond-cases, same-or-other, lt-or-le}
 use Rattle.value.specs.declared.Value.{Value}
 use Rattle.value.specs.declared.Value.the-variants.{Absent, Present}
-use Rattle.table.specs.Checks.{Check, passes, refuses, refuseIf, firstOf}
-use Rattle.table.specs.Tables.{Table, sizesOf, tableOf, kindAt, pAt, qAt}
+use Rattle.table.specs.Tables.{Table, kindAt, pAt, qAt}
 use Rattle.table.specs.Sound.{Limits, Sound}
-use Rattle.table.proofs.Checks.{first-passes, append-passes, refuseIf-passes}
 use Rattle.table.proofs.Promises.{attribute-set-operands, stigmergy-set-operands, environment-set-operands}
 use Rattle.term.specs.Acceptance.{stateWords}
-use Rattle.term.specs.Accepted.{Accepted}
-use Rattle.term.specs.Terms.{Term, Idle, words}
-use Rattle.term.specs.Processes.{Label, ticks, acts, Derivation, derivation}
-use Rattle.term.proofs.Acceptance.{passes-accepted}
-use Rattle.term.proofs.Inside.{ActionNode, Labelled, Inside as DerivationInside, derivation-inside}
-use Rattle.term.proofs.Members.{place-in}
+use Rattle.term.specs.Terms.{Term, words}
+use Rattle.term.specs.Processes.{Label, ticks, acts, Derivation}
+use Rattle.term.proofs.Inside.{ActionNode, Labelled, Inside as DerivationInside}
 use Rattle.term.proofs.Words.{Over, over-low, words-small}
 use Rattle.state.specs.declared.Store.{Store}
 use Rattle.state.specs.declared.Store.the-variants.{Environment, Attributes, Entries}
-use Rattle.state.specs.Layout.{blockAt, keyLimit, residualWords, clockOf, stampOf, wordOf, zcAt, zpAt, zcOf, termIn, put, addKey, dropKey}
-use Rattle.state.specs.WellFormed.{wellFormed}
+use Rattle.state.specs.Layout.{blockAt, keyLimit, residualWords, clockOf, stampOf, wordOf, zcAt, zpAt, zcOf, put, addKey, dropKey}
 use Rattle.state.proofs.Places.{Place, KeySet, Zc, Zp, Clock, Agents, Mark, Word, Waits, Length, Residual, placeAt, Inside, placeAgent, other-agent, past-agent, placed}
-use Rattle.state.proofs.Frames.{wordAt, Small, SameAt, put-mark, drop-other}
+use Rattle.state.proofs.Frames.{wordAt, SameAt, put-mark, drop-other}
 use Rattle.state.proofs.Evaluation.{SmallValue, valueOf-small}
-use Rattle.state.proofs.Formed.{ResidualFormed, Proper, There, highestIn, keysIn, residual-formed, well-formed-read}
+use Rattle.state.proofs.Formed.{ResidualFormed, Proper, There, highestIn, keysIn, residual-formed}
 use Rattle.state.proofs.Keep.{Kept, kept-proper, kept-start, kept-later, kept-clock, kept-keys, kept-add, kept-drop, kept-put, pair-kept, set-kept, residual-kept, set-plusAll}
-use Rattle.machine.specs.Acts.{wordIn, nextStamp, leave, choices, chosen, valueFor, writesEntry, actChecks, guardsRead, labelReads, toConfirm, setKey, acted}
+use Rattle.machine.specs.Acts.{wordIn, nextStamp, leave, valueFor, writesEntry, guardsRead, labelReads, toConfirm, setKey, acted}
 use Rattle.machine.specs.Offers.{newer, takeEntry, hears, takes, answers, offer, offered, confirmed}
-use Rattle.machine.specs.Steps.{outcome, outOfRange, ownChecks, after, takenBy, stepIn, tableChecks, stateChecks}
+use Rattle.machine.proofs.Acts.{set-attribute, set-entry, set-environment}
 use Rattle.machine.proofs.Leave.{leave-length, leave-small, leave-other, leave-size, leave-word}
 
 module _ (t : Table) (limits : Limits (t .sizes)) (was : List ℕ) where
@@ -154,19 +146,6 @@ module _ (t : Table) (sound : Sound t) (bytes : (i : ℕ) → getD (t .operands)
     small : word < 2 ^ 32
     small = word-small (valueFor t was x n) (valueOf-small t bytes was (proper .small) x x (qAt t n))
 
-    -- the key that node n sets, by its kind
-    set-attribute : kindAt t n ≡ 2 → setKey t was x (acts n) ≡ put (Attributes x) key word 1 was
-    unfolding setKey
-    set-attribute e = rw e
-
-    set-entry : kindAt t n ≡ 3 → setKey t was x (acts n) ≡ set (addKey (zpAt x) key (put (Entries x) key word (nextStamp was) was)) (placeAt Clock) (nextStamp was)
-    unfolding setKey
-    set-entry e = rw e
-
-    set-environment : kindAt t n ≡ 4 → setKey t was x (acts n) ≡ put Environment key word 1 was
-    unfolding setKey
-    set-environment e = rw e
-
   -- the clock after, and what is kept
   abbrev Set : List ℕ → Type 0
   Set s = (c : ℕ) × (c ≤ 65535) × Kept t c c was s
@@ -199,17 +178,17 @@ module _ (t : Table) (sound : Sound t) (bytes : (i : ℕ) → getD (t .operands)
       (λ (h : kindAt t n < 3).
       let e : kindAt t n ≡ 2 = omega arith in
       let l = attribute-set-operands t sound n e .0 in
-      rw (set-attribute n e) (pair-set (Attributes x) n there refl l (omega arith)))
+      rw (set-attribute t was x n e) (pair-set (Attributes x) n there refl l (omega arith)))
       (λ (h : 3 ≤ kindAt t n).
       ⊎-elim
       (λ (i : kindAt t n < 4).
       let e : kindAt t n ≡ 3 = omega arith in
       let l = stigmergy-set-operands t sound n e .0 in
-      rw (set-entry n e) (entry-set n l (room (eq-eqb (kindAt t n) 3 e))))
+      rw (set-entry t was x n e) (entry-set n l (room (eq-eqb (kindAt t n) 3 e))))
       (λ (i : 4 ≤ kindAt t n).
       let e : kindAt t n ≡ 4 = omega arith in
       let l = environment-set-operands t sound n e .0 in
-      rw (set-environment n e) (pair-set Environment n tt refl l (omega arith)))
+      rw (set-environment t was x n e) (pair-set Environment n tt refl l (omega arith)))
       (lt-or-le (kindAt t n) 4))
       (lt-or-le (kindAt t n) 3)
 
@@ -229,84 +208,3 @@ module _ (t : Table) (sound : Sound t) (bytes : (i : ℕ) → getD (t .operands)
         let gained = set-plusAll s x (zcOf s x) (b .2 .formed .sets Zc x there) (toConfirm t was x d) (λ k l e. b .2 .stamps x k l (ltb-true 0 (stampOf was x k) (and-right (guardsRead t was x (d .guards) k || labelReads t was x (d .label) k) (ltb 0 (stampOf was x k)) e))) in
         let confirmed = kept-keys t limits was c c s (b .2) Zc x w there gained in
         kept-proper t c was (acted t was x d) (b .1) (kept-leave t limits was c c (set s (zcAt x) w) confirmed x there (d .leaving) (inside .leaving) short)
-
--- STEPS
-module _ (t : Table) (sound : Sound t) (bytes : (i : ℕ) → getD (t .operands) i 0 < 256) (was : List ℕ) (proper : Proper t was) where
-  bounds : Limits (t .sizes)
-  bounds = sound .shaped .limits
-
-  act-done : (x c : ℕ) → x < t .sizes .agents → firstOf (actChecks t was x c) ≡ passes → Proper t (acted t was x (chosen t was x c))
-  act-done x c there e =
-      let d = chosen t was x c in
-      let r₁₁ = first-passes _ _ e in
-      let r₁₂ = first-passes _ _ (r₁₁ .1) in
-      let r₁₃ = first-passes _ _ (r₁₂ .1) in
-      let r₁₄ = first-passes _ _ (r₁₃ .1) in
-      let r₁₅ = first-passes _ _ (r₁₄ .1) in
-      let r₁₆ = first-passes _ _ (r₁₅ .1) in
-      let r₁₇ = first-passes _ _ (r₁₆ .1) in
-      let some = leb-false (length (choices t was x)) c (refuseIf-passes 13 _ (r₁₃ .0)) in
-      let T = termIn was x in
-      let inside = derivation-inside t sound T (proper .formed .formed .residuals x there .over) (place-in (choices t was x) c (nth-in (choices t was x) c (derivation ticks [] Idle) some)) in
-      let full = refuseIf-passes 16 (writesEntry t was x (d .label) && leb 65535 (clockOf was)) (r₁₆ .0) in
-      acted-proper t sound bytes was proper x there d inside
-      (λ w. leb-false 65535 (clockOf was) (⊎-elim (λ f. absurd (not-both w f)) (λ f. f) (and-fails (writesEntry t was x (d .label)) (leb 65535 (clockOf was)) full)))
-      (ltb-false residualWords (length (words (d .leaving))) (refuseIf-passes 17 _ (r₁₇ .0)))
-
-  -- an offer of a key in one of x's sets
-  drop-done : (z : KeySet) (asks : Bool) (x k : ℕ) → x < t .sizes .agents → k < t .sizes .stigmergy → not (has (wordAt was (Waits z x)) k) ≡ false
-      → Proper t (dropKey (placeAt (Waits z x)) k (offered t was x k asks (t .sizes .agents)))
-  drop-done z asks x k there key e =
-      dropped-proper t bounds was proper x k there key (proper .formed .formed .sets z x there .entered k (omega arith) (not-false (has (wordAt was (Waits z x)) k) e)) asks z
-
-  -- 10 has passed
-  in-range : (kind x number : ℕ) → outOfRange t was kind x number ≡ false → (x < t .sizes .agents) × (0 < kind → number < t .sizes .stigmergy)
-  in-range kind x number o =
-      let r = or-neither (not (ltb kind 3)) (not (ltb x (t .sizes .agents)) || (ltb 0 kind && not (ltb number (t .sizes .stigmergy)))) o in
-      let q = or-neither (not (ltb x (t .sizes .agents))) (ltb 0 kind && not (ltb number (t .sizes .stigmergy))) (r .1) in (
-        ltb-true x (t .sizes .agents) (not-false (ltb x (t .sizes .agents)) (q .0)),
-        λ l. ltb-true number (t .sizes .stigmergy) (not-false (ltb number (t .sizes .stigmergy)) (rw (lt-ltb 0 kind l) at (q .1))),
-      )
-
-  step-done : (kind x number : ℕ) → outOfRange t was kind x number ≡ false → firstOf (ownChecks t was kind x number) ≡ passes → Proper t (after t was kind x number)
-  step-done zero x c o e = act-done x c (in-range 0 x c o .0) e
-  step-done (suc zero) x k o e = let r = in-range 1 x k o in drop-done Zp false x k (r .0) (r .1 (omega arith)) (refuseIf-passes 18 _ (first-passes _ _ e .0))
-  step-done (suc (suc kind)) x k o e =
-      let r = in-range (suc (suc kind)) x k o in
-      drop-done Zc true x k (r .0) (r .1 (omega arith)) (refuseIf-passes 18 _ (first-passes _ _ e .0))
-
-  -- a step, done or refused
-  pub step-proper : (kind x number : ℕ) → Proper t (stepIn t was kind x number .state)
-  unfolding stepIn outcome
-  step-proper kind x number = by (firstOf (refuseIf 10 (outOfRange t was kind x number) ∷ ownChecks t was kind x number)) refl
-    where
-      by : (c : Check) → firstOf (refuseIf 10 (outOfRange t was kind x number) ∷ ownChecks t was kind x number) ≡ c
-          → Proper t (outcome c was (takenBy t was kind x number) (after t was kind x number) .state)
-      by passes e = let r = first-passes (refuseIf 10 (outOfRange t was kind x number)) (ownChecks t was kind x number) e in
-          step-done kind x number (refuseIf-passes 10 (outOfRange t was kind x number) (r .0)) (r .1)
-      by (refuses n place) e = proper
-
--- A CALL whose checks 1 to 9 pass
-module _ (bytes : List ℕ) (narrow : (i : ℕ) → getD bytes i 0 < 256) (was : List ℕ) (small : Small was) (scratch : ℕ) (e : firstOf (stateChecks bytes was scratch) ≡ passes) where
-  abbrev table : Table
-  table = tableOf bytes
-
-  pub checks-accepted : Accepted bytes (length was) scratch
-  checks-accepted = passes-accepted bytes (length was) scratch (append-passes _ _ e .0)
-
-  pub checks-proper : Proper (tableOf bytes) was
-  checks-proper =
-      let a = checks-accepted in
-      let f = first-passes _ _ (append-passes (tableChecks bytes (length was) scratch) _ e .1) .0 in
-      record {
-        whole = a .state;
-        small = small;
-        formed = well-formed-read table (a .table .sound .shaped .limits) was (a .state) (not-false (wellFormed table was) (refuseIf-passes 9 _ f));
-      }
-
-  operands-narrow : (i : ℕ) → getD (tableOf bytes .operands) i 0 < 256
-  operands-narrow i = rw (getD-drop (12 + sizesOf bytes .nodes) bytes i 0) (narrow (12 + sizesOf bytes .nodes + i))
-
-  -- is followed by a state whose checks pass again
-  pub step-checked : (kind x number : ℕ) → Proper (tableOf bytes) (stepIn (tableOf bytes) was kind x number .state)
-  step-checked = step-proper table (checks-accepted .table .sound) operands-narrow was checks-proper

@@ -1,32 +1,32 @@
 -- What stands where after an offer: each agent is as its own offer leaves it, and nothing else changes.
 -- Assumes nothing.
 use Prim.Native.Nat.{ℕ, _<_, _≤_}
-use mathlib.Core.Bool.{Bool, true, false, cond, not, _&&_, _||_}
+use mathlib.Core.Bool.{Bool, true, false, cond, not, _&&_, _||_, and-false}
 use mathlib.Core.Path.{_≡_, refl, sym, ap, ap₂, _∙_}
+use mathlib.Core.Logic.{⊎-elim}
 use mathlib.Core.List.{List}
 use native.Mathlib.Omega.{arith}
 use lib.Dec.{eqb}
 use lib.ListN.{length}
 use borrow.Author.Tests.{eq-eqb}
-use Rattle.basis.specs.Numbers.{forEach}
 use Rattle.basis.specs.KeySets.{has, plus, minus}
 use Rattle.basis.proofs.KeySets.{has-plus, has-minus}
 use Rattle.basis.proofs.Numbers.{forEach-same, forEach-at}
-use Rattle.basis.proofs.Tests.{cond-cases}
+use Rattle.basis.proofs.Tests.{cond-cases, same-or-other}
 use Rattle.table.specs.Tables.{Table}
 use Rattle.term.specs.Acceptance.{stateWords}
 use Rattle.state.specs.declared.Store.the-variants.{Entries}
 use Rattle.state.specs.Layout.{keyLimit, zcAt, zpAt, wordOf, stampOf, zcOf, zpOf, put, addKey, dropKey}
-use Rattle.state.proofs.Places.{Place, Zc, Zp, Mark, Word, Waits, Inside, placeKind, placeAgent, same, same-not}
+use Rattle.state.proofs.Places.{Place, Zc, Zp, Mark, Word, Waits, Inside, placeKind, placeAgent, same, else-agent}
 use Rattle.state.proofs.Frames.{wordAt, SameAt, put-length, put-other, put-word, add-length, add-other, add-word, drop-length, drop-other, drop-word}
-use Rattle.machine.specs.Offers.{takeEntry, takes, answers, offer, offered}
+use Rattle.machine.specs.Offers.{takeEntry, hears, takes, answers, offer, offered}
 
 -- place q is not agent y's
 abbrev pub Elsewhere : ℕ → Place → Type 0
 Elsewhere y q = placeAgent q ≡ y → placeKind q ≡ 0
 
 elsewhere : (q p : Place) → 0 < placeKind p → Elsewhere (placeAgent p) q → same q p ≡ false
-elsewhere q p h f = same-not q p (λ d. omega (arith, ap placeKind d, f (ap placeAgent d)))
+elsewhere q p h f = else-agent q p h (λ k e. omega (arith, f e))
 
 -- agent y takes an entry: the word that is then at q, given those before
 abbrev pub tookWord : (k v m y : ℕ) → (Place → ℕ) → Place → ℕ
@@ -84,6 +84,11 @@ module _ (t : Table) (was : List ℕ) (x k : ℕ) (asks : Bool) where
   pub offered-length : (agents : ℕ) → length (offered t was x k asks agents) ≡ length was
   offered-length agents = forEach-same (offer t was x k asks) (λ (u : List ℕ). length u) agents (λ y l s. offer-length y s) was
 
+  -- x is offered nothing
+  pub offer-self : (s : List ℕ) → offer t was x k asks x s ≡ s
+  unfolding offer takes answers hears
+  offer-self s = simp (eq-eqb x x refl, and-false)
+
   module _ (key : k < keyLimit) where
     pub offer-other : (y : ℕ) (s : List ℕ) (q : Place) → Inside q → Elsewhere y q → SameAt (offer t was x k asks y s) s q
     unfolding offer
@@ -105,20 +110,26 @@ module _ (t : Table) (was : List ℕ) (x k : ℕ) (asks : Bool) where
         by false true = add-word Zp y k s whole there q h
         by false false = refl
 
-    -- what is nobody's, or of an agent that there is not, stays
-    pub offered-other : (agents : ℕ) (q : Place) → Inside q → (placeAgent q < agents → placeKind q ≡ 0) → SameAt (offered t was x k asks agents) was q
-    offered-other agents q h f =
-        forEach-same (offer t was x k asks) (λ (u : List ℕ). wordAt u q) agents (λ y l s. offer-other y s q h (λ e. f (omega arith))) was
+    -- the offers to agents below n leave what is everyone's, what is x's, and what is of agents from n on
+    pub offered-other : (n : ℕ) (q : Place) → Inside q → ((y : ℕ) → y < n → (y ≡ x → ⊥) → Elsewhere y q) → SameAt (offered t was x k asks n) was q
+    offered-other n q h f =
+        forEach-same (offer t was x k asks) (λ (u : List ℕ). wordAt u q) n
+        (λ y l s. ⊎-elim (λ (e : y ≡ x). rw (e, offer-self s)) (λ (d : y ≡ x → ⊥). offer-other y s q h (f y l d)) (same-or-other y x)) was
+
+    -- y's words are as the offer to y leaves them
+    pub offered-turn : (n y : ℕ) → y < n → (q : Place) → Inside q → placeAgent q ≡ y → SameAt (offered t was x k asks n) (offer t was x k asks y (offered t was x k asks y)) q
+    offered-turn n y l q h e =
+        forEach-at (offer t was x k asks) (λ (u : List ℕ). wordAt u q) y n l (λ z j d s. offer-other z s q h (λ c. absurd (d (sym c ∙ e)))) was
 
     module _ (agents : ℕ) (few : agents ≤ 32) (whole : length was ≡ stateWords) where
       -- no offer to a lower agent changes y
       untouched : (y : ℕ) (q : Place) → Inside q → placeAgent q ≡ y → SameAt (offered t was x k asks y) was q
-      untouched y q h e = offered-other y q h (λ l. absurd (omega arith))
+      untouched y q h e = offered-other y q h (λ z l d c. absurd (omega arith))
 
       -- an agent is as its own offer leaves it
       pub offered-word : (y : ℕ) → y < agents → (q : Place) → Inside q → placeAgent q ≡ y → wordAt (offered t was x k asks agents) q ≡ offerWord y (wordAt was) q
       offered-word y l q h e =
-          forEach-at (offer t was x k asks) (λ (u : List ℕ). wordAt u q) y agents l (λ z j d s. offer-other z s q h (λ c. absurd (d (sym c ∙ e)))) was
+          offered-turn agents y l q h e
           ∙ offer-word y (offered t was x k asks y) (offered-length y ∙ whole) (omega arith) q h
           ∙ rw (untouched y (Waits Zp y) tt refl, untouched y (Waits Zc y) tt refl, untouched y q h e)
 

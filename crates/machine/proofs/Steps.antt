@@ -1,22 +1,21 @@
 -- When load and a step are done, and what they come to: what the checks leave, as facts.
 -- Assumes nothing.
-use Prim.Native.Nat.{ℕ, zero, suc, _<_, _≤_}
-use mathlib.Core.Bool.{Bool, true, false, not, _&&_, _||_}
+use Prim.Native.Nat.{ℕ, _<_, _≤_}
+use mathlib.Core.Bool.{Bool, true, false, not, _&&_}
 use mathlib.Core.Path.{_≡_, refl, sym, ap, _∙_}
 use mathlib.Core.Logic.{_↔_, ⊎-elim}
-use mathlib.Core.List.{List, [], _∷_, _++_}
+use mathlib.Core.List.{List, [], _∷_}
 use native.Mathlib.Omega.{arith}
 use lib.Dec.{eqb, ltb, leb}
 use lib.ListN.{length}
-use borrow.Author.Tests.{ltb-true, ltb-false, leb-false, eqb-true, lt-ltb, le-ltb, lt-leb, eq-eqb, not-false}
+use borrow.Author.Tests.{ltb-true, ltb-false, leb-false, eqb-true, lt-ltb, le-ltb, lt-leb, not-false}
 use Rattle.basis.specs.KeySets.{has}
-use Rattle.basis.proofs.Tests.{either, not-both, is-false, and-left, and-right, and-both, and-fails, or-neither, lt-or-le}
+use Rattle.basis.proofs.Tests.{not-both, and-left, and-right, and-fails, or-neither}
 use Rattle.table.specs.Checks.{Check, passes, refuses, refuseIf, firstOf}
 use Rattle.table.specs.Tables.{Table, tableOf}
 use Rattle.table.proofs.Checks.{first-passes, first-both, append-passes, append-both, refuseIf-passes, refuseIf-false}
 use Rattle.term.specs.Terms.{words}
 use Rattle.term.specs.Processes.{allFew}
-use Rattle.term.specs.Acceptance.{lengthChecks, contentChecks}
 use Rattle.term.specs.Accepted.{Accepted}
 use Rattle.term.proofs.Acceptance.{passes-accepted, accepted-passes}
 use Rattle.state.specs.Layout.{residualWords, clockOf, zcOf, zpOf, termIn}

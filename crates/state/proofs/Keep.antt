@@ -12,14 +12,14 @@ use lib.Seq.{getD-set-other}
 use borrow.Author.Tests.{eqb-true}
 use Rattle.basis.specs.KeySets.{has, plus, minus, plusAll}
 use Rattle.basis.proofs.KeySets.{has-plus, has-minus, has-plusAll, plus-small, minus-small, plusAll-small}
-use Rattle.basis.proofs.Tests.{and-right, or-either, cond-cases, either}
+use Rattle.basis.proofs.Tests.{not-both, and-right, or-either, cond-cases, either}
 use Rattle.table.specs.Tables.{Table}
 use Rattle.table.specs.Sound.{Limits}
 use Rattle.term.specs.Acceptance.{stateWords}
 use Rattle.state.specs.declared.Store.{Store}
 use Rattle.state.specs.declared.Store.the-variants.{Environment, Attributes, Entries}
 use Rattle.state.specs.Layout.{blockAt, keyLimit, residualWords, clockAt, clockOf, stampOf, termIn, put, addKey, dropKey}
-use Rattle.state.proofs.Places.{Place, KeySet, Clock, Agents, Mark, Word, Waits, Length, Residual, placeAt, Inside, placeAgent, placeSort, storeAgent, same, same-one, place-bound}
+use Rattle.state.proofs.Places.{settled, same-not, Place, KeySet, Clock, Agents, Mark, Word, Waits, Length, Residual, placeAt, Inside, placeAgent, storeAgent, same, same-one, place-bound}
 use Rattle.state.proofs.Frames.{wordAt, Small, SameAt, set-small, set-other, set-here, set-word, put-other, put-word, put-mark, put-length, put-small, term-same}
 use Rattle.state.proofs.Formed.{PairFormed, SetFormed, ResidualFormed, There, highestIn, keysIn, Formed, Proper}
 
@@ -81,29 +81,29 @@ module _ (t : Table) (limits : Limits (t .sizes)) where
 
     -- A SET'S WORD, OR THE CLOCK
     module _ (p : Place) (v : ℕ) (inside : Inside p) (there : placeAgent p < agents)
-        (quiet : (q : Place) → eqb (placeSort q) 0 ≡ false → eqb (placeSort q) 4 ≡ false → same q p ≡ false)
+        (loose : settled p ≡ false)
         (sets : (z : KeySet) (a : ℕ) → a < agents → SetFormed s a (wordAt (set s (placeAt p) v) (Waits z a))) where
       abbrev changed : List ℕ
       changed = set s (placeAt p) v
 
-      still : (q : Place) → Inside q → eqb (placeSort q) 0 ≡ false → eqb (placeSort q) 4 ≡ false → SameAt changed s q
-      still q h d e = set-other s p v inside q h (quiet q d e)
+      still : (q : Place) → Inside q → settled q ≡ true → SameAt changed s q
+      still q h e = set-other s p v inside q h (same-not q p (λ i. not-both e (ap settled i ∙ loose)))
 
       formed-set : Formed t c changed
       formed-set = record {
-        agents = still Agents tt refl refl ∙ f .agents;
-        pairs = λ store h k l. pair-kept s changed store (highestIn c store) (keysIn t store) k (still (Mark store k) l refl refl) (still (Word store k) l refl refl) (f .pairs store h k l);
-        sets = λ z a l. set-kept s changed a (wordAt changed (Waits z a)) (λ k h m. rw (still (Mark (Entries a) k) h refl refl) m) (sets z a l);
-        residuals = λ a l. residual-kept t s changed a (length-set s (placeAt p) v) (still (Length a) tt refl refl) (λ i h. still (Residual a i) h refl refl) (f .residuals a l);
+        agents = still Agents tt refl ∙ f .agents;
+        pairs = λ store h k l. pair-kept s changed store (highestIn c store) (keysIn t store) k (still (Mark store k) l refl) (still (Word store k) l refl) (f .pairs store h k l);
+        sets = λ z a l. set-kept s changed a (wordAt changed (Waits z a)) (λ k h m. rw (still (Mark (Entries a) k) h refl) m) (sets z a l);
+        residuals = λ a l. residual-kept t s changed a (length-set s (placeAt p) v) (still (Length a) tt refl) (λ i h. still (Residual a i) h refl) (f .residuals a l);
         unused = still-unused s p v inside there (f .unused);
       }
 
     formed-clock : (v : ℕ) → Formed t c (set s clockAt v)
-    formed-clock v = formed-set Clock v tt (omega arith) (λ q d e. rw d)
+    formed-clock v = formed-set Clock v tt (omega arith) refl
         (λ z a l. rw (set-other s Clock v tt (Waits z a) tt refl) (f .sets z a l))
 
     formed-keys : (z : KeySet) (a w : ℕ) → a < agents → SetFormed s a w → Formed t c (set s (placeAt (Waits z a)) w)
-    formed-keys z a w there g = formed-set (Waits z a) w tt there (λ q d e. rw e) sets
+    formed-keys z a w there g = formed-set (Waits z a) w tt there refl sets
       where
         sets : (y : KeySet) (b : ℕ) → b < agents → SetFormed s b (wordAt (set s (placeAt (Waits z a)) w) (Waits y b))
         sets y b l = rw (set-word s (Waits z a) w tt whole (omega arith) (Waits y b) tt)

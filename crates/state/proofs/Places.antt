@@ -97,6 +97,16 @@ placeIndex (Waits Zp a) = 1
 placeIndex (Length a) = 0
 placeIndex (Residual a i) = i
 
+-- a word that is neither the clock nor a set of keys
+abbrev pub settled : Place → Bool
+settled Clock = false
+settled Agents = true
+settled (Mark store k) = true
+settled (Word store k) = true
+settled (Waits z a) = false
+settled (Length a) = true
+settled (Residual a i) = true
+
 -- two stores, and two places, are one: it computes where their forms are known
 abbrev pub sameStore : Store → Store → Bool
 sameStore s t = eqb (storeKind s) (storeKind t) && eqb (storeAgent s) (storeAgent t)
@@ -144,9 +154,12 @@ same-self p = rw (eq-eqb (placeSort p) (placeSort p) refl, eq-eqb (placeIndex p)
 pub same-not : (p q : Place) → (p ≡ q → ⊥) → same p q ≡ false
 same-not p q d = is-false (same p q) (λ e. d (same-one p q e))
 
--- places of different agents
+-- places of different agents; and a place that is everyone's, or of another agent than that of q
 pub other-agent : (p q : Place) → (placeAgent p ≡ placeAgent q → ⊥) → same p q ≡ false
 other-agent p q d = same-not p q (λ e. d (ap placeAgent e))
+
+pub else-agent : (p q : Place) → 0 < placeKind q → (0 < placeKind p → placeAgent p ≡ placeAgent q → ⊥) → same p q ≡ false
+else-agent p q k d = same-not p q (λ e. d (rw e k) (ap placeAgent e))
 
 -- THE PLACE OF A NUMBER. Pair k of a store stands at two places in a row; `late` is the second of them
 abbrev inPair : Store → ℕ → Bool → Place

@@ -25,7 +25,7 @@ use Rattle.state.proofs.Exact.{show-exact}
 use Rattle.machine.specs.Acts.{choices, chosen, acted}
 use Rattle.machine.specs.Steps.{Outcome, takenBy, after, ownChecks, stepOf}
 use Rattle.machine.proofs.Steps.{InRange, Done, act-able, state-checks, step-in, done-step, step-done}
-use Rattle.machine.proofs.Keep.{step-checked}
+use Rattle.machine.proofs.Proper.{step-checked}
 use Rattle.machine.proofs.Steps.{propagates as may-propagate, confirms as may-confirm}
 use Rattle.labs.specs.Agents.{Agent, Interface, System}
 use Rattle.labs.specs.Expressions.{valueIn as valueOfEntry}

@@ -22,8 +22,6 @@ use Rattle.term.specs.Terms.{words, termsOf, areTerms}
 use Rattle.term.specs.Processes.{keep, joins, derivations, nodeStep, nodeWith, defined, nodeProcess, process, allFew}
 use Rattle.term.specs.Exposure.{canTick, callsBelow}
 use Rattle.term.specs.Acceptance.{stateWords}
-use Rattle.term.specs.Accepted.{Accepted}
-use Rattle.term.proofs.Acceptance.{passes-accepted}
 use Rattle.state.specs.Layout.{valueIn, put, addKey, dropKey}
 use Rattle.state.specs.Evaluation.{valueStep, truthStep, readsStep}
 use Rattle.state.specs.WellFormed.{allZero, pairFormed, pendingFormed, residualFormed, agentFormed, wellFormed, loaded}
@@ -85,18 +83,15 @@ fleet-small : Bytes fleet
 unfolding every
 fleet-small = small-bytes fleet refl
 
-accepted : Accepted fleet stateWords 16
-accepted = passes-accepted fleet stateWords 16 table-passes
-
 -- a done step is allowed, and leaves a state that is ready again
 goes : (s s′ : List ℕ) (kind x number taken : ℕ) → Ready fleet s 16 → stepped s kind x number ≡ done taken s′ →
     Ready fleet s′ 16 × Allowed (tableOf fleet) (systemOf s) (systemOf s′) kind x number taken
 goes s s′ kind x number taken r e =
     let w = demand-2 .exactly fleet s s′ 16 kind x number taken r .0 e in
-    (state-ready fleet fleet-small 16 accepted s′ (w .0), w .1)
+    (state-ready fleet fleet-small 16 table-passes s′ (w .0), w .1)
 
 pub fleet-ready : Ready fleet s₀ 16
-fleet-ready = loaded-ready fleet fleet-small 16 accepted
+fleet-ready = loaded-ready fleet fleet-small 16 table-passes
 
 pub fleet-steps : Allowed (tableOf fleet) (systemOf s₀) (systemOf s₁) 0 0 0 0 × Allowed (tableOf fleet) (systemOf s₁) (systemOf s₂) 1 0 0 1
     × Allowed (tableOf fleet) (systemOf s₂) (systemOf s₃) 1 1 0 0 × Allowed (tableOf fleet) (systemOf s₃) (systemOf s₄) 0 1 0 0

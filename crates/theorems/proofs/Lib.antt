@@ -11,4 +11,8 @@ pub mod Offers
 pub mod Ready
 pub mod Demand2
 pub mod Instance
-pub mod Seen
+pub mod Views
+pub mod ActViews
+pub mod OfferViews
+pub mod Turns
+pub mod Demand3

@@ -2,28 +2,27 @@
 -- the machine's takers are the agents that take the entry.
 -- Assumes nothing.
 use Prim.Native.Nat.{ℕ, _<_, _≤_}
-use mathlib.Core.Bool.{Bool, true, false, cond, _&&_, and-false}
-use mathlib.Core.Logic.{_↔_, ⊎-elim}
+use mathlib.Core.Bool.{Bool, true, false, cond, _&&_}
+use mathlib.Core.Logic.{_↔_}
 use mathlib.Core.Option.{Option, none, some}
 use mathlib.Core.Path.{_≡_, refl, sym, ap, subst, _∙_, fun-ext}
 use mathlib.Core.List.{List}
 use native.Mathlib.Omega.{arith}
 use lib.ListN.{length}
 use borrow.Author.Tests.{ltb-true, lt-ltb, eq-eqb, ne-eqb}
-use Rattle.basis.specs.Numbers.{forEach, howMany}
+use Rattle.basis.specs.Numbers.{howMany}
 use Rattle.basis.specs.KeySets.{has}
-use Rattle.basis.proofs.Numbers.{forEach-same, forEach-at}
-use Rattle.basis.proofs.Tests.{not-both, and-left, and-right, and-both, same-or-other}
+use Rattle.basis.proofs.Tests.{not-both, and-left, and-right, and-both}
 use Rattle.table.specs.Tables.{Table}
 use Rattle.term.specs.Acceptance.{stateWords}
 use Rattle.state.specs.declared.Store.the-variants.{Environment, Entries}
 use Rattle.state.specs.Layout.{keyLimit, clockOf, zcAt, zpAt, wordOf, stampOf, zcOf, zpOf, addKey, dropKey}
 use Rattle.state.specs.Layout.{put as putPair}
 use Rattle.state.specs.Evaluation.{linkHolds}
-use Rattle.state.proofs.Places.{KeySet, Zc, Zp, Clock, Mark, Word, Waits, placeAt, other-agent}
-use Rattle.state.proofs.Frames.{put-length, drop-length, drop-other, value-same}
+use Rattle.state.proofs.Places.{Place, KeySet, Zc, Zp, Clock, Mark, Word, Waits, placeAt, placeKind, Inside, same-not, other-agent}
+use Rattle.state.proofs.Frames.{SameAt, put-length, drop-length, drop-other, value-same}
 use Rattle.machine.specs.Offers.{takeEntry, hears, takes, answers, offer, offered, takers, propagated, confirmed}
-use Rattle.machine.proofs.Offers.{offer-length, offered-length, offer-other}
+use Rattle.machine.proofs.Offers.{offer-length, offered-length, offered-other, offered-turn}
 use Rattle.labs.specs.Agents.{⟨_⸴_⸴_⸴_⸴_⟩, Agent, Entry, System, _⟦_≔_⟧, _∪｛_｝, _∖｛_｝, Inserted}
 use Rattle.labs.specs.Systems.{Kind, put, qry, Message, message, Sends, PROPAGATE, CONFIRM, Older, Newer, Linked, Hears, PUT, QRY₁, QRY₂, STAY, Passed}
 use Rattle.labs.specs.Reading.{agentOf, systemOf}
@@ -72,54 +71,30 @@ module _ (t : Table) (was : List ℕ) (x k agents : ℕ) (whole : length was ≡
   unfolding takes hears
   takes-self = rw (eq-eqb x x refl)
 
-  answers-self : answers t was x k x ≡ false
-  unfolding answers hears
-  answers-self = rw (eq-eqb x x refl)
-
   module _ (asks : Bool) where
     abbrev spread : List ℕ
     spread = offered t was x k asks agents
 
-    abbrev turn : ℕ → List ℕ → List ℕ
-    turn = offer t was x k asks
-
-    -- another agent's turn changes nothing of y
-    away : (y z : ℕ) → (z ≡ y → ⊥) → (s : List ℕ) → agentOf (turn z s) y ≡ agentOf s y
-    away y z d s = agent-same (turn z s) s y (offer-length t was x k asks z s)
-        (λ p i pos e. offer-other t was x k asks key z s p i (λ (o : _). absurd (d (sym o ∙ e))))
-
-    own-turn : (s : List ℕ) → turn x s ≡ s
-    unfolding offer
-    own-turn s = rw (offer, takes-self, answers-self, and-false)
-
-    sender-same : agentOf spread x ≡ agentOf was x
-    sender-same = forEach-same turn (λ (u : List ℕ). agentOf u x) agents
-        (λ y l s. ⊎-elim (λ (e : y ≡ x). rw (e, own-turn s)) (λ (d : y ≡ x → ⊥). away x y d s) (same-or-other y x)) was
-
     spread-whole : length spread ≡ stateWords
     spread-whole = offered-length t was x k asks agents ∙ whole
 
-    environment-same : systemOf spread .E ≡ systemOf was .E
-    environment-same = forEach-same turn (λ (u : List ℕ). systemOf u .E) agents
-        (λ y l s. fun-ext λ j. value-same (turn y s) s Environment j
-        (λ i. offer-other t was x k asks key y s (Mark Environment j) i (λ e. refl)) (λ i. offer-other t was x k asks key y s (Word Environment j) i (λ e. refl))) was
-
-    clock-same : clockOf spread ≡ clockOf was
-    clock-same = forEach-same turn (λ (u : List ℕ). clockOf u) agents (λ y l s. offer-other t was x k asks key y s Clock tt (λ e. refl)) was
+    sender-same : agentOf spread x ≡ agentOf was x
+    sender-same = agent-same spread was x (offered-length t was x k asks agents) (λ p i pos e. offered-other t was x k asks key agents p i (λ y l d o. absurd (d (sym o ∙ e))))
 
     -- AN AGENT THAT HEARS
     module _ (y : ℕ) (below : y < agents) (other : y ≡ x → ⊥) where
       abbrev now : List ℕ
-      now = forEach turn y was
-
-      before : agentOf now y ≡ agentOf was y
-      before = forEach-same turn (λ (u : List ℕ). agentOf u y) y (λ z l s. away y z (omega arith) s) was
+      now = offered t was x k asks y
 
       now-whole : length now ≡ stateWords
       now-whole = offered-length t was x k asks y ∙ whole
 
-      turned : agentOf spread y ≡ agentOf (turn y now) y
-      turned = forEach-at turn (λ (u : List ℕ). agentOf u y) y agents below (λ z l d s. away y z d s) was
+      before : agentOf now y ≡ agentOf was y
+      before = agent-same now was y (offered-length t was x k asks y) (λ p i pos e. offered-other t was x k asks key y p i (λ z l d o. absurd (omega arith)))
+
+      turned : agentOf spread y ≡ agentOf (offer t was x k asks y now) y
+      turned = agent-same spread (offer t was x k asks y now) y (spread-whole ∙ sym (offer-length t was x k asks y now ∙ now-whole))
+          (λ p i pos e. offered-turn t was x k asks key agents y below p i e)
 
       abbrev Result : Bool → Agent → Type 0
       Result b a = Hears t (systemOf was .E) (said (sentKind asks)) (agentOf was y) b a
@@ -182,12 +157,15 @@ module _ (t : Table) (was : List ℕ) (x k agents : ℕ) (whole : length was ≡
     abbrev after : List ℕ
     after = dropKey (placeAt (Waits z x)) k (spread asks)
 
+    -- what is everyone's
+    stays : (p : Place) → Inside p → placeKind p ≡ 0 → SameAt after was p
+    stays p i e = drop-other z x k (spread asks) p i (same-not p (Waits z x) (λ (o : p ≡ Waits z x). omega (arith, ap placeKind o))) ∙ offered-other t was x k asks key agents p i (λ y l d o. e)
+
     environment-stays : systemOf after .E ≡ systemOf was .E
-    environment-stays = fun-ext (λ j. value-same after (spread asks) Environment j
-        (λ i. drop-other z x k (spread asks) (Mark Environment j) i refl) (λ i. drop-other z x k (spread asks) (Word Environment j) i refl)) ∙ environment-same asks
+    environment-stays = fun-ext λ j. value-same after was Environment j (λ i. stays (Mark Environment j) i refl) (λ i. stays (Word Environment j) i refl)
 
     clock-stays : clockOf after ≡ clockOf was
-    clock-stays = drop-other z x k (spread asks) Clock tt refl ∙ clock-same asks
+    clock-stays = stays Clock tt refl
 
   pub propagated-passed : has (zpOf was x) k ≡ true → Passed t agents x put k (takes t was x k) (systemOf was) (systemOf (propagated t was x k agents))
   propagated-passed h = record {
