@@ -12,10 +12,11 @@ use Rattle.basis.proofs.Numbers.{forEach-same, forEach-at, forEach-keeps}
 use Rattle.term.specs.Acceptance.{stateWords}
 use Rattle.term.specs.Terms.{Term, words}
 use Rattle.term.proofs.Words.{Low}
-use Rattle.state.specs.Layout.{residualWords, residualAt, lengthAt, lengthOf, residualOf, termIn}
+use Rattle.state.specs.declared.Store.{Store}
+use Rattle.state.specs.Layout.{residualWords, residualAt, lengthAt, lengthOf, residualOf, termIn, valueIn}
 use Rattle.state.specs.WellFormed.{allZero}
-use Rattle.state.proofs.Places.{Place, Length, Residual, Inside, same}
-use Rattle.state.proofs.Frames.{wordAt, Small, SameAt, set-small, set-other, set-here}
+use Rattle.state.proofs.Places.{Place, Mark, Word, Length, Residual, other-agent, Inside, same}
+use Rattle.state.proofs.Frames.{wordAt, Small, SameAt, value-same, term-same, set-small, set-other, set-here}
 use Rattle.state.proofs.Residuals.{residual-front, residual-rest, term-read}
 use Rattle.machine.specs.Acts.{leave}
 
@@ -70,3 +71,15 @@ module _ (x : ℕ) (ws s : List ℕ) where
 pub leave-term : (x : ℕ) (T : Term) (s : List ℕ) → length s ≡ stateWords → x < 32 → Low T → length (words T) ≤ residualWords → termIn (leave x (words T) s) x ≡ T
 leave-term x T s whole there low short =
     term-read (leave x (words T) s) x (leave-length x (words T) s ∙ whole) there T low short (leave-size x (words T) s whole there) (leave-word x (words T) s whole there)
+
+-- values stay, and so do the terms of other agents
+module _ (x : ℕ) (ws s : List ℕ) where
+  pub leave-valueIn : (store : Store) (k : ℕ) → valueIn (leave x ws s) store k ≡ valueIn s store k
+  leave-valueIn store k =
+      value-same (leave x ws s) s store k (λ l. leave-other x ws s (Mark store k) l refl (λ j m. refl)) (λ l. leave-other x ws s (Word store k) l refl (λ j m. refl))
+
+  pub leave-termIn : (a : ℕ) → (a ≡ x → ⊥) → termIn (leave x ws s) a ≡ termIn s a
+  leave-termIn a d =
+      term-same (leave x ws s) s a (leave-length x ws s)
+      (leave-other x ws s (Length a) tt (other-agent (Length a) (Length x) d) (λ j m. refl))
+      (λ i l. leave-other x ws s (Residual a i) l refl (λ j m. other-agent (Residual a i) (Residual x j) d))

@@ -13,13 +13,13 @@ use borrow.Author.Tests.{eqb-false, ne-eqb, ltb-true, ltb-false}
 use Rattle.basis.specs.KeySets.{has, plus, minus}
 use Rattle.basis.proofs.KeySets.{has-plus, has-minus, plus-small, minus-small}
 use Rattle.basis.proofs.Lists.{getD-set, getD-part}
-use Rattle.basis.proofs.Tests.{lt-or-le, same-or-other}
+use Rattle.basis.proofs.Tests.{not-both, lt-or-le, same-or-other}
 use Rattle.value.specs.declared.Value.the-variants.{Absent, Present}
 use Rattle.term.specs.Acceptance.{stateWords}
 use Rattle.term.specs.Terms.{termOf}
 use Rattle.state.specs.declared.Store.{Store}
 use Rattle.state.specs.Layout.{keyLimit, residualWords, residualAt, markOf, wordOf, residualOf, termIn, valueIn, put, addKey, dropKey}
-use Rattle.state.proofs.Places.{Place, KeySet, Mark, Word, Waits, Length, Residual, placeAt, Inside, placeAgent, storeAgent, same, sameStore, same-self, same-place, place-fits}
+use Rattle.state.proofs.Places.{Place, KeySet, Mark, Word, Waits, Length, Residual, placeAt, Inside, placeAgent, storeAgent, same, sameStore, same-self, same-not, settled, same-place, place-fits}
 
 abbrev pub wordAt : List ℕ → Place → ℕ
 wordAt s p = getD s (placeAt p) 0
@@ -42,6 +42,10 @@ set-small s i v small h j = ⊎-elim (λ (e : j ≡ i). at e) (λ (e : j ≡ i �
 module _ (s : List ℕ) (p : Place) (v : ℕ) (inside : Inside p) where
   pub set-other : (q : Place) → Inside q → same q p ≡ false → SameAt (set s (placeAt p) v) s q
   set-other q h e = getD-set-other s (placeAt p) (placeAt q) v 0 (eqb-false (placeAt q) (placeAt p) (same-place q p h inside ∙ e))
+
+  -- a settled word, after a change of the clock or of a set of keys
+  pub set-settled : settled p ≡ false → (q : Place) → Inside q → settled q ≡ true → SameAt (set s (placeAt p) v) s q
+  set-settled e q h f = set-other q h (same-not q p (λ i. not-both f (ap settled i ∙ e)))
 
   module _ (whole : length s ≡ stateWords) (there : placeAgent p < 32) where
     pub set-word : (q : Place) → Inside q → wordAt (set s (placeAt p) v) q ≡ cond (same q p) v (wordAt s q)
@@ -164,3 +168,17 @@ module _ (s u : List ℕ) where
 
   pub term-same : (a : ℕ) → length s ≡ length u → SameAt s u (Length a) → ((i : ℕ) → i < residualWords → SameAt s u (Residual a i)) → termIn s a ≡ termIn u a
   term-same a e f h = ap₂ (λ (n : ℕ) (ws : List ℕ). termOf (take n ws)) f (residual-same a e h)
+
+-- so values and terms stay where the clock or a set of keys changes, and terms where a pair does
+module _ (s : List ℕ) (p : Place) (v : ℕ) (inside : Inside p) (loose : settled p ≡ false) where
+  pub set-valueIn : (store : Store) (k : ℕ) → valueIn (set s (placeAt p) v) store k ≡ valueIn s store k
+  set-valueIn store k =
+      value-same (set s (placeAt p) v) s store k (λ l. set-settled s p v inside loose (Mark store k) l refl) (λ l. set-settled s p v inside loose (Word store k) l refl)
+
+  pub set-termIn : (a : ℕ) → termIn (set s (placeAt p) v) a ≡ termIn s a
+  set-termIn a =
+      term-same (set s (placeAt p) v) s a (length-set s (placeAt p) v) (set-settled s p v inside loose (Length a) tt refl) (λ i l. set-settled s p v inside loose (Residual a i) l refl)
+
+pub put-termIn : (store : Store) (k v m : ℕ) (s : List ℕ) → k < keyLimit → (a : ℕ) → termIn (put store k v m s) a ≡ termIn s a
+put-termIn store k v m s key a =
+    term-same (put store k v m s) s a (put-length store k v m s) (put-other store k v m s key (Length a) tt refl refl) (λ i l. put-other store k v m s key (Residual a i) l refl refl)

@@ -12,15 +12,15 @@ use lib.Seq.{getD-set-other}
 use borrow.Author.Tests.{eqb-true}
 use Rattle.basis.specs.KeySets.{has, plus, minus, plusAll}
 use Rattle.basis.proofs.KeySets.{has-plus, has-minus, has-plusAll, plus-small, minus-small, plusAll-small}
-use Rattle.basis.proofs.Tests.{not-both, and-right, or-either, cond-cases, either}
+use Rattle.basis.proofs.Tests.{and-right, or-either, cond-cases, either}
 use Rattle.table.specs.Tables.{Table}
 use Rattle.table.specs.Sound.{Limits}
 use Rattle.term.specs.Acceptance.{stateWords}
 use Rattle.state.specs.declared.Store.{Store}
 use Rattle.state.specs.declared.Store.the-variants.{Environment, Attributes, Entries}
 use Rattle.state.specs.Layout.{blockAt, keyLimit, residualWords, clockAt, clockOf, stampOf, termIn, put, addKey, dropKey}
-use Rattle.state.proofs.Places.{settled, same-not, Place, KeySet, Clock, Agents, Mark, Word, Waits, Length, Residual, placeAt, Inside, placeAgent, storeAgent, same, same-one, place-bound}
-use Rattle.state.proofs.Frames.{wordAt, Small, SameAt, set-small, set-other, set-here, set-word, put-other, put-word, put-mark, put-length, put-small, term-same}
+use Rattle.state.proofs.Places.{settled, Place, KeySet, Clock, Agents, Mark, Word, Waits, Length, Residual, placeAt, Inside, placeAgent, storeAgent, same, same-one, place-bound}
+use Rattle.state.proofs.Frames.{wordAt, Small, SameAt, set-small, set-other, set-here, set-settled, set-word, put-other, put-word, put-mark, put-length, put-small, term-same}
 use Rattle.state.proofs.Formed.{PairFormed, SetFormed, ResidualFormed, There, highestIn, keysIn, Formed, Proper}
 
 -- WHAT STAYS where the words stay
@@ -87,7 +87,7 @@ module _ (t : Table) (limits : Limits (t .sizes)) where
       changed = set s (placeAt p) v
 
       still : (q : Place) → Inside q → settled q ≡ true → SameAt changed s q
-      still q h e = set-other s p v inside q h (same-not q p (λ i. not-both e (ap settled i ∙ loose)))
+      still = set-settled s p v inside loose
 
       formed-set : Formed t c changed
       formed-set = record {
