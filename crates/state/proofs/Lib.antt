@@ -6,3 +6,4 @@ pub mod Exact
 pub mod Evaluation
 pub mod Load
 pub mod Keep
+pub mod Examples

@@ -1,4 +1,16 @@
 pub mod Cases
+pub mod Moves
+pub mod Expressions
+pub mod Keys
+pub mod Actions
+pub mod Passing
+pub mod Reading
+pub mod Willing
+pub mod Acting
+pub mod Offers
+pub mod Ready
+pub mod Demand2
+pub mod Instance
 pub mod Views
 pub mod ActViews
 pub mod OfferViews
