@@ -21,14 +21,7 @@ use Rattle.term.proofs.Acceptance.{passes-accepted, accepted-passes}
 use Rattle.state.specs.Layout.{residualWords, clockOf, zcOf, zpOf, termIn}
 use Rattle.state.specs.WellFormed.{wellFormed, loaded}
 use Rattle.machine.specs.Acts.{choices, chosen, allHold, lacksValue, writesEntry, actChecks}
-use Rattle.machine.specs.Steps.{Outcome, outcome, tableChecks, loadOf, outOfRange, ownChecks, takenBy, after, stepIn, stateChecks, stepOf}
-
--- a call that is done, and one that is refused
-abbrev pub done : ℕ → List ℕ → Outcome
-done taken s = record { check = passes; taken = taken; state = s }
-
-abbrev pub refused : ℕ → ℕ → List ℕ → Outcome
-refused number place s = record { check = refuses number place; taken = 0; state = s }
+use Rattle.machine.specs.Steps.{Outcome, done, refused, outcome, tableChecks, loadOf, outOfRange, ownChecks, takenBy, after, stepIn, stateChecks, stepOf}
 
 module _ (was : List ℕ) (taken : ℕ) (s : List ℕ) where
   pub outcome-check : (c : Check) → outcome c was taken s .check ≡ c

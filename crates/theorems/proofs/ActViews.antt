@@ -10,7 +10,7 @@ use lib.ListN.{length}
 use borrow.Author.Tests.{eqb-true, eq-eqb, ne-eqb}
 use Rattle.basis.specs.KeySets.{has, plus}
 use Rattle.basis.proofs.KeySets.{has-plus}
-use Rattle.basis.proofs.Tests.{same-or-other}
+use Rattle.basis.proofs.Tests.{same-or-other, eqb-swap}
 use Rattle.agreement.specs.Moves.{Move, quiet, write, moved}
 use Rattle.table.specs.Tables.{Table, kindAt, pAt}
 use Rattle.term.specs.Processes.{Label, ticks, acts, Derivation}
@@ -23,7 +23,7 @@ use Rattle.state.proofs.Places.{Place, Zp, Mark, Word, Waits, Inside, placeKind
 use Rattle.state.proofs.Frames.{wordAt, SameAt, put-other}
 use Rattle.machine.specs.Acts.{nextStamp, wordIn, valueFor, storeOf, setKey, acted}
 use Rattle.machine.proofs.Acts.{set-tick, set-value, store-other, entry-word, acted-other}
-use Rattle.theorems.proofs.Views.{Pair, newer, seen, links, pair-same, pick-pair, Shows, shows-same, shows-itself, eqb-swap}
+use Rattle.theorems.proofs.Views.{Pair, newer, seen, links, pair-same, pick-pair, Shows, shows-same, shows-itself}
 
 -- an act of agent x, seen from key j
 module _ (t : Table) (s : List ℕ) (x j : ℕ) where

@@ -14,7 +14,7 @@ use borrow.Author.Tests.{eqb-true, eq-eqb}
 use Rattle.basis.specs.KeySets.{has, plusAll}
 use Rattle.basis.proofs.KeySets.{has-plusAll, has-nothing, nothing-zero}
 use Rattle.basis.proofs.Tests.{not-both, same-test, and-left, and-both, lt-or-le, same-or-other}
-use Rattle.basis.proofs.Lists.{nth-past, nth-in}
+use Rattle.basis.proofs.Lists.{nth-in, nth-is}
 use Rattle.value.specs.declared.Value.{Value}
 use Rattle.value.specs.declared.Value.the-variants.{Absent, Present}
 use Rattle.table.specs.Tables.{Table, kindAt, pAt, qAt}
@@ -190,12 +190,6 @@ pub record Enabled (t : Table) (s : List ℕ) (x : ℕ) (d : Derivation) : Type 
 present-value : (o : Value) → isAbsent o ≡ false → o ≡ Present (wordIn o)
 present-value Absent e = absurd (not-both refl e)
 present-value (Present v) e = refl
-
--- what stands at a place of a list
-pub nth-is : {A : Type 0} (xs : List A) (n : ℕ) (o a : A) → getElem? xs n ≡ some a → (n < length xs) × (getD xs n o ≡ a)
-nth-is {A} xs n o a e =
-    ⊎-elim (λ (l : n < length xs). let f : some (getD xs n o) ≡ some a = sym (nth-in xs n o l) ∙ e in (l, cc))
-    (λ (l : length xs ≤ n). let f : none ≡ some a = sym (nth-past xs n l) ∙ e in let z : _≡_ {A = ℕ} 0 1 = cc in absurd (omega arith)) (lt-or-le n (length xs))
 
 clock-agents : (s : List ℕ) (m y : ℕ) → agentOf (set s clockAt m) y ≡ agentOf s y
 clock-agents s m y = agent-same (set s clockAt m) s y (length-set s clockAt m) (λ p h k o. set-other s Clock m tt p h (apart p Clock y k o (λ l f. omega arith)))

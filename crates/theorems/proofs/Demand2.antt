@@ -8,7 +8,7 @@ use mathlib.Core.List.{List, []}
 use native.Mathlib.Omega.{arith}
 use lib.ListN.{length}
 use Rattle.basis.specs.KeySets.{has}
-use Rattle.basis.proofs.Lists.{nth-in}
+use Rattle.basis.proofs.Lists.{nth-in, nth-is}
 use Rattle.table.specs.Checks.{passes, firstOf}
 use Rattle.table.specs.Tables.{Table, tableOf}
 use Rattle.table.specs.Sound.{Limits}
@@ -23,19 +23,19 @@ use Rattle.state.proofs.Frames.{wordAt}
 use Rattle.state.proofs.Formed.{WellFormed, Proper, There}
 use Rattle.state.proofs.Exact.{show-exact}
 use Rattle.machine.specs.Acts.{choices, chosen, acted}
-use Rattle.machine.specs.Steps.{Outcome, takenBy, after, ownChecks, stepOf}
+use Rattle.machine.specs.Steps.{Outcome, done, takenBy, after, ownChecks, stepOf}
 use Rattle.machine.proofs.Steps.{InRange, Done, act-able, state-checks, step-in, done-step, step-done}
 use Rattle.machine.proofs.Proper.{step-checked}
 use Rattle.machine.proofs.Steps.{propagates as may-propagate, confirms as may-confirm}
 use Rattle.labs.specs.Agents.{Agent, Interface, System}
 use Rattle.labs.specs.Expressions.{valueIn as valueOfEntry}
 use Rattle.labs.specs.Reading.{agentOf, systemOf}
-use Rattle.theorems.specs.Demand2.{Allowed, act, propagate, confirm, done, State, Same, Ready, Demand-2}
+use Rattle.theorems.specs.Demand2.{Allowed, act, propagate, confirm, State, Same, Ready, Demand-2}
 use Rattle.theorems.proofs.Moves.{moves-listed}
 use Rattle.theorems.proofs.Expressions.{entry-value}
 use Rattle.theorems.proofs.Reading.{timeIn, entry-stamp}
 use Rattle.theorems.proofs.Ready.{state-proper, done-ready, load-ready}
-use Rattle.theorems.proofs.Acting.{nth-is, act-exactly}
+use Rattle.theorems.proofs.Acting.{act-exactly}
 use Rattle.theorems.proofs.Offers.{propagated-passed, confirmed-passed, passed-propagated, passed-confirmed}
 
 same-refl : {agents : ℕ} {S : System} → Same agents S S

@@ -9,8 +9,8 @@ use mathlib.Core.Logic.{_⊎_, inl, inr, ⊎-elim, _↔_}
 use mathlib.Core.Option.{Option, none, some}
 use native.Mathlib.Omega.{arith}
 use lib.Dec.{eqb, ltb}
-use Rattle.basis.specs.Below.{below}
-use Rattle.basis.proofs.Tests.{not-both, and-left, and-right, and-both, or-either, or-left, or-right}
+use Rattle.basis.proofs.Below.{below-both}
+use Rattle.basis.proofs.Tests.{not-both, and-left, and-right, and-both, or-either, or-left, or-right, cond-both}
 use Rattle.value.specs.declared.Value.{Value}
 use Rattle.value.specs.declared.Value.the-variants.{Absent, Present}
 use Rattle.value.specs.declared.Truth.{Truth}
@@ -23,23 +23,6 @@ use Rattle.labs.specs.Agents.{Entry}
 use Rattle.labs.specs.Expressions.{Expr, value, Guard, truly, comparison, negation, conjunction, disjunction}
 use Rattle.labs.specs.Expressions.{Knowledge, E⟦_⟧, _⊢_, _⊨_, noExpr, exprStep, exprOf, guardStep, guardOf, φ, valueIn as valueOfEntry}
 use Rattle.labs.specs.Reading.{entryOf, agentOf, systemOf}
-
--- what two recursions make of a number is related, where their steps keep it so
-module _ {A B : Type 0} (R : A → B → Type 0) where
-  below-both : {f : (ℕ → A) → ℕ → A} {g : (ℕ → B) → ℕ → B} {a : A} {b : B} → R a b
-      → ((l : ℕ → A) (m : ℕ → B) → ((k : ℕ) → R (l k) (m k)) → (k : ℕ) → R (f l k) (g m k)) → (n k : ℕ) → R (below f a n k) (below g b n k)
-  unfolding below
-  below-both o h zero k = o
-  below-both {f} {g} {a} {b} o h (suc n) k = by (eqb k n) (below-both o h n)
-    where
-      by : (t : Bool) → ((j : ℕ) → R (below f a n j) (below g b n j))
-          → R (elim t [ true ↦ f (below f a n) n | false ↦ below f a n k ]) (elim t [ true ↦ g (below g b n) n | false ↦ below g b n k ])
-      by true r = h (below f a n) (below g b n) r n
-      by false r = r k
-
-  cond-both : (c : Bool) {x y : A} {u v : B} → R x u → R y v → R (cond c x y) (cond c u v)
-  cond-both true p q = p
-  cond-both false p q = q
 
 -- E, and the agents that the words of the sender and of the receiver stand for
 abbrev pub knowledgeOf : List ℕ → ℕ → ℕ → Knowledge

@@ -27,10 +27,10 @@ use Rattle.state.specs.Evaluation.{valueStep, truthStep, readsStep}
 use Rattle.state.specs.WellFormed.{allZero, pairFormed, pendingFormed, residualFormed, agentFormed, wellFormed, loaded}
 use Rattle.machine.specs.Acts.{leave, setKey, acted}
 use Rattle.machine.specs.Offers.{takeEntry, hears, takes, answers, offer}
-use Rattle.machine.specs.Steps.{Outcome, outcome, tableChecks, stepIn, stepOf}
+use Rattle.machine.specs.Steps.{Outcome, done, outcome, tableChecks, stepIn, stepOf}
 use Rattle.labs.specs.Agents.{System}
 use Rattle.labs.specs.Reading.{systemOf}
-use Rattle.theorems.specs.Demand2.{Allowed, done, Bytes, Ready}
+use Rattle.theorems.specs.Demand2.{Allowed, Bytes, Ready}
 use Rattle.theorems.proofs.Ready.{state-ready, loaded-ready}
 use Rattle.theorems.proofs.Demand2.{demand-2}
 

@@ -11,7 +11,7 @@ use lib.ListN.{length}
 use borrow.Author.Tests.{eqb-true, eq-eqb, ne-eqb, lt-ltb, le-ltb}
 use Rattle.basis.specs.KeySets.{has, minus}
 use Rattle.basis.proofs.KeySets.{has-minus}
-use Rattle.basis.proofs.Tests.{lt-or-le}
+use Rattle.basis.proofs.Tests.{lt-or-le, eqb-swap}
 use Rattle.agreement.specs.View.{View}
 use Rattle.agreement.specs.Moves.{quiet, propagate, confirm, takes, answers, moved}
 use Rattle.table.specs.Tables.{Table}
@@ -22,7 +22,7 @@ use Rattle.state.proofs.Places.{Place, Zp, Zc, Mark, Word, Waits, Inside, place
 use Rattle.state.proofs.Frames.{SameAt, drop-other, drop-word}
 use Rattle.machine.specs.Offers.{takes as takesEntry, answers as answersEntry, hears, offered, propagated, confirmed}
 use Rattle.machine.proofs.Offers.{offered-length, offered-other, offered-stamp, offered-value, offered-zp}
-use Rattle.theorems.proofs.Views.{Pair, newer, pairOf, seen, links, pair-same, pick-pair, Shows, shows-same, shows-itself, shows-key, eqb-swap}
+use Rattle.theorems.proofs.Views.{Pair, newer, pairOf, seen, links, pair-same, pick-pair, Shows, shows-same, shows-itself, shows-key}
 
 -- AN OFFER of agent x's entry for key k
 module _ (t : Table) (s : List ℕ) (x k : ℕ) where

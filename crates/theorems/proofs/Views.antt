@@ -8,7 +8,7 @@ use mathlib.Core.List.{List}
 use lib.Dec.{eqb, ltb}
 use borrow.Author.Tests.{eqb-true, eq-eqb, ne-eqb}
 use Rattle.basis.specs.KeySets.{has}
-use Rattle.basis.proofs.Tests.{same-test, same-or-other}
+use Rattle.basis.proofs.Tests.{same-or-other}
 use Rattle.agreement.specs.View.{View}
 use Rattle.agreement.specs.Stamps.{byStamp}
 use Rattle.agreement.specs.Moves.{Move, quiet, moved}
@@ -72,6 +72,3 @@ unfolding moved
 shows-key t s u k j a m own other =
     ⊎-elim (λ (e : k ≡ j). rw (eq-eqb k j e) (subst (λ (i : ℕ). Shows u i (moved newer (links t s i) m (seen s i)) a) e own))
     (λ (d : k ≡ j → ⊥). rw (ne-eqb k j d) (other d)) (same-or-other k j)
-
-pub eqb-swap : (a b : ℕ) → eqb a b ≡ eqb b a
-eqb-swap a b = same-test (eqb a b) (eqb b a) (λ e. eq-eqb b a (sym (eqb-true a b e))) (λ e. eq-eqb a b (sym (eqb-true b a e)))

@@ -14,7 +14,7 @@ use Rattle.term.specs.Processes.{Derivation, derivations, process, allFew}
 use Rattle.term.specs.Acceptance.{stateWords}
 use Rattle.state.specs.Layout.{residualWords}
 use Rattle.state.specs.WellFormed.{wellFormed}
-use Rattle.machine.specs.Steps.{Outcome, stateChecks, loadOf, stepOf}
+use Rattle.machine.specs.Steps.{done, stateChecks, loadOf, stepOf}
 use Rattle.labs.specs.Agents.{System}
 use Rattle.labs.specs.Processes.{Moves}
 use Rattle.labs.specs.Systems.{Acted, Passed, put, qry}
@@ -29,9 +29,6 @@ pub data Allowed (t : Table) (S S′ : System) : ℕ → ℕ → ℕ → ℕ →
       Allowed t S S′ 1 x k (howMany took (t .sizes .agents))
   confirm : {x k : ℕ} {took : ℕ → Bool} → k < t .sizes .stigmergy → Passed t (t .sizes .agents) x qry k took S S′ →
       Allowed t S S′ 2 x k (howMany took (t .sizes .agents))
-
-abbrev pub done : ℕ → List ℕ → Outcome
-done taken s = record { check = passes; taken = taken; state = s }
 
 -- numbers of a width, as slices hold them
 abbrev pub Bytes : List ℕ → Type 0
