@@ -8,3 +8,4 @@ pub mod Marking
 pub mod Naming
 pub mod Spreading
 pub mod Halving
+pub mod Examples

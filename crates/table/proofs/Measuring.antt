@@ -2,7 +2,7 @@
 -- Assumes nothing.
 use Prim.Native.Nat.{ℕ, _+_, _*_, _≤_, _<_}
 use mathlib.Core.Bool.{Bool, true, false, not}
-use mathlib.Core.Path.{_≡_, refl, sym, ap, _∙_}
+use mathlib.Core.Path.{_≡_, _∙_}
 use mathlib.Core.List.{List, [], _∷_}
 use native.Mathlib.Omega.{arith}
 use lib.Dec.{ltb, eqb}
@@ -10,7 +10,6 @@ use lib.ListN.{length}
 use borrow.Author.Tests.{eqb-true, lt-ltb, le-ltb, eq-eqb, ne-eqb, not-false}
 use Rattle.basis.specs.Bytes.{u16At}
 use Rattle.table.specs.declared.Sizes.{Sizes}
-use Rattle.table.specs.declared.Measured.{Measured}
 use Rattle.table.specs.declared.Measured.the-variants.{Fine, Refused}
 use Rattle.table.specs.Checks.{passes, refuseIf, firstOf}
 use Rattle.table.specs.Tables.{sizesOf, withinLimits, tableOf}

@@ -16,7 +16,9 @@ use super::nodes::look_at;
 
 // The lowest bad node, if nothing is marked before.
 fn first_bad(sizes: Sizes, kinds: &[u8], operands: &[u8], marks: &mut [u32]) -> usize
-    requires { ⌜ Shaped (table sizes (now kinds) (now operands)) × (sizes .nodes ≤ length (now marks)) × Shows (now marks) (sizes .nodes) (λ (m : ℕ). false) ⌝ }
+    requires { ⌜ Shaped (table sizes (now kinds) (now operands))
+        × (sizes .nodes ≤ length (now marks))
+        × Shows (now marks) (sizes .nodes) (λ (m : ℕ). false) ⌝ }
     ensures { λ r. ⌜ r ≡ lowest (badNode (table sizes (now (kinds .entry)) (now (operands .entry)))) (sizes .nodes) ⌝ }
 {
     let n = sizes.nodes;

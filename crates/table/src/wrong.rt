@@ -50,8 +50,11 @@ fn mark_starts(sizes: Sizes, kinds: &[u8], links: bool, marks: &mut [u32])
 
 // Marks what is reached from the nodes that are marked.
 fn spread(sizes: Sizes, kinds: &[u8], operands: &[u8], marks: &mut [u32])
-    requires { ⌜ Shaped (table sizes (now kinds) (now operands)) × (sizes .nodes ≤ length (now marks)) × ((k : ℕ) → k < sizes .nodes → fitting (table sizes (now kinds) (now operands)) k ≡ true) ⌝ }
-    ensures { λ _. ⌜ ((start : ℕ → Bool) → Shows (now (marks .entry)) (sizes .nodes) start → Shows (now (marks .exit)) (sizes .nodes) (reachedFrom (table sizes (now (kinds .entry)) (now (operands .entry))) start)) ⌝ }
+    requires { ⌜ Shaped (table sizes (now kinds) (now operands))
+        × (sizes .nodes ≤ length (now marks))
+        × ((k : ℕ) → k < sizes .nodes → fitting (table sizes (now kinds) (now operands)) k ≡ true) ⌝ }
+    ensures { λ _. ⌜ ((start : ℕ → Bool) → Shows (now (marks .entry)) (sizes .nodes) start
+        → Shows (now (marks .exit)) (sizes .nodes) (reachedFrom (table sizes (now (kinds .entry)) (now (operands .entry))) start)) ⌝ }
 {
     let mut i = sizes.nodes;
     while 0 < i {
@@ -75,7 +78,10 @@ fn wrong_here(links: bool, kind: u8, party: usize, reached: bool) -> bool
 
 // The lowest node that is wrong by what reaches it, if the marks show what is reached.
 fn first_wrong(sizes: Sizes, kinds: &[u8], operands: &[u8], links: bool, marks: &[u32]) -> usize
-    requires { ⌜ Shaped (table sizes (now kinds) (now operands)) × (sizes .nodes ≤ length (now marks)) × Shows (now marks) (sizes .nodes) (reachedFrom (table sizes (now kinds) (now operands)) (startOf (table sizes (now kinds) (now operands)) links)) ⌝ }
+    requires { ⌜ Shaped (table sizes (now kinds) (now operands))
+        × (sizes .nodes ≤ length (now marks))
+        × Shows (now marks) (sizes .nodes)
+        (reachedFrom (table sizes (now kinds) (now operands)) (startOf (table sizes (now kinds) (now operands)) links)) ⌝ }
     ensures { λ r. ⌜ r ≡ lowest (wrongFrom (table sizes (now (kinds .entry)) (now (operands .entry))) links) (sizes .nodes) ⌝ }
 {
     let mut i = 0;
@@ -91,7 +97,9 @@ fn first_wrong(sizes: Sizes, kinds: &[u8], operands: &[u8], links: bool, marks: 
 
 // The same, with the marks made.
 fn wrong_from(sizes: Sizes, kinds: &[u8], operands: &[u8], links: bool, marks: &mut [u32]) -> usize
-    requires { ⌜ Shaped (table sizes (now kinds) (now operands)) × (sizes .nodes ≤ length (now marks)) × ((k : ℕ) → k < sizes .nodes → fitting (table sizes (now kinds) (now operands)) k ≡ true) ⌝ }
+    requires { ⌜ Shaped (table sizes (now kinds) (now operands))
+        × (sizes .nodes ≤ length (now marks))
+        × ((k : ℕ) → k < sizes .nodes → fitting (table sizes (now kinds) (now operands)) k ≡ true) ⌝ }
     ensures { λ r. ⌜ r ≡ lowest (wrongFrom (table sizes (now (kinds .entry)) (now (operands .entry))) links) (sizes .nodes) ⌝ }
 {
     mark_starts(sizes, kinds, links, marks);
@@ -108,7 +116,9 @@ fn lesser(a: usize, b: usize) -> usize
 // The lowest key node with a wrong party, or with an environment key that a link reaches, and the number of nodes where there is none.
 // No node of the table is bad.
 pub fn lowest_wrong(sizes: Sizes, kinds: &[u8], operands: &[u8], scratch: &mut [u32]) -> usize
-    requires { ⌜ Shaped (table sizes (now kinds) (now operands)) × (sizes .nodes ≤ length (now scratch)) × ((k : ℕ) → k < sizes .nodes → badNode (table sizes (now kinds) (now operands)) k ≡ false) ⌝ }
+    requires { ⌜ Shaped (table sizes (now kinds) (now operands))
+        × (sizes .nodes ≤ length (now scratch))
+        × ((k : ℕ) → k < sizes .nodes → badNode (table sizes (now kinds) (now operands)) k ≡ false) ⌝ }
     ensures { λ r. ⌜ r ≡ lowest (wrongKey (table sizes (now (kinds .entry)) (now (operands .entry)))) (sizes .nodes) ⌝ }
 {
     let a = wrong_from(sizes, kinds, operands, false, scratch);

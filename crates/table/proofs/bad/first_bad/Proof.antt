@@ -2,18 +2,16 @@
 -- Assumes nothing.
 use Prim.Native.Nat.{ℕ, _+_, _≤_, _<_, _-_}
 use native.Mathlib.Omega.{arith}
-use mathlib.Core.Path.{_≡_, refl, sym, _∙_}
+use mathlib.Core.Path.{_≡_, refl, sym, _∙_, subst}
 use mathlib.Core.Bool.{true, false, _&&_}
-use mathlib.Core.Path.{subst}
 use lib.Dec.{ltb}
 use lib.ListN.{length}
 use borrow.Author.Needs.{needs}
 use borrow.Author.Count.{below-more}
 use borrow.Author.Tests.{not-true, not-false}
 use Rattle.basis.proofs.Numbers.{lowest-at, lowest-none}
-use Rattle.table.specs.Tables.{Table, pAt, qAt}
+use Rattle.table.specs.Tables.{Table, pAt, qAt, table}
 use Rattle.table.specs.Marks.{Shows, Marks}
-use Rattle.table.specs.Tables.{table}
 use Rattle.table.specs.Nodes.{fitting, leftNode, rightNode, named, badNode}
 use Rattle.table.proofs.Marking.{marks-length, marks-found, marks-inside}
 use Rattle.table.proofs.Naming.{named-none, bad-unfit, bad-is, shows-more}
@@ -31,25 +29,32 @@ abbrev μ-loop : tie.MeasureT-loop
 abbrev here : tie.At-loop Inv-loop μ-loop → Table
 here c = let a = c .before .before .before .before .before .args in table (a .sizes) (a .kinds .now) (a .operands .now)
 
+abbrev head : tie.After-mark-both Inv-loop μ-loop → tie.At-loop Inv-loop μ-loop
+head c = c .before .before .before .before .before .before .before .before
+
 -- the marks of a turn tell whether its node is bad, and show what it names
 turn : (c : tie.After-mark-both Inv-loop μ-loop)
-    → (c .mark-both .result ≡ badNode (here (c .before .before .before .before .before .before .before .before)) (c .before .before .before .before .before .before .before .before .loop .i))
-    × Shows (c .mark-both .last .0) (here (c .before .before .before .before .before .before .before .before) .sizes .nodes) (named (here (c .before .before .before .before .before .before .before .before)) (c .before .before .before .before .before .before .before .before .loop .i + 1))
-    × (length (c .mark-both .last .0) ≡ length (c .before .before .before .before .before .before .before .before .loop .marks))
+    → (c .mark-both .result ≡ badNode (here (head c)) (head c .loop .i))
+    × Shows (c .mark-both .last .0) (here (head c) .sizes .nodes) (named (here (head c)) (head c .loop .i + 1))
+    × (length (c .mark-both .last .0) ≡ length (head c .loop .marks))
 turn c =
-    let l = c .before .before .before .before .before .before .before .before .loop in
+    let l = head c .loop in
     let i = l .i in
-    let t = here (c .before .before .before .before .before .before .before .before) in
+    let t = here (head c) in
     let k = c .before .before .before .before .before .before .look-at in
-    let f = c .before .before .before .before .before .before .before .before .before .first-root in
+    let f = head c .before .first-root in
     let after = c .mark-both .last .0 in
     let r = c .mark-both .result in
     let good : fitting t i ≡ true = sym (k .ensures .fitting) ∙ not-false (k .result .fitting) (c .before .before .before .before .if1 .left) in
-    let m = subst (λ (x : ℕ). Marks (l .marks) after (ltb i x && leftNode t i) (pAt t i) (ltb i x && rightNode t i) (qAt t i) r) (f .ensures)
+    let m =
+    subst (λ (x : ℕ). Marks (l .marks) after (ltb i x && leftNode t i) (pAt t i) (ltb i x && rightNode t i) (qAt t i) r) (f .ensures)
     (marks-found t (ltb i (f .result)) (l .marks) (k .ensures) (c .mark-both .ensures)) in
     let long : t .sizes .nodes ≤ length (l .marks) = omega arith in
-    let small : i < t .sizes .nodes = omega arith in
-    (bad-is t (l .marks) after i r (l .inv .2) long small good m, shows-more t (l .marks) after i r (l .inv .2) long small good m, marks-length m)
+    let small : i < t .sizes .nodes = omega arith in (
+      bad-is t (l .marks) after i r (l .inv .2) long small good m,
+      shows-more t (l .marks) after i r (l .inv .2) long small good m,
+      marks-length m,
+    )
 
 first-root-requires : tie.Need-first-root-requires Inv-loop μ-loop
 first-root-requires c κs = search needs
@@ -75,23 +80,27 @@ returns c =
     let t = here (c .before .before .before .before) in
     let h : l .i < t .sizes .nodes = omega arith in
     let k = c .before .before .look-at in
-    sym (lowest-at (badNode t) (t .sizes .nodes) (l .i) h (bad-unfit t (l .i) (sym (k .ensures .fitting) ∙ not-true (k .result .fitting) (c .if1 .taken))) (l .inv .3))
+    let unfit = sym (k .ensures .fitting) ∙ not-true (k .result .fitting) (c .if1 .taken) in
+    sym (lowest-at (badNode t) (t .sizes .nodes) (l .i) h (bad-unfit t (l .i) unfit) (l .inv .3))
 
 mark-both-requires : tie.Need-mark-both-requires Inv-loop μ-loop
 mark-both-requires c κs =
-    let l = c .before .before .before .before .before .before .before .loop in
+    let a = c .before .before .before .before .before .before .before in
+    let i = a .loop .i in
     let k = c .before .before .before .before .before .look-at in
-    marks-inside (here (c .before .before .before .before .before .before .before)) (ltb (l .i) (c .before .before .before .before .before .before .before .before .first-root .result)) (l .marks) (k .ensures) (not-false (k .result .fitting) (c .before .before .before .if1 .left)) (omega arith) (omega arith)
+    let good = not-false (k .result .fitting) (c .before .before .before .if1 .left) in
+    marks-inside (here a) (ltb i (a .before .first-root .result)) (a .loop .marks) (k .ensures) good (omega arith) (omega arith)
 
 same-length-2 : tie.Need-same-length-2 Inv-loop μ-loop
 same-length-2 c = search needs
 
 returns-2 : tie.Need-returns-2 Inv-loop μ-loop
 returns-2 c =
-    let l = c .before .before .before .before .before .before .before .before .before .before .before .loop in
-    let t = here (c .before .before .before .before .before .before .before .before .before .before .before) in
+    let m = c .before .before .before in
+    let l = head m .loop in
+    let t = here (head m) in
     let h : l .i < t .sizes .nodes = omega arith in
-    sym (lowest-at (badNode t) (t .sizes .nodes) (l .i) h (sym (turn (c .before .before .before) .0) ∙ c .if2 .taken) (l .inv .3))
+    sym (lowest-at (badNode t) (t .sizes .nodes) (l .i) h (sym (turn m .0) ∙ c .if2 .taken) (l .inv .3))
 
 add-i : tie.Need-add-i Inv-loop μ-loop
 add-i c = search needs
@@ -101,12 +110,13 @@ loop-less c = search needs
 
 loop-again : tie.Need-loop-again Inv-loop μ-loop
 loop-again c =
-    let l = c .before .before .before .before .before .before .before .before .before .before .before .loop in
-    let w = turn (c .before .before .before) in (
+    let m = c .before .before .before in
+    let l = head m .loop in
+    let w = turn m in (
       omega arith,
       w .2 ∙ l .inv .1,
       w .1,
-      below-more (λ (k : ℕ). badNode (here (c .before .before .before .before .before .before .before .before .before .before .before)) k ≡ false) (l .i) (l .inv .3) (sym (w .0) ∙ c .if2 .left),
+      below-more (λ (k : ℕ). badNode (here (head m)) k ≡ false) (l .i) (l .inv .3) (sym (w .0) ∙ c .if2 .left),
     )
 
 same-length-3 : tie.Need-same-length-3 Inv-loop μ-loop

@@ -2,14 +2,12 @@
 -- Assumes nothing.
 use Prim.Native.Nat.{ℕ, _≤_, _<_, _-_}
 use native.Mathlib.Omega.{arith}
-use mathlib.Core.Path.{_≡_, refl, sym, _∙_}
-use mathlib.Core.Bool.{true, false}
-use lib.ListN.{length}
+use mathlib.Core.Path.{_≡_, sym, _∙_}
+use mathlib.Core.Bool.{Bool, false}
 use borrow.Author.Needs.{needs}
 use borrow.Author.Count.{below-more}
 use Rattle.basis.proofs.Numbers.{lowest-at, lowest-none}
-use Rattle.table.specs.Tables.{table}
-use Rattle.table.specs.Tables.{Table}
+use Rattle.table.specs.Tables.{table, Table}
 use Rattle.table.specs.Halves.{wrongFrom}
 use Rattle.table.proofs.Halving.{wrong-is}
 use Rattle.table.proofs.wrong.first_wrong.Statement.{statement}
@@ -24,12 +22,19 @@ abbrev μ-loop : tie.MeasureT-loop
 abbrev here : tie.At-loop Inv-loop μ-loop → Table
 here c = let a = c .before .before .before .before .args in table (a .sizes) (a .kinds .now) (a .operands .now)
 
+abbrev wrong : tie.At-loop Inv-loop μ-loop → ℕ → Bool
+wrong c n = wrongFrom (here c) (c .before .before .before .before .args .links) n
+
+abbrev head : tie.After-wrong-here Inv-loop μ-loop → tie.At-loop Inv-loop μ-loop
+head c = c .before .before .before .before .before .before
+
 -- what the marks tell of the turn's node
-wrong-told : (c : tie.After-wrong-here Inv-loop μ-loop) → c .wrong-here .result ≡ wrongFrom (here (c .before .before .before .before .before .before)) (c .before .before .before .before .before .before .before .before .before .before .args .links) (c .before .before .before .before .before .before .loop .i)
-wrong-told c =
-    let a = c .before .before .before .before .before .before .before .before .before .before .args in
-    wrong-is (here (c .before .before .before .before .before .before)) (a .links) (a .marks .now) (c .before .before .before .before .before .before .loop .i) (c .before .before .before .q-at .result) (c .wrong-here .result)
-    (c .before .before .before .before .before .before .before .before .before .before .pre .2) (omega arith) (c .before .before .before .q-at .ensures .is) (c .wrong-here .ensures)
+told : (c : tie.After-wrong-here Inv-loop μ-loop) → c .wrong-here .result ≡ wrong (head c) (head c .loop .i)
+told c =
+    let s = head c .before .before .before .before in
+    let q = c .before .before .before .q-at in
+    wrong-is (here (head c)) (s .args .links) (s .args .marks .now) (head c .loop .i) (q .result) (c .wrong-here .result)
+    (s .pre .2) (omega arith) (q .ensures .is) (c .wrong-here .ensures)
 
 loop-holds : tie.Need-loop-holds Inv-loop μ-loop
 loop-holds c = (omega arith, λ k h. absurd (omega arith))
@@ -51,9 +56,10 @@ wrong-here-requires c κs = search needs
 
 returns : tie.Need-returns Inv-loop μ-loop
 returns c =
-    let l = c .before .before .before .before .before .before .before .loop in
-    let h : l .i < here (c .before .before .before .before .before .before .before) .sizes .nodes = omega arith in
-    sym (lowest-at (wrongFrom (here (c .before .before .before .before .before .before .before)) (c .before .before .before .before .before .before .before .before .before .before .before .args .links)) (here (c .before .before .before .before .before .before .before) .sizes .nodes) (l .i) h (sym (wrong-told (c .before)) ∙ c .if2 .taken) (l .inv .1))
+    let a = head (c .before) in
+    let i = a .loop .i in
+    let h : i < here a .sizes .nodes = omega arith in
+    sym (lowest-at (wrong a) (here a .sizes .nodes) i h (sym (told (c .before)) ∙ c .if2 .taken) (a .loop .inv .1))
 
 add-i : tie.Need-add-i Inv-loop μ-loop
 add-i c = search needs
@@ -63,13 +69,13 @@ loop-less c = search needs
 
 loop-again : tie.Need-loop-again Inv-loop μ-loop
 loop-again c =
-    let l = c .before .before .before .before .before .before .before .loop in
-    (omega arith, below-more (λ (k : ℕ). wrongFrom (here (c .before .before .before .before .before .before .before)) (c .before .before .before .before .before .before .before .before .before .before .before .args .links) k ≡ false) (l .i) (l .inv .1) (sym (wrong-told (c .before)) ∙ c .if2 .left))
+    let a = head (c .before) in
+    (omega arith, below-more (λ (k : ℕ). wrong a k ≡ false) (a .loop .i) (a .loop .inv .1) (sym (told (c .before)) ∙ c .if2 .left))
 
 returns-2 : tie.Need-returns-2 Inv-loop μ-loop
 returns-2 c =
-    let t = here (c .before .before) in
-    sym (lowest-none (wrongFrom t (c .before .before .before .before .before .before .args .links)) (t .sizes .nodes) (λ k h. c .before .before .loop .inv .1 k (omega arith)))
+    let a = c .before .before in
+    sym (lowest-none (wrong a) (here a .sizes .nodes) (λ k h. a .loop .inv .1 k (omega arith)))
 
 pub first-wrong-spec : {M : Type 1} → statement M
 first-wrong-spec =

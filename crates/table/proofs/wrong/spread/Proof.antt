@@ -3,10 +3,10 @@
 use Prim.Native.Nat.{ℕ, _≤_, _<_, _+_, _-_}
 use native.Mathlib.Omega.{arith}
 use mathlib.Core.Path.{_≡_, refl, subst, _∙_}
-use mathlib.Core.Bool.{Bool, true, false}
+use mathlib.Core.Bool.{Bool, true}
 use lib.ListN.{length}
 use borrow.Author.Needs.{needs}
-use Rattle.table.specs.Tables.{table}
+use Rattle.table.specs.Tables.{Table, table}
 use Rattle.table.specs.Nodes.{fitting}
 use Rattle.table.specs.Marks.{Shows, isMarked}
 use Rattle.table.proofs.Marking.{marks-length, marks-found, marks-inside}
@@ -23,10 +23,13 @@ Inv-loop sizes kinds operands marks₀ i₀ marks i =
 abbrev μ-loop : tie.MeasureT-loop
 μ-loop sizes kinds operands marks₀ i₀ marks i = i
 
+abbrev here : tie.Start Inv-loop μ-loop → Table
+here c = table (c .args .sizes) (c .args .kinds .now) (c .args .operands .now)
+
 loop-holds : tie.Need-loop-holds Inv-loop μ-loop
 loop-holds c =
-    let a = c .before .before .before .args in
-    (omega arith, refl, λ good start h. upper-first (table (a .sizes) (a .kinds .now) (a .operands .now)) good start (a .marks .now) h)
+    let s = c .before .before .before in
+    (omega arith, refl, λ good start h. upper-first (here s) good start (s .args .marks .now) h)
 
 sub-i : tie.Need-sub-i Inv-loop μ-loop
 sub-i c = search needs
@@ -42,32 +45,32 @@ slice-read-on c = search needs
 
 mark-both-requires : tie.Need-mark-both-requires Inv-loop μ-loop
 mark-both-requires c κs =
-    let a = c .before .before .before .before .before .before .before .before .before .before .args in
-    let t = table (a .sizes) (a .kinds .now) (a .operands .now) in
+    let s = c .before .before .before .before .before .before .before .before .before .before in
+    let t = here s in
     let i = c .before .before .before .before .before .before .loop .i in
     let marks = c .before .before .before .before .before .before .loop .marks in
     let h : i - 1 < t .sizes .nodes = omega arith in
     let f = c .before .before .before .before .look-at .ensures in
-    marks-inside t (isMarked marks (i - 1)) marks f (f .fitting ∙ c .before .before .before .before .before .before .before .before .before .before .pre .2 (i - 1) h) h (omega arith)
+    marks-inside t (isMarked marks (i - 1)) marks f (f .fitting ∙ s .pre .2 (i - 1) h) h (omega arith)
 
 loop-less : tie.Need-loop-less Inv-loop μ-loop
 loop-less c = search needs
 
 loop-again : tie.Need-loop-again Inv-loop μ-loop
 loop-again c =
-    let a = c .before .before .before .before .before .before .before .before .before .before .before .before .before .args in
-    let t = table (a .sizes) (a .kinds .now) (a .operands .now) in
+    let t = here (c .before .before .before .before .before .before .before .before .before .before .before .before .before) in
     let l = c .before .before .before .before .before .before .before .before .before .loop in
     let i = l .i in
     let marks = l .marks in
     let h : i - 1 < t .sizes .nodes = omega arith in
     let g : t .sizes .nodes ≤ length marks = omega arith in
-    let m = marks-found t (isMarked marks (i - 1)) marks (c .before .before .before .before .before .before .before .look-at .ensures) (c .before .before .mark-both .ensures) in
+    let b = c .before .before .mark-both in
+    let m = marks-found t (isMarked marks (i - 1)) marks (c .before .before .before .before .before .before .before .look-at .ensures) (b .ensures) in
     let e : i ≡ i - 1 + 1 = omega arith in (
       omega arith,
       marks-length m ∙ l .inv .1,
       λ good start u.
-          upper-shown t good start marks (c .before .before .mark-both .last .0) (i - 1) (c .before .before .mark-both .result)
+          upper-shown t good start marks (b .last .0) (i - 1) (b .result)
           (subst (λ (x : ℕ). Shows marks (t .sizes .nodes) (upper t good start x)) e (l .inv .2 good start u)) g h m,
     )
 
@@ -76,13 +79,13 @@ same-length c = search needs
 
 returns : tie.Need-returns Inv-loop μ-loop
 returns c =
-    let a = c .before .before .before .before .before .args in
-    let t = table (a .sizes) (a .kinds .now) (a .operands .now) in
-    let good = c .before .before .before .before .before .pre .2 in
+    let s = c .before .before .before .before .before in
+    let t = here s in
     let l = c .before .loop in
     let e : l .i ≡ 0 = omega arith in
     λ start u.
-    upper-last t good start (l .marks) (subst (λ (x : ℕ). Shows (l .marks) (t .sizes .nodes) (upper t good start x)) e (l .inv .2 good start u))
+    upper-last t (s .pre .2) start (l .marks)
+    (subst (λ (x : ℕ). Shows (l .marks) (t .sizes .nodes) (upper t (s .pre .2) start x)) e (l .inv .2 (s .pre .2) start u))
 
 pub spread-spec : {M : Type 1} → statement M
 spread-spec =
