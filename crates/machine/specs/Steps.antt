@@ -1,8 +1,8 @@
 -- Load and step: for every input, what is answered and the state after.
 use Prim.Native.Nat.{ℕ, zero, suc}
-use mathlib.Core.Bool.{Bool, true, false, not, _&&_, _||_}
+use mathlib.Core.Bool.{Bool, not, _&&_, _||_}
 use mathlib.Core.List.{List, [], _∷_, _++_}
-use lib.Dec.{eqb, ltb}
+use lib.Dec.{ltb}
 use lib.ListN.{length}
 use Rattle.basis.specs.KeySets.{has}
 use Rattle.table.specs.Checks.{Check, passes, refuses, refuseIf, firstOf}

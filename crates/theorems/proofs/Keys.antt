@@ -12,11 +12,11 @@ use Rattle.basis.proofs.Below.{below-at, below-same}
 use Rattle.basis.proofs.Tests.{and-left, and-right, same-or-other}
 use Rattle.table.specs.declared.Fields.{Fields}
 use Rattle.table.specs.Tables.{Table, kindAt, pAt, qAt, constantAt, firstRoot}
-use Rattle.table.specs.Nodes.{guardRows, expressionRows, lookup, fieldsOf, fieldsHere, fieldsAt, isNode, isGuard, isExpression, leftNode, rightNode}
+use Rattle.table.specs.Nodes.{guardRows, expressionRows, lookup, fieldsOf, fieldsAt, isNode, isGuard, isExpression, leftNode, rightNode}
 use Rattle.table.specs.Sound.{Sound}
 use Rattle.table.proofs.Operands.{left-lower, right-lower}
 use Rattle.table.proofs.Reaches.{and-when}
-use Rattle.table.proofs.Promises.{all-fit, guard-inner, expression-inner, not-operands, and-operands, or-operands, comparison-operands, arithmetic-operands}
+use Rattle.table.proofs.Promises.{inner-fields, all-fit, guard-inner, expression-inner, not-operands, and-operands, or-operands, comparison-operands, arithmetic-operands}
 use Rattle.state.specs.Evaluation.{readsStep, reads}
 use Rattle.labs.specs.Expressions.{Expr, value, attribute, stigmergy, environment, operation, Guard, truly, comparison, negation, conjunction, disjunction}
 use Rattle.labs.specs.Expressions.{K⟦_⟧, K⟦_⟧ᵇ, noExpr, exprStep, exprOf, guardStep, guardOf}
@@ -39,8 +39,7 @@ module _ (t : Table) (sound : Sound t) where
   nothing k = false
 
   fields-of : (n k : ℕ) → n < firstRoot t → kindAt t n ≡ k → fieldsAt t n ≡ fieldsOf k
-  unfolding fieldsHere
-  fields-of n k h e = rw (fieldsHere, lt-ltb n (firstRoot t) h, e)
+  fields-of n k h e = inner-fields t n h ∙ ap fieldsOf e
 
   -- what node n of kind k reads
   reads-kind : (n k x : ℕ) → n < firstRoot t → kindAt t n ≡ k

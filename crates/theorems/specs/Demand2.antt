@@ -9,7 +9,7 @@ use lib.ListN.{length, getD, getElem?}
 use Rattle.basis.specs.Numbers.{howMany}
 use Rattle.table.specs.Checks.{passes, firstOf}
 use Rattle.table.specs.Tables.{Table, tableOf}
-use Rattle.term.specs.Terms.{Term, words}
+use Rattle.term.specs.Terms.{words}
 use Rattle.term.specs.Processes.{Derivation, derivations, process, allFew}
 use Rattle.term.specs.Acceptance.{stateWords}
 use Rattle.state.specs.Layout.{residualWords}
