@@ -45,6 +45,14 @@ struct Seen {
     longest: usize,
 }
 
+impl Seen {
+    /// There were this many terms, ticks and guards, and a list this long.
+    fn more_than(self, terms: usize, ticks: usize, guards: usize, longest: usize) {
+        assert!(self.terms > terms && self.ticks > ticks);
+        assert!(self.guards > guards && self.longest > longest);
+    }
+}
+
 /// Compares selection and list on a term, unless its list is long.
 fn compare(term: &Term, fleet: &Fleet, seen: &mut Seen) {
     if any_over(term, fleet) || count_term(term, fleet).total() > 400 {
@@ -81,14 +89,7 @@ fn selection_agrees_with_the_list() {
             compare(&agent.residual, &fleet, &mut seen);
         }
     }
-    let Seen {
-        terms,
-        ticks,
-        guards,
-        longest,
-    } = seen;
-    assert!(terms > 1_000 && ticks > 500, "{terms} {ticks}");
-    assert!(guards > 500 && longest > 50, "{guards} {longest}");
+    seen.more_than(1_000, 500, 500, 50);
 }
 
 /// A process of mostly guarded ticks, which calls lower definitions.
@@ -139,14 +140,7 @@ fn selection_agrees_where_ticks_abound() {
         compare(&Term::parallel(Term::Tick, top.clone()), &fleet, &mut seen);
         compare(&Term::parallel(top.clone(), top), &fleet, &mut seen);
     }
-    let Seen {
-        terms,
-        ticks,
-        guards,
-        longest,
-    } = seen;
-    assert!(terms > 1_000 && ticks > 20_000, "{terms} {ticks}");
-    assert!(guards > 20_000 && longest > 300, "{guards} {longest}");
+    seen.more_than(1_000, 20_000, 20_000, 300);
 }
 
 #[test]
