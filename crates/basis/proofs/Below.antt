@@ -61,3 +61,16 @@ below-ext {A} step other none (suc n) f k = by (eqb k n) (below-ext step other n
         → _≡_ {A = A} (elim t [ true ↦ step (below step none n) n | false ↦ below step none n k ]) (elim t [ true ↦ other (below other none n) n | false ↦ below other none n k ])
     by true r = f n (omega arith) ∙ ap (λ (lower : ℕ → A). other lower n) (fun-ext r)
     by false r = r k
+
+-- what two recursions make of a number is related, where their steps keep it so
+module _ {A B : Type 0} (R : A → B → Type 0) where
+  pub below-both : {f : (ℕ → A) → ℕ → A} {g : (ℕ → B) → ℕ → B} {a : A} {b : B} → R a b
+      → ((l : ℕ → A) (m : ℕ → B) → ((k : ℕ) → R (l k) (m k)) → (k : ℕ) → R (f l k) (g m k)) → (n k : ℕ) → R (below f a n k) (below g b n k)
+  unfolding below
+  below-both o h zero k = o
+  below-both {f} {g} {a} {b} o h (suc n) k = by (eqb k n) (below-both o h n)
+    where
+      by : (t : Bool) → ((j : ℕ) → R (below f a n j) (below g b n j))
+          → R (elim t [ true ↦ f (below f a n) n | false ↦ below f a n k ]) (elim t [ true ↦ g (below g b n) n | false ↦ below g b n k ])
+      by true r = h (below f a n) (below g b n) r n
+      by false r = r k

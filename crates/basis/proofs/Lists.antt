@@ -4,7 +4,7 @@ use Prim.Native.Nat.{ℕ, zero, suc, _+_, _-_, _<_, _≤_}
 use mathlib.Core.Bool.{cond}
 use mathlib.Core.Logic.{⊎-elim}
 use mathlib.Core.Option.{none, some}
-use mathlib.Core.Path.{_≡_, refl, _∙_}
+use mathlib.Core.Path.{_≡_, refl, sym, _∙_}
 use mathlib.Core.List.{List, [], _∷_, _++_}
 use native.Mathlib.Nat.{suc-sub-suc, sub-zero, le-of-suc-le-suc, not-suc-le-zero}
 use native.Mathlib.Omega.{arith}
@@ -12,7 +12,7 @@ use lib.Dec.{eqb}
 use lib.ListN.{length, getD, getElem?, set, take, drop, length-drop}
 use lib.Seq.{getD-set-same, getD-set-other, getD-take, getD-drop, take-all}
 use borrow.Author.Tests.{eq-eqb, ne-eqb}
-use Rattle.basis.proofs.Tests.{same-or-other}
+use Rattle.basis.proofs.Tests.{same-or-other, lt-or-le}
 
 module _ {A : Type 0} where
   -- every place of a list in which one place was set
@@ -48,3 +48,9 @@ module _ {A : Type 0} where
   nth-in [] n d h = absurd (not-suc-le-zero h)
   nth-in (x ∷ xs) zero d h = refl
   nth-in (x ∷ xs) (suc n) d h = nth-in xs n d (le-of-suc-le-suc h)
+
+  -- what stands at a place is there, and is read there
+  pub nth-is : (xs : List A) (n : ℕ) (o a : A) → getElem? xs n ≡ some a → (n < length xs) × (getD xs n o ≡ a)
+  nth-is xs n o a e =
+      ⊎-elim (λ (l : n < length xs). let f : some (getD xs n o) ≡ some a = sym (nth-in xs n o l) ∙ e in (l, cc))
+      (λ (l : length xs ≤ n). let f : none ≡ some a = sym (nth-past xs n l) ∙ e in let z : _≡_ {A = ℕ} 0 1 = cc in absurd (omega arith)) (lt-or-le n (length xs))

@@ -6,7 +6,7 @@ use mathlib.Core.Path.{_≡_, refl, sym}
 use mathlib.Core.Logic.{_⊎_, inl, inr}
 use native.Mathlib.Omega.{arith}
 use lib.Dec.{ltb, eqb}
-use borrow.Author.Tests.{ltb-true, ltb-false, eqb-true, eqb-false}
+use borrow.Author.Tests.{ltb-true, ltb-false, eqb-true, eqb-false, eq-eqb}
 
 -- a test's two values, which differ
 pub either : (a : Bool) → (a ≡ true) ⊎ (a ≡ false)
@@ -107,3 +107,11 @@ below-or-last k n h = by (ltb k n) refl
     by : (t : Bool) → ltb k n ≡ t → (k < n) ⊎ (k ≡ n)
     by true e = inl (ltb-true k n e)
     by false e = let l = ltb-false k n e in inr (omega arith)
+
+-- one test chooses on both sides of a relation
+pub cond-both : {A B : Type 0} (R : A → B → Type 0) (c : Bool) {x y : A} {u v : B} → R x u → R y v → R (cond c x y) (cond c u v)
+cond-both R true p q = p
+cond-both R false p q = q
+
+pub eqb-swap : (a b : ℕ) → eqb a b ≡ eqb b a
+eqb-swap a b = same-test (eqb a b) (eqb b a) (λ e. eq-eqb b a (sym (eqb-true a b e))) (λ e. eq-eqb a b (sym (eqb-true b a e)))

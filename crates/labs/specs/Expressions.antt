@@ -1,7 +1,7 @@
 -- Expressions and guards: Table 2's syntax, read off a table's nodes, and Tables 4 to 6.
 use Prim.Native.Nat.{ℕ}
 use mathlib.Core.Path.{_≡_}
-use mathlib.Core.Bool.{Bool, true, false, cond, _||_}
+use mathlib.Core.Bool.{true, false, cond}
 use mathlib.Core.Logic.{_⊎_}
 use mathlib.Core.Option.{Option, none, some}
 use lib.Dec.{ltb, eqb}

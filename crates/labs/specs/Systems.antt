@@ -10,7 +10,7 @@ use Rattle.term.specs.Terms.{Term}
 use Rattle.term.specs.Processes.{ticks, acts, Derivation, derivation}
 use Rattle.labs.specs.Agents.{⟨_⸴_⸴_⸴_⸴_⟩, Agent, Entry, Interface, Stigmergy, Keys, System, _⟦_≔_⟧, _∪｛_｝, _∖｛_｝, _∪_, Inserted}
 use Rattle.labs.specs.Expressions.{Expr, Knowledge, E⟦_⟧, K⟦_⟧, K⟦_⟧ᵇ, _⊨_, guardOf, φ}
-use Rattle.labs.specs.Processes.{Variable, attribute, stigmergy, environment, Action, assign, actionOf, Moves}
+use Rattle.labs.specs.Processes.{Variable, attribute, stigmergy, environment, assign, actionOf, Moves}
 
 infix 30 _▹_
 -- Zc = Zp = ∅

@@ -1,16 +1,16 @@
 -- Act: what agent x's choice needs in the state before, and what it writes.
 use Prim.Native.Nat.{ℕ, _+_, _-_}
 use mathlib.Core.Bool.{Bool, true, false, cond, not, _&&_, _||_}
-use mathlib.Core.List.{List, [], _∷_, _++_}
+use mathlib.Core.List.{List, [], _∷_}
 use lib.Dec.{eqb, leb, ltb}
-use lib.ListN.{length, getD, set, replicate}
+use lib.ListN.{length, getD, set}
 use Rattle.basis.specs.Numbers.{forEach}
 use Rattle.basis.specs.KeySets.{plusAll}
 use Rattle.value.specs.declared.Value.{Value}
 use Rattle.value.specs.declared.Value.the-variants.{Absent, Present}
 use Rattle.table.specs.Checks.{Check, refuseIf}
 use Rattle.table.specs.Tables.{Table, kindAt, pAt, qAt}
-use Rattle.term.specs.Terms.{Term, Idle, words}
+use Rattle.term.specs.Terms.{Idle, words}
 use Rattle.term.specs.Processes.{Label, ticks, acts, Derivation, derivation, derivations, process, allFew}
 use Rattle.state.specs.declared.Store.{Store}
 use Rattle.state.specs.declared.Store.the-variants.{Environment, Attributes, Entries}

@@ -3,3 +3,4 @@ pub mod Offers
 pub mod Steps
 pub mod Runs
 pub mod Answers
+pub mod Examples

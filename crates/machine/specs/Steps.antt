@@ -1,8 +1,8 @@
 -- Load and step: for every input, what is answered and the state after.
 use Prim.Native.Nat.{ℕ, zero, suc}
-use mathlib.Core.Bool.{Bool, true, false, not, _&&_, _||_}
+use mathlib.Core.Bool.{Bool, not, _&&_, _||_}
 use mathlib.Core.List.{List, [], _∷_, _++_}
-use lib.Dec.{eqb, ltb}
+use lib.Dec.{ltb}
 use lib.ListN.{length}
 use Rattle.basis.specs.KeySets.{has}
 use Rattle.table.specs.Checks.{Check, passes, refuses, refuseIf, firstOf}
@@ -19,10 +19,16 @@ pub record Outcome : Type 0 where
   pub taken : ℕ
   pub state : List ℕ
 
+abbrev pub done : ℕ → List ℕ → Outcome
+done taken s = record { check = passes; taken = taken; state = s }
+
+abbrev pub refused : ℕ → ℕ → List ℕ → Outcome
+refused number place s = record { check = refuses number place; taken = 0; state = s }
+
 -- a call that is refused leaves the state as it came, and takes nothing
 unfoldable pub outcome : Check → List ℕ → ℕ → List ℕ → Outcome
-outcome passes was taken state = record { check = passes; taken = taken; state = state }
-outcome (refuses number place) was taken state = record { check = refuses number place; taken = 0; state = was }
+outcome passes was taken state = done taken state
+outcome (refuses number place) was taken state = refused number place was
 
 -- the checks of a table, 1 to 8 (but 8 right after 3), given the lengths of state and scratch
 abbrev pub tableChecks : List ℕ → ℕ → ℕ → List Check
@@ -68,5 +74,5 @@ unfoldable pub stepOf : List ℕ → List ℕ → ℕ → ℕ → ℕ → ℕ �
 stepOf bytes was scratchLength kind x number =
     elim (firstOf (stateChecks bytes was scratchLength)) [
       | passes ↦ stepIn (tableOf bytes) was kind x number
-      | refuses n place ↦ outcome (refuses n place) was 0 was
+      | refuses n place ↦ refused n place was
     ]

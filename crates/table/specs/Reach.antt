@@ -1,6 +1,6 @@
 -- Refusal 5: wrong party, or an environment key in a link.
 use Prim.Native.Nat.{ℕ}
-use mathlib.Core.Bool.{Bool, true, false, not, _&&_, _||_}
+use mathlib.Core.Bool.{Bool, false, not, _&&_, _||_}
 use lib.Dec.{ltb, leb, eqb}
 use Rattle.basis.specs.Numbers.{some}
 use Rattle.basis.specs.Below.{below}

@@ -2,8 +2,8 @@
 use Prim.Native.Nat.{ℕ, _+_, _-_, _*_}
 use mathlib.Core.Bool.{Bool, _&&_}
 use mathlib.Core.List.{List}
-use lib.Dec.{leb, ltb}
-use lib.ListN.{length, getD, take, drop}
+use lib.Dec.{leb}
+use lib.ListN.{getD, take, drop}
 use Rattle.basis.specs.Bytes.{u16At, u32At}
 use Rattle.table.specs.declared.Sizes.{Sizes}
 

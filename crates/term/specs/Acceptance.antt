@@ -5,8 +5,8 @@ use mathlib.Core.List.{List, [], _∷_}
 use lib.Dec.{ltb, eqb}
 use lib.ListN.{length}
 use Rattle.basis.specs.Numbers.{lowest}
-use Rattle.table.specs.Checks.{Check, refuseIf, refuseAt, firstOf}
-use Rattle.table.specs.Tables.{Table, sizesOf, withinLimits, tableOf, kindAt}
+use Rattle.table.specs.Checks.{Check, refuseIf, refuseAt}
+use Rattle.table.specs.Tables.{Table, sizesOf, withinLimits, kindAt}
 use Rattle.table.specs.Nodes.{isProcess, badNode}
 use Rattle.table.specs.Reach.{wrongKey}
 use Rattle.term.specs.Processes.{nodeProcess, few}

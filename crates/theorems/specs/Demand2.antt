@@ -9,12 +9,12 @@ use lib.ListN.{length, getD, getElem?}
 use Rattle.basis.specs.Numbers.{howMany}
 use Rattle.table.specs.Checks.{passes, firstOf}
 use Rattle.table.specs.Tables.{Table, tableOf}
-use Rattle.term.specs.Terms.{Term, words}
+use Rattle.term.specs.Terms.{words}
 use Rattle.term.specs.Processes.{Derivation, derivations, process, allFew}
 use Rattle.term.specs.Acceptance.{stateWords}
 use Rattle.state.specs.Layout.{residualWords}
 use Rattle.state.specs.WellFormed.{wellFormed}
-use Rattle.machine.specs.Steps.{Outcome, stateChecks, stepOf}
+use Rattle.machine.specs.Steps.{done, stateChecks, loadOf, stepOf}
 use Rattle.labs.specs.Agents.{System}
 use Rattle.labs.specs.Processes.{Moves}
 use Rattle.labs.specs.Systems.{Acted, Passed, put, qry}
@@ -30,17 +30,17 @@ pub data Allowed (t : Table) (S S′ : System) : ℕ → ℕ → ℕ → ℕ →
   confirm : {x k : ℕ} {took : ℕ → Bool} → k < t .sizes .stigmergy → Passed t (t .sizes .agents) x qry k took S S′ →
       Allowed t S S′ 2 x k (howMany took (t .sizes .agents))
 
-abbrev pub done : ℕ → List ℕ → Outcome
-done taken s = record { check = passes; taken = taken; state = s }
-
 -- numbers of a width, as slices hold them
 abbrev pub Bytes : List ℕ → Type 0
 Bytes l = (i : ℕ) → getD l i 0 < 256
 
+abbrev pub Words : List ℕ → Type 0
+Words l = (i : ℕ) → getD l i 0 < 2 ^ 32
+
 -- 4,194 words of 32 bits that are well formed
 pub record State (t : Table) (s : List ℕ) : Type 0 where
   pub whole : length s ≡ stateWords
-  pub narrow : (i : ℕ) → getD s i 0 < 2 ^ 32
+  pub narrow : Words s
   pub formed : wellFormed t s ≡ true
 
 -- two systems with the same environment, clock and agents
@@ -56,6 +56,11 @@ pub record Ready (bytes s : List ℕ) (scratch : ℕ) : Type 0 where
   pub passed : firstOf (stateChecks bytes s scratch) ≡ passes
 
 pub record Demand-2 : Type 0 where
+  -- a step is done only of an accepted table and a well-formed state, and load leaves such a state
+  pub ready : (bytes s : List ℕ) (scratch kind x number : ℕ) → Bytes bytes → Words s →
+      stepOf bytes s scratch kind x number .check ≡ passes → Ready bytes s scratch
+  pub loads : (bytes lent : List ℕ) (scratch : ℕ) → Bytes bytes → loadOf bytes lent scratch .check ≡ passes →
+      Ready bytes (loadOf bytes lent scratch .state) scratch
   -- a step is done with these words exactly when they are a well-formed state, and the rules and limits allow the system that they stand for
   pub exactly : (bytes s s′ : List ℕ) (scratch kind x number taken : ℕ) → Ready bytes s scratch →
       (stepOf bytes s scratch kind x number ≡ done taken s′)

@@ -1,6 +1,6 @@
 -- Demand 3: one claim about every list of steps from load.
-use Prim.Native.Nat.{ℕ, suc, _+_, _-_, _≤_, _<_}
-use mathlib.Core.Bool.{Bool, true, cond}
+use Prim.Native.Nat.{ℕ, _+_, _-_, _≤_, _<_}
+use mathlib.Core.Bool.{true, cond}
 use mathlib.Core.Path.{_≡_}
 use mathlib.Core.List.{List, [], _∷_, _++_}
 use lib.Dec.{eqb}
@@ -8,7 +8,7 @@ use lib.ListN.{length, getD}
 use Rattle.basis.specs.KeySets.{has}
 use Rattle.agreement.specs.Machine.{afterSteps, Before, writesOf}
 use Rattle.table.specs.Checks.{Check, passes, refuses}
-use Rattle.table.specs.Tables.{Table, tableOf, kindAt, pAt}
+use Rattle.table.specs.Tables.{tableOf, kindAt, pAt}
 use Rattle.term.specs.Processes.{Label, ticks, acts}
 use Rattle.state.specs.declared.Store.the-variants.{Entries}
 use Rattle.state.specs.Layout.{wordOf, stampOf, zpOf}

@@ -1,9 +1,9 @@
 -- The rehearsed examples (a) to (j), over one table of bytes.
 use Prim.Native.Nat.{ℕ, _^_, _-_}
-use mathlib.Core.Bool.{Bool, true, false, cond}
+use mathlib.Core.Bool.{Bool, cond}
 use mathlib.Core.Path.{_≡_}
 use mathlib.Core.List.{List, [], _∷_, _++_, map}
-use lib.ListN.{length, getD, set}
+use lib.ListN.{length, set}
 use Rattle.value.specs.declared.Value.{Value}
 use Rattle.value.specs.declared.Value.the-variants.{Absent, Present}
 use Rattle.value.specs.Values.{operate}
@@ -11,29 +11,32 @@ use Rattle.table.specs.Checks.{numberOf}
 use Rattle.table.specs.Tables.{Table, tableOf}
 use Rattle.term.specs.Terms.{Node, words}
 use Rattle.term.specs.Processes.{Derivation, derivations, process}
-use Rattle.state.specs.declared.Store.the-variants.{Entries}
+use Rattle.state.specs.declared.Store.the-variants.{Attributes, Entries}
 use Rattle.state.specs.Layout.{clockAt, zcAt, zpAt, wordOf, stampOf, zcOf, zpOf, put, addKey}
 use Rattle.state.specs.Evaluation.{holds}
 use Rattle.state.specs.WellFormed.{wellFormed, loaded}
 use Rattle.machine.specs.Steps.{Outcome, stepIn}
 
--- sizes 24, 1, 2, 1, 1, 0. 0 to 5: not (attribute 0 = 1), or true. 6 to 8: tick|tick. 9 to 12: action|tick. 13 to 17: a|b.
--- 18 calls definition 0, 19 is true. Roots: definition 0 is 12, the link is 19, the agents start as 18 and 8
+-- sizes 26, 1, 2, 1, 1, 0. 0 to 5: not (attribute 0 = 1), or true. 6 to 8: tick|tick. 9 to 12: action|tick. 13 to 17: a|b.
+-- 18 calls definition 0; 19 to 21: the sender's attribute 0 = 1. Roots: definition 0 is 12, the link is 21, the agents start as 18 and 8
 abbrev pub example : List ℕ
 example =
-    24 ∷ 0 ∷ 1 ∷ 0 ∷ 2 ∷ 0 ∷ 1 ∷ 0 ∷ 1 ∷ 0 ∷ 0 ∷ 0
-    ∷ 32 ∷ 33 ∷ 17 ∷ 20 ∷ 16 ∷ 22 ∷ 1 ∷ 1 ∷ 8 ∷ 32 ∷ 2 ∷ 1 ∷ 8 ∷ 32 ∷ 2 ∷ 32 ∷ 3 ∷ 8 ∷ 9 ∷ 16 ∷ 64 ∷ 64 ∷ 64 ∷ 64
+    26 ∷ 0 ∷ 1 ∷ 0 ∷ 2 ∷ 0 ∷ 1 ∷ 0 ∷ 1 ∷ 0 ∷ 0 ∷ 0
+    ∷ 32 ∷ 33 ∷ 17 ∷ 20 ∷ 16 ∷ 22 ∷ 1 ∷ 1 ∷ 8 ∷ 32 ∷ 2 ∷ 1 ∷ 8 ∷ 32 ∷ 2 ∷ 32 ∷ 3 ∷ 8 ∷ 9 ∷ 33 ∷ 32 ∷ 17 ∷ 64 ∷ 64 ∷ 64 ∷ 64
     ∷ 1 ∷ 0 ∷ 0 ∷ 0 ∷ 0 ∷ 0 ∷ 0 ∷ 0 ∷ 1 ∷ 0 ∷ 0 ∷ 0 ∷ 2 ∷ 0 ∷ 0 ∷ 0 ∷ 0 ∷ 0 ∷ 0 ∷ 0 ∷ 3 ∷ 0 ∷ 4 ∷ 0
-    ∷ 0 ∷ 0 ∷ 0 ∷ 0 ∷ 0 ∷ 0 ∷ 0 ∷ 0 ∷ 6 ∷ 0 ∷ 7 ∷ 0 ∷ 7 ∷ 0 ∷ 0 ∷ 0 ∷ 0 ∷ 0 ∷ 9 ∷ 0 ∷ 0 ∷ 0 ∷ 0 ∷ 0 ∷ 10 ∷ 0 ∷ 11 ∷ 0
-    ∷ 8 ∷ 0 ∷ 0 ∷ 0 ∷ 0 ∷ 0 ∷ 13 ∷ 0 ∷ 9 ∷ 0 ∷ 0 ∷ 0 ∷ 0 ∷ 0 ∷ 15 ∷ 0 ∷ 14 ∷ 0 ∷ 16 ∷ 0 ∷ 0 ∷ 0 ∷ 0 ∷ 0 ∷ 0 ∷ 0 ∷ 0 ∷ 0
-    ∷ 12 ∷ 0 ∷ 0 ∷ 0 ∷ 19 ∷ 0 ∷ 0 ∷ 0 ∷ 18 ∷ 0 ∷ 0 ∷ 0 ∷ 8 ∷ 0 ∷ 0 ∷ 0 ∷ []
+    ∷ 0 ∷ 0 ∷ 0 ∷ 0 ∷ 0 ∷ 0 ∷ 0 ∷ 0 ∷ 6 ∷ 0 ∷ 7 ∷ 0 ∷ 7 ∷ 0 ∷ 0 ∷ 0 ∷ 0 ∷ 0 ∷ 9 ∷ 0 ∷ 0 ∷ 0 ∷ 0 ∷ 0
+    ∷ 10 ∷ 0 ∷ 11 ∷ 0 ∷ 8 ∷ 0 ∷ 0 ∷ 0 ∷ 0 ∷ 0 ∷ 13 ∷ 0 ∷ 9 ∷ 0 ∷ 0 ∷ 0 ∷ 0 ∷ 0 ∷ 15 ∷ 0 ∷ 14 ∷ 0 ∷ 16 ∷ 0
+    ∷ 0 ∷ 0 ∷ 0 ∷ 0 ∷ 0 ∷ 0 ∷ 1 ∷ 0 ∷ 1 ∷ 0 ∷ 0 ∷ 0 ∷ 19 ∷ 0 ∷ 20 ∷ 0 ∷ 12 ∷ 0 ∷ 0 ∷ 0 ∷ 21 ∷ 0 ∷ 0 ∷ 0
+    ∷ 18 ∷ 0 ∷ 0 ∷ 0 ∷ 8 ∷ 0 ∷ 0 ∷ 0 ∷ []
 
 abbrev pub t : Table
 t = tableOf example
 
--- the loaded state at clock 4, where agent 0 holds (v, u) and agent 1 holds (w, z) for key 0, which is in the set of agent 0 at a place
+-- the loaded state at clock 4, where agent 0 has attribute 0 = 1, so that its link to agent 1 holds and the other way doesn't,
+-- agent 0 holds (v, u) and agent 1 holds (w, z) for key 0, which is in the set of agent 0 at a place
 abbrev pub holding : ℕ → ℕ → ℕ → ℕ → ℕ → List ℕ
-holding at v u w z = set (addKey at 0 (put (Entries 1) 0 w z (put (Entries 0) 0 v u (loaded t)))) clockAt 4
+holding at v u w z =
+    set (addKey at 0 (put (Entries 1) 0 w z (put (Entries 0) 0 v u (put (Attributes 0) 0 1 1 (loaded t))))) clockAt 4
 
 abbrev pub bit : Bool → ℕ
 bit b = cond b 1 0

@@ -13,12 +13,12 @@ use Rattle.term.specs.Exposure.{canTick, callsBelow}
 use Rattle.state.specs.Layout.{valueIn, put, addKey, dropKey}
 use Rattle.state.specs.Evaluation.{valueStep, truthStep}
 use Rattle.state.specs.WellFormed.{allZero, pairFormed, pendingFormed, residualFormed, agentFormed, wellFormed, loaded}
 use Rattle.machine.specs.Offers.{takeEntry, hears, takes, answers, offer}
 use Rattle.machine.specs.Steps.{outcome, tableChecks, stepIn}
-use Rattle.theorems.specs.Examples.{example, leftBy, AllGiven}
+use Rattle.machine.specs.Examples.{example, leftBy, AllGiven}
 
 -- the table is accepted
-pub example-accepted : firstOf (tableChecks example 4194 48) ≡ passes
+pub example-accepted : firstOf (tableChecks example 4194 52) ≡ passes
 unfolding below some lowest firstOf withinLimits processRows guardRows expressionRows lookup fieldsHere fits fitting named namesAgain badNode reachStep reachedFrom wrongKey keep joins derivations nodeStep nodeWith defined nodeProcess canTick callsBelow
 example-accepted = refl
 

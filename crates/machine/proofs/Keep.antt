@@ -1,0 +1,210 @@
+-- Acts, propagations and confirmations keep states well formed, of the right length, and of words of 32 bits.
+-- Assumes nothing.
+use Prim.Native.Nat.{ℕ, _^_, _<_, _≤_}
+use mathlib.Core.Bool.{Bool, true, _&&_, _||_}
+use mathlib.Core.Logic.{⊎-elim}
+use mathlib.Core.Path.{_≡_, refl, sym, ap, subst, _∙_}
+use mathlib.Core.List.{List}
+use native.Mathlib.Omega.{arith}
+use lib.Dec.{ltb}
+use lib.ListN.{length, getD, set}
+use borrow.Author.Tests.{ltb-true, eq-eqb}
+use Rattle.basis.specs.KeySets.{plusAll}
+use Rattle.basis.proofs.Numbers.{forEach-keeps}
+use Rattle.basis.proofs.Tests.{and-right, cond-cases, same-or-other, lt-or-le}
+use Rattle.value.specs.declared.Value.{Value}
+use Rattle.value.specs.declared.Value.the-variants.{Absent, Present}
+use Rattle.table.specs.Tables.{Table, kindAt, pAt, qAt}
+use Rattle.table.specs.Sound.{Limits, Sound}
+use Rattle.table.proofs.Promises.{attribute-set-operands, stigmergy-set-operands, environment-set-operands}
+use Rattle.term.specs.Acceptance.{stateWords}
+use Rattle.term.specs.Terms.{Term, words}
+use Rattle.term.specs.Processes.{Label, ticks, acts, Derivation}
+use Rattle.term.proofs.Inside.{ActionNode, Labelled, Inside as DerivationInside}
+use Rattle.term.proofs.Words.{Over, over-low, words-small}
+use Rattle.state.specs.declared.Store.{Store}
+use Rattle.state.specs.declared.Store.the-variants.{Environment, Attributes, Entries}
+use Rattle.state.specs.Layout.{blockAt, keyLimit, residualWords, clockOf, stampOf, wordOf, zcAt, zpAt, zcOf, put, addKey, dropKey}
+use Rattle.state.proofs.Places.{Place, KeySet, Zc, Zp, Clock, Agents, Mark, Word, Waits, Length, Residual, placeAt, Inside, placeAgent, other-agent, past-agent, placed}
+use Rattle.state.proofs.Frames.{wordAt, SameAt, put-mark, drop-other}
+use Rattle.state.proofs.Evaluation.{SmallValue, valueOf-small}
+use Rattle.state.proofs.Formed.{ResidualFormed, Proper, There, highestIn, keysIn, residual-formed}
+use Rattle.state.proofs.Keep.{Kept, kept-proper, kept-start, kept-later, kept-clock, kept-keys, kept-add, kept-drop, kept-put, pair-kept, set-kept, residual-kept, set-plusAll}
+use Rattle.machine.specs.Acts.{wordIn, nextStamp, leave, valueFor, writesEntry, guardsRead, labelReads, toConfirm, setKey, acted}
+use Rattle.machine.specs.Offers.{newer, takeEntry, hears, takes, answers, offer, offered, confirmed}
+use Rattle.machine.proofs.Acts.{set-attribute, set-entry, set-environment}
+use Rattle.machine.proofs.Leave.{leave-length, leave-small, leave-other, leave-size, leave-word}
+
+module _ (t : Table) (limits : Limits (t .sizes)) (was : List ℕ) where
+  abbrev agents : ℕ
+  agents = t .sizes .agents
+
+  -- WHAT AN ACT LEAVES
+  module _ (c n : ℕ) (s : List ℕ) (h : Kept t c n was s) (x : ℕ) (there : x < agents) (T : Term) (over : Over t T) (short : length (words T) ≤ residualWords) where
+    abbrev left : List ℕ
+    left = leave x (words T) s
+
+    other : (p : Place) → Inside p → (placeAgent p ≡ x → ⊥) → SameAt left s p
+    other p i d = leave-other x (words T) s p i (other-agent p (Length x) d) (λ j l. other-agent p (Residual x j) d)
+
+    residuals : (a : ℕ) → a < agents → ResidualFormed t left a
+    residuals a l = ⊎-elim mine else (same-or-other a x)
+      where
+        whole : length left ≡ stateWords
+        whole = leave-length x (words T) s ∙ h .whole
+
+        mine : a ≡ x → ResidualFormed t left a
+        mine e = subst (ResidualFormed t left) (sym e)
+            (residual-formed t (omega arith) left whole x (omega arith) T over (leave-size x (words T) s (h .whole) (omega arith)) short (leave-word x (words T) s (h .whole) (omega arith)))
+
+        else : (a ≡ x → ⊥) → ResidualFormed t left a
+        else d = residual-kept t s left a (leave-length x (words T) s) (other (Length a) tt d) (λ i m. other (Residual a i) m d) (h .formed .residuals a l)
+
+    unused : (i : ℕ) → blockAt agents ≤ i → getD left i 0 ≡ 0
+    unused i l =
+        let p = placed i in
+        let m = past-agent (p .place) agents (p .inside) (omega (arith, p .at)) in
+        ap (λ (j : ℕ). getD left j 0) (sym (p .at)) ∙ other (p .place) (p .inside) (λ e. omega arith) ∙ ap (λ (j : ℕ). getD s j 0) (p .at) ∙ h .formed .unused i l
+
+    pub kept-leave : Kept t c n was left
+    kept-leave = record {
+      whole = leave-length x (words T) s ∙ h .whole;
+      small = leave-small x (words T) s (h .small) (λ i. omega (arith, words-small T (over-low t (omega arith) T over) i)) (omega arith);
+      clock = leave-other x (words T) s Clock tt refl (λ j l. refl) ∙ h .clock;
+      formed = record {
+        agents = leave-other x (words T) s Agents tt refl (λ j l. refl) ∙ h .formed .agents;
+        pairs = λ store i k l. pair-kept s left store (highestIn c store) (keysIn t store) k
+            (leave-other x (words T) s (Mark store k) l refl (λ j m. refl)) (leave-other x (words T) s (Word store k) l refl (λ j m. refl)) (h .formed .pairs store i k l);
+        sets = λ z a l. rw (leave-other x (words T) s (Waits z a) tt refl (λ j m. refl))
+            (set-kept s left a (wordAt s (Waits z a)) (λ k i m. rw (leave-other x (words T) s (Mark (Entries a) k) i refl (λ j o. refl)) m) (h .formed .sets z a l));
+        residuals = residuals;
+        unused = unused;
+      };
+      stamps = λ a k l m. rw (leave-other x (words T) s (Mark (Entries a) k) l refl (λ j i. refl)) (h .stamps a k l m);
+    }
+
+  -- OFFERS of x's entry for key k
+  module _ (proper : Proper t was) (x k : ℕ) (there : x < agents) (key : k < t .sizes .stigmergy) (entered : 0 < stampOf was x k) (asks : Bool) where
+    abbrev now : ℕ
+    now = clockOf was
+
+    k16 : k < keyLimit
+    k16 = omega arith
+
+    -- the entry that is offered
+    early : stampOf was x k ≤ now
+    early = proper .formed .formed .pairs (Entries x) there k k16 .bound
+
+    offer-kept : (y : ℕ) → y < agents → (s : List ℕ) → Kept t now now was s → Kept t now now was (offer t was x k asks y s)
+    unfolding offer takes answers takeEntry
+    offer-kept y l s h =
+        cond-cases (Kept t now now was) (hears t was x k y && newer was k x y) (λ e. take)
+        (λ e. cond-cases (Kept t now now was) (asks && (hears t was x k y && newer was k y x)) answer (λ f. h))
+      where
+        m : ℕ
+        m = stampOf was x k
+
+        v : ℕ
+        v = wordOf was (Entries x) k
+
+        entry : Kept t now now was (put (Entries y) k v m s)
+        entry = kept-put t limits was now now s h (Entries y) k v m l k16 key entered early (proper .small _) (let c = proper .formed .clock in omega (arith, early))
+
+        take : Kept t now now was (addKey (zpAt y) k (dropKey (zcAt y) k (put (Entries y) k v m s)))
+        take = kept-add t limits was now now (dropKey (zcAt y) k (put (Entries y) k v m s)) (kept-drop t limits was now now (put (Entries y) k v m s) entry Zc y k l) Zp y k l k16
+            (rw (drop-other Zc y k (put (Entries y) k v m s) (Mark (Entries y) k) k16 refl, put-mark (Entries y) k v m s k16 (h .whole) (omega arith)) entered)
+
+        answer : (asks && (hears t was x k y && newer was k y x)) ≡ true → Kept t now now was (addKey (zpAt y) k s)
+        answer e =
+            let f = and-right asks (hears t was x k y && newer was k y x) e in
+            let g = ltb-true (stampOf was x k) (stampOf was y k) (and-right (hears t was x k y) (newer was k y x) f) in
+            kept-add t limits was now now s h Zp y k l k16 (h .stamps y k k16 (omega arith))
+
+    offers-kept : Kept t now now was (offered t was x k asks agents)
+    offers-kept = forEach-keeps (offer t was x k asks) (Kept t now now was) agents offer-kept was (kept-start t limits was proper)
+
+    -- the key then leaves one of x's sets
+    pub dropped-proper : (z : KeySet) → Proper t (dropKey (placeAt (Waits z x)) k (offered t was x k asks agents))
+    dropped-proper z = kept-proper t now was _ (proper .formed .clock) (kept-drop t limits was now now (offered t was x k asks agents) offers-kept z x k there)
+
+-- ACTS
+word-small : (v : Value) → SmallValue v → wordIn v < 2 ^ 32
+word-small Absent h = omega arith
+word-small (Present v) h = h
+
+module _ (t : Table) (sound : Sound t) (bytes : (i : ℕ) → getD (t .operands) i 0 < 256) (was : List ℕ) (proper : Proper t was) (x : ℕ) (there : x < t .sizes .agents) where
+  limits : Limits (t .sizes)
+  limits = sound .shaped .limits
+
+  module _ (n : ℕ) where
+    abbrev key : ℕ
+    key = pAt t n
+
+    abbrev word : ℕ
+    word = wordIn (valueFor t was x n)
+
+    small : word < 2 ^ 32
+    small = word-small (valueFor t was x n) (valueOf-small t bytes was (proper .small) x x (qAt t n))
+
+  -- the clock after, and what is kept
+  abbrev Set : List ℕ → Type 0
+  Set s = (c : ℕ) × (c ≤ 65535) × Kept t c c was s
+
+  start : Kept t (clockOf was) (clockOf was) was was
+  start = kept-start t limits was proper
+
+  pair-set : (store : Store) (n : ℕ) → There t store → highestIn (clockOf was) store ≡ 1 → pAt t n < keysIn t store → pAt t n < keyLimit → Set (put store (pAt t n) (wordIn (valueFor t was x n)) 1 was)
+  pair-set store n h e l m = (
+    clockOf was,
+    proper .formed .clock,
+    kept-put t limits was (clockOf was) (clockOf was) was start store (pAt t n) (word n) 1 h m l (omega arith) (omega arith) (small n) (omega arith),
+  )
+
+  entry-set : (n : ℕ) → pAt t n < t .sizes .stigmergy → clockOf was < 65535
+      → Set (set (addKey (zpAt x) (pAt t n) (put (Entries x) (pAt t n) (wordIn (valueFor t was x n)) (nextStamp was) was)) (placeAt Clock) (nextStamp was))
+  entry-set n l room =
+      let c = nextStamp was in
+      let k = pAt t n in
+      let u = put (Entries x) k (word n) c was in
+      let k16 : k < keyLimit = omega arith in
+      let later = kept-later t limits was (clockOf was) (clockOf was) was start c (omega arith) in
+      let entry = kept-put t limits was c (clockOf was) was later (Entries x) k (word n) c there k16 l (omega arith) (omega arith) (small n) (omega arith) in
+      let pending = kept-add t limits was c (clockOf was) u entry Zp x k there k16 (rw (put-mark (Entries x) k (word n) c was k16 (proper .whole) (omega arith)) (omega arith)) in
+      (c, omega arith, kept-clock t limits was c (clockOf was) (addKey (zpAt x) k u) pending c (omega arith))
+
+  node-set : (n : ℕ) → ActionNode t n → (writesEntry t was x (acts n) ≡ true → clockOf was < 65535) → Set (setKey t was x (acts n))
+  node-set n a room =
+      ⊎-elim
+      (λ (h : kindAt t n < 3).
+      let e : kindAt t n ≡ 2 = omega arith in
+      let l = attribute-set-operands t sound n e .0 in
+      rw (set-attribute t was x n e) (pair-set (Attributes x) n there refl l (omega arith)))
+      (λ (h : 3 ≤ kindAt t n).
+      ⊎-elim
+      (λ (i : kindAt t n < 4).
+      let e : kindAt t n ≡ 3 = omega arith in
+      let l = stigmergy-set-operands t sound n e .0 in
+      rw (set-entry t was x n e) (entry-set n l (room (eq-eqb (kindAt t n) 3 e))))
+      (λ (i : 4 ≤ kindAt t n).
+      let e : kindAt t n ≡ 4 = omega arith in
+      let l = environment-set-operands t sound n e .0 in
+      rw (set-environment t was x n e) (pair-set Environment n tt refl l (omega arith)))
+      (lt-or-le (kindAt t n) 4))
+      (lt-or-le (kindAt t n) 3)
+
+  label-set : (l : Label) → Labelled t l → (writesEntry t was x l ≡ true → clockOf was < 65535) → Set (setKey t was x l)
+  unfolding setKey
+  label-set ticks h room = (clockOf was, proper .formed .clock, start)
+  label-set (acts n) h room = node-set n h room
+
+  module _ (d : Derivation) (inside : DerivationInside t d) (room : writesEntry t was x (d .label) ≡ true → clockOf was < 65535) (short : length (words (d .leaving)) ≤ residualWords) where
+    pub acted-proper : Proper t (acted t was x d)
+    unfolding acted
+    acted-proper =
+        let s = setKey t was x (d .label) in
+        let b = label-set (d .label) (inside .label) room in
+        let c = b .0 in
+        let w = plusAll (toConfirm t was x d) keyLimit (zcOf s x) in
+        let gained = set-plusAll s x (zcOf s x) (b .2 .formed .sets Zc x there) (toConfirm t was x d) (λ k l e. b .2 .stamps x k l (ltb-true 0 (stampOf was x k) (and-right (guardsRead t was x (d .guards) k || labelReads t was x (d .label) k) (ltb 0 (stampOf was x k)) e))) in
+        let confirmed = kept-keys t limits was c c s (b .2) Zc x w there gained in
+        kept-proper t c was (acted t was x d) (b .1) (kept-leave t limits was c c (set s (zcAt x) w) confirmed x there (d .leaving) (inside .leaving) short)

@@ -1,0 +1,85 @@
+-- What is left after an act: the residual's length and words are those of the new term, 0 comes after, and nothing else changes.
+-- Assumes nothing.
+use Prim.Native.Nat.{ℕ, _+_, _^_, _<_, _≤_}
+use mathlib.Core.Bool.{true, false}
+use mathlib.Core.Path.{_≡_, refl, sym, _∙_}
+use mathlib.Core.List.{List}
+use native.Mathlib.Omega.{arith}
+use lib.ListN.{length, getD, set, take, drop, length-set}
+use borrow.Author.Tests.{ne-eqb}
+use Rattle.basis.specs.Numbers.{forEach}
+use Rattle.basis.proofs.Numbers.{forEach-same, forEach-at, forEach-keeps}
+use Rattle.term.specs.Acceptance.{stateWords}
+use Rattle.term.specs.Terms.{Term, words}
+use Rattle.term.proofs.Words.{Low}
+use Rattle.state.specs.declared.Store.{Store}
+use Rattle.state.specs.Layout.{residualWords, residualAt, lengthAt, lengthOf, residualOf, termIn, valueIn}
+use Rattle.state.specs.WellFormed.{allZero}
+use Rattle.state.proofs.Places.{Place, Mark, Word, Length, Residual, other-agent, Inside, same}
+use Rattle.state.proofs.Frames.{wordAt, Small, SameAt, value-same, term-same, set-small, set-other, set-here}
+use Rattle.state.proofs.Residuals.{residual-front, residual-rest, term-read}
+use Rattle.machine.specs.Acts.{leave}
+
+module _ (x : ℕ) (ws s : List ℕ) where
+  abbrev copy : ℕ → List ℕ → List ℕ
+  copy i u = set u (residualAt x + i) (getD ws i 0)
+
+  abbrev copied : ℕ → List ℕ
+  copied n = forEach copy n s
+
+  copied-length : (n : ℕ) → length (copied n) ≡ length s
+  copied-length n = forEach-same copy (λ (u : List ℕ). length u) n (λ i l u. length-set u (residualAt x + i) (getD ws i 0)) s
+
+  pub leave-length : length (leave x ws s) ≡ length s
+  unfolding leave
+  leave-length = length-set (copied residualWords) (lengthAt x) (length ws) ∙ copied-length residualWords
+
+  pub leave-small : Small s → ((i : ℕ) → getD ws i 0 < 2 ^ 32) → length ws < 2 ^ 32 → Small (leave x ws s)
+  unfolding leave
+  leave-small small h l =
+      set-small (copied residualWords) (lengthAt x) (length ws)
+      (forEach-keeps copy Small residualWords (λ i m u g. set-small u (residualAt x + i) (getD ws i 0) g (h i)) s small) l
+
+  copied-other : (n : ℕ) → n ≤ residualWords → (q : Place) → Inside q → ((i : ℕ) → i < n → same q (Residual x i) ≡ false) → SameAt (copied n) s q
+  copied-other n b q h e = forEach-same copy (λ (u : List ℕ). wordAt u q) n (λ i l u. set-other u (Residual x i) (getD ws i 0) (omega arith) q h (e i l)) s
+
+  pub leave-other : (q : Place) → Inside q → same q (Length x) ≡ false → ((i : ℕ) → i < residualWords → same q (Residual x i) ≡ false) → SameAt (leave x ws s) s q
+  unfolding leave
+  leave-other q h e f = set-other (copied residualWords) (Length x) (length ws) tt q h e ∙ copied-other residualWords (omega arith) q h f
+
+  module _ (whole : length s ≡ stateWords) (there : x < 32) where
+    pub leave-size : lengthOf (leave x ws s) x ≡ length ws
+    unfolding leave
+    leave-size = set-here (copied residualWords) (Length x) (length ws) tt (copied-length residualWords ∙ whole) there
+
+    pub leave-word : (i : ℕ) → i < residualWords → wordAt (leave x ws s) (Residual x i) ≡ getD ws i 0
+    unfolding leave
+    leave-word i l =
+        set-other (copied residualWords) (Length x) (length ws) tt (Residual x i) l refl
+        ∙ forEach-at copy (λ (u : List ℕ). wordAt u (Residual x i)) i residualWords l
+        (λ j m d u. set-other u (Residual x j) (getD ws j 0) m (Residual x i) l (rw (ne-eqb i j (λ e. d (sym e))))) s
+        ∙ set-here (copied i) (Residual x i) (getD ws i 0) l (copied-length i ∙ whole) there
+
+    module _ (short : length ws ≤ residualWords) where
+      pub leave-front : take (length ws) (residualOf (leave x ws s) x) ≡ ws
+      leave-front = residual-front (leave x ws s) x (leave-length ∙ whole) there ws short leave-word
+
+      pub leave-rest : allZero (drop (length ws) (residualOf (leave x ws s) x)) ≡ true
+      leave-rest = residual-rest (leave x ws s) x (leave-length ∙ whole) there ws short leave-word
+
+-- the term that is left
+pub leave-term : (x : ℕ) (T : Term) (s : List ℕ) → length s ≡ stateWords → x < 32 → Low T → length (words T) ≤ residualWords → termIn (leave x (words T) s) x ≡ T
+leave-term x T s whole there low short =
+    term-read (leave x (words T) s) x (leave-length x (words T) s ∙ whole) there T low short (leave-size x (words T) s whole there) (leave-word x (words T) s whole there)
+
+-- values stay, and so do the terms of other agents
+module _ (x : ℕ) (ws s : List ℕ) where
+  pub leave-valueIn : (store : Store) (k : ℕ) → valueIn (leave x ws s) store k ≡ valueIn s store k
+  leave-valueIn store k =
+      value-same (leave x ws s) s store k (λ l. leave-other x ws s (Mark store k) l refl (λ j m. refl)) (λ l. leave-other x ws s (Word store k) l refl (λ j m. refl))
+
+  pub leave-termIn : (a : ℕ) → (a ≡ x → ⊥) → termIn (leave x ws s) a ≡ termIn s a
+  leave-termIn a d =
+      term-same (leave x ws s) s a (leave-length x ws s)
+      (leave-other x ws s (Length a) tt (other-agent (Length a) (Length x) d) (λ j m. refl))
+      (λ i l. leave-other x ws s (Residual a i) l refl (λ j m. other-agent (Residual a i) (Residual x j) d))

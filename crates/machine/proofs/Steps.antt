@@ -1,0 +1,238 @@
+-- When load and a step are done, and what they come to: what the checks leave, as facts.
+-- Assumes nothing.
+use Prim.Native.Nat.{ℕ, _<_, _≤_}
+use mathlib.Core.Bool.{Bool, true, false, not, _&&_}
+use mathlib.Core.Path.{_≡_, refl, sym, ap, _∙_}
+use mathlib.Core.Logic.{_↔_, ⊎-elim}
+use mathlib.Core.List.{List, [], _∷_}
+use native.Mathlib.Omega.{arith}
+use lib.Dec.{eqb, ltb, leb}
+use lib.ListN.{length}
+use borrow.Author.Tests.{ltb-true, ltb-false, leb-false, eqb-true, lt-ltb, le-ltb, lt-leb, not-false}
+use Rattle.basis.specs.KeySets.{has}
+use Rattle.basis.proofs.Tests.{not-both, and-left, and-right, and-fails, or-neither}
+use Rattle.table.specs.Checks.{Check, passes, refuses, refuseIf, firstOf}
+use Rattle.table.specs.Tables.{Table, tableOf}
+use Rattle.table.proofs.Checks.{first-passes, first-both, append-passes, append-both, refuseIf-passes, refuseIf-false}
+use Rattle.term.specs.Terms.{words}
+use Rattle.term.specs.Processes.{allFew}
+use Rattle.term.specs.Accepted.{Accepted}
+use Rattle.term.proofs.Acceptance.{passes-accepted, accepted-passes}
+use Rattle.state.specs.Layout.{residualWords, clockOf, zcOf, zpOf, termIn}
+use Rattle.state.specs.WellFormed.{wellFormed, loaded}
+use Rattle.machine.specs.Acts.{choices, chosen, allHold, lacksValue, writesEntry, actChecks}
+use Rattle.machine.specs.Steps.{Outcome, done, refused, outcome, tableChecks, loadOf, outOfRange, ownChecks, takenBy, after, stepIn, stateChecks, stepOf}
+
+module _ (was : List ℕ) (taken : ℕ) (s : List ℕ) where
+  pub outcome-check : (c : Check) → outcome c was taken s .check ≡ c
+  unfolding outcome
+  outcome-check passes = refl
+  outcome-check (refuses number place) = refl
+
+  pub outcome-done : (c : Check) → c ≡ passes → outcome c was taken s ≡ done taken s
+  unfolding outcome
+  outcome-done c e = rw e
+
+  pub outcome-refused : (c : Check) {number place : ℕ} → c ≡ refuses number place → outcome c was taken s ≡ refused number place was
+  unfolding outcome
+  outcome-refused c e = rw e
+
+-- the first of a list of checks is a test
+module _ (number : ℕ) (test : Bool) (cs : List Check) where
+  test-passes : firstOf (refuseIf number test ∷ cs) ≡ passes → (test ≡ false) × (firstOf cs ≡ passes)
+  test-passes e = let w = first-passes (refuseIf number test) cs e in (refuseIf-passes number test (w .0), w .1)
+
+  passes-test : test ≡ false → firstOf cs ≡ passes → firstOf (refuseIf number test ∷ cs) ≡ passes
+  passes-test d e = first-both (refuseIf number test) cs (refuseIf-false number test d) e
+
+none-passes : firstOf [] ≡ passes
+unfolding firstOf
+none-passes = refl
+
+-- LOAD is done where the table is accepted for the lent words
+module _ (bytes was : List ℕ) (scratch : ℕ) where
+  pub load-accepted : loadOf bytes was scratch .check ≡ passes → Accepted bytes (length was) scratch
+  load-accepted e = passes-accepted bytes (length was) scratch (sym (outcome-check was 0 (loaded (tableOf bytes)) (firstOf (tableChecks bytes (length was) scratch))) ∙ e)
+
+  pub accepted-load : Accepted bytes (length was) scratch → loadOf bytes was scratch ≡ done 0 (loaded (tableOf bytes))
+  accepted-load a = outcome-done was 0 (loaded (tableOf bytes)) (firstOf (tableChecks bytes (length was) scratch)) (accepted-passes bytes (length was) scratch a)
+
+-- 10 has passed
+pub record InRange (t : Table) (kind x number : ℕ) : Type 0 where
+  pub kind-below : kind < 3
+  pub agent-below : x < t .sizes .agents
+  pub key-below : 0 < kind → number < t .sizes .stigmergy
+
+module _ (t : Table) (was : List ℕ) (kind x number : ℕ) where
+  pub in-range : outOfRange t was kind x number ≡ false ↔ InRange t kind x number
+  in-range = (there, back)
+    where
+      A : ℕ
+      A = t .sizes .agents
+
+      S : ℕ
+      S = t .sizes .stigmergy
+
+      there : outOfRange t was kind x number ≡ false → InRange t kind x number
+      there e =
+          let v = or-neither (not (ltb kind 3)) _ e in
+          let w = or-neither (not (ltb x A)) (ltb 0 kind && not (ltb number S)) (v .1) in
+          record {
+            kind-below = ltb-true kind 3 (not-false (ltb kind 3) (v .0));
+            agent-below = ltb-true x A (not-false (ltb x A) (w .0));
+            key-below = λ h. ⊎-elim (λ (f : ltb 0 kind ≡ false). absurd (not-both (lt-ltb 0 kind h) f))
+                (λ (f : not (ltb number S) ≡ false). ltb-true number S (not-false (ltb number S) f)) (and-fails (ltb 0 kind) (not (ltb number S)) (w .1));
+          }
+
+      key : InRange t kind x number → (b : Bool) → ltb 0 kind ≡ b → (b && not (ltb number S)) ≡ false
+      key r true e = rw (lt-ltb number S (r .key-below (ltb-true 0 kind e)))
+      key r false e = refl
+
+      back : InRange t kind x number → outOfRange t was kind x number ≡ false
+      back r = rw (lt-ltb kind 3 (r .kind-below), lt-ltb x A (r .agent-below)) (key r (ltb 0 kind) refl)
+
+-- 11 to 17 have passed, of choice c
+pub record Able (t : Table) (was : List ℕ) (x c : ℕ) : Type 0 where
+  pub confirmed : zcOf was x ≡ 0
+  pub propagated : zpOf was x ≡ 0
+  pub few : allFew t (termIn was x) ≡ true
+  pub there : c < length (choices t was x)
+  pub guards : allHold t was x (chosen t was x c .guards) ≡ true
+  pub present : lacksValue t was x (chosen t was x c .label) ≡ false
+  pub room : writesEntry t was x (chosen t was x c .label) ≡ true → clockOf was < 65535
+  pub short : length (words (chosen t was x c .leaving)) ≤ residualWords
+
+module _ (t : Table) (was : List ℕ) (x : ℕ) where
+  pub act-able : (c : ℕ) → firstOf (actChecks t was x c) ≡ passes ↔ Able t was x c
+  act-able c = (there, back)
+    where
+      idle : Bool
+      idle = eqb (zcOf was x) 0 && eqb (zpOf was x) 0
+
+      holds : Bool
+      holds = allHold t was x (chosen t was x c .guards)
+
+      lacks : Bool
+      lacks = lacksValue t was x (chosen t was x c .label)
+
+      writes : Bool
+      writes = writesEntry t was x (chosen t was x c .label)
+
+      long : ℕ
+      long = length (words (chosen t was x c .leaving))
+
+      there : firstOf (actChecks t was x c) ≡ passes → Able t was x c
+      there e =
+          let e11 = test-passes 11 (not idle) _ e in
+          let e12 = test-passes 12 (not (allFew t (termIn was x))) _ (e11 .1) in
+          let e13 = test-passes 13 (leb (length (choices t was x)) c) _ (e12 .1) in
+          let e14 = test-passes 14 (not holds) _ (e13 .1) in
+          let e15 = test-passes 15 lacks _ (e14 .1) in
+          let e16 = test-passes 16 (writes && leb 65535 (clockOf was)) _ (e15 .1) in
+          let e17 = test-passes 17 (ltb residualWords long) [] (e16 .1) in
+          let still = not-false idle (e11 .0) in
+          record {
+            confirmed = eqb-true (zcOf was x) 0 (and-left (eqb (zcOf was x) 0) (eqb (zpOf was x) 0) still);
+            propagated = eqb-true (zpOf was x) 0 (and-right (eqb (zcOf was x) 0) (eqb (zpOf was x) 0) still);
+            few = not-false (allFew t (termIn was x)) (e12 .0);
+            there = leb-false (length (choices t was x)) c (e13 .0);
+            guards = not-false holds (e14 .0);
+            present = e15 .0;
+            room = λ w. leb-false 65535 (clockOf was) (sym (ap (λ b. b && leb 65535 (clockOf was)) w) ∙ e16 .0);
+            short = ltb-false residualWords long (e17 .0);
+          }
+
+      full : Able t was x c → (b : Bool) → writes ≡ b → (b && leb 65535 (clockOf was)) ≡ false
+      full a true w = lt-leb 65535 (clockOf was) (a .room w)
+      full a false w = refl
+
+      back : Able t was x c → firstOf (actChecks t was x c) ≡ passes
+      back a =
+          passes-test 11 (not idle) _ (rw (a .confirmed, a .propagated)) (
+          passes-test 12 (not (allFew t (termIn was x))) _ (ap not (a .few)) (
+          passes-test 13 (leb (length (choices t was x)) c) _ (lt-leb (length (choices t was x)) c (a .there)) (
+          passes-test 14 (not holds) _ (ap not (a .guards)) (
+          passes-test 15 lacks _ (a .present) (
+          passes-test 16 (writes && leb 65535 (clockOf was)) _ (full a writes refl) (
+          passes-test 17 (ltb residualWords long) [] (le-ltb residualWords long (a .short)) none-passes))))))
+
+  -- 18 has passed
+  pub propagates : (k : ℕ) → firstOf (ownChecks t was 1 x k) ≡ passes ↔ (has (zpOf was x) k ≡ true)
+  propagates k = (
+    λ e. not-false (has (zpOf was x) k) (test-passes 18 (not (has (zpOf was x) k)) [] e .0),
+    λ e. passes-test 18 (not (has (zpOf was x) k)) [] (ap not e) none-passes,
+  )
+
+  pub confirms : (k : ℕ) → firstOf (ownChecks t was 2 x k) ≡ passes ↔ (has (zcOf was x) k ≡ true)
+  confirms k = (
+    λ e. not-false (has (zcOf was x) k) (test-passes 18 (not (has (zcOf was x) k)) [] e .0),
+    λ e. passes-test 18 (not (has (zcOf was x) k)) [] (ap not e) none-passes,
+  )
+
+-- A STEP is done where the table is accepted, the state well formed, the step in range, and its own checks have passed
+pub record Done (bytes was : List ℕ) (scratch kind x number : ℕ) : Type 0 where
+  pub accepted : Accepted bytes (length was) scratch
+  pub formed : wellFormed (tableOf bytes) was ≡ true
+  pub range : InRange (tableOf bytes) kind x number
+  pub own : firstOf (ownChecks (tableOf bytes) was kind x number) ≡ passes
+
+module _ (bytes was : List ℕ) (scratch : ℕ) where
+  abbrev t : Table
+  t = tableOf bytes
+
+  pub state-checks : firstOf (stateChecks bytes was scratch) ≡ passes ↔ (Accepted bytes (length was) scratch × (wellFormed (tableOf bytes) was ≡ true))
+  state-checks = (
+    λ e. let w = append-passes (tableChecks bytes (length was) scratch) _ e in
+        (passes-accepted bytes (length was) scratch (w .0), not-false (wellFormed t was) (test-passes 9 (not (wellFormed t was)) [] (w .1) .0)),
+    λ p. append-both (tableChecks bytes (length was) scratch) _ (accepted-passes bytes (length was) scratch (p .0))
+        (passes-test 9 (not (wellFormed t was)) [] (ap not (p .1)) none-passes),
+  )
+
+  module _ (kind x number : ℕ) where
+    pub step-in : firstOf (stateChecks bytes was scratch) ≡ passes → stepOf bytes was scratch kind x number ≡ stepIn (tableOf bytes) was kind x number
+    unfolding stepOf
+    step-in e = rw (stepOf, e)
+
+    abbrev checks : List Check
+    checks = refuseIf 10 (outOfRange t was kind x number) ∷ ownChecks t was kind x number
+
+    in-check : stepIn t was kind x number .check ≡ firstOf checks
+    unfolding stepIn
+    in-check = outcome-check was (takenBy t was kind x number) (after t was kind x number) (firstOf checks)
+
+    -- what the checks of table and state decide
+    stepBy : Check → Outcome
+    stepBy c = elim c [ passes ↦ stepIn t was kind x number | refuses n place ↦ outcome (refuses n place) was 0 was ]
+
+    -- a step that is done has passed all checks
+    pub done-step : stepOf bytes was scratch kind x number .check ≡ passes → Done bytes was scratch kind x number
+    unfolding stepOf stepBy outcome
+    done-step e = by (firstOf (stateChecks bytes was scratch)) refl e
+      where
+        by : (c : Check) → firstOf (stateChecks bytes was scratch) ≡ c
+            → stepBy c .check ≡ passes
+            → Done bytes was scratch kind x number
+        by passes d e =
+            let p = state-checks .0 d in
+            let w = test-passes 10 (outOfRange t was kind x number) (ownChecks t was kind x number) (sym in-check ∙ e) in
+            record { accepted = p .0; formed = p .1; range = in-range t was kind x number .0 (w .0); own = w .1 }
+        by (refuses n place) d e = absurd (let z : _≡_ {A = ℕ} 0 1 = cc in omega arith)
+
+    -- and comes to this
+    pub step-done : Done bytes was scratch kind x number
+        → stepOf bytes was scratch kind x number ≡ done (takenBy (tableOf bytes) was kind x number) (after (tableOf bytes) was kind x number)
+    unfolding stepIn
+    step-done d =
+        step-in (state-checks .1 (d .accepted, d .formed))
+        ∙ outcome-done was (takenBy t was kind x number) (after t was kind x number) (firstOf checks)
+        (passes-test 10 (outOfRange t was kind x number) (ownChecks t was kind x number) (in-range t was kind x number .1 (d .range)) (d .own))
+
+    -- a refused step leaves the state as it was
+    pub step-refused : {n place : ℕ} → stepOf bytes was scratch kind x number .check ≡ refuses n place → stepOf bytes was scratch kind x number ≡ refused n place was
+    unfolding stepOf stepBy outcome stepIn
+    step-refused {n} {place} e = by (firstOf (stateChecks bytes was scratch)) e
+      where
+        by : (c : Check) → stepBy c .check ≡ refuses n place
+            → stepBy c ≡ refused n place was
+        by passes e = outcome-refused was (takenBy t was kind x number) (after t was kind x number) (firstOf checks) (sym in-check ∙ e)
+        by (refuses m at) e = ap (λ c. outcome c was 0 was) e

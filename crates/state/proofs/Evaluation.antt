@@ -1,0 +1,113 @@
+-- Expressions, guards and links look at values only: those of the environment and of their two parties' stores. And every value is a word of 32 bits.
+-- Assumes nothing.
+use Prim.Native.Nat.{ℕ, _+_, _*_, _^_, _<_}
+use mathlib.Core.Bool.{true, cond}
+use mathlib.Core.Path.{_≡_, ap}
+use mathlib.Core.List.{List}
+use native.Mathlib.Omega.{arith}
+use lib.Dec.{eqb, ltb}
+use lib.IntN.{ℤ, pos, negsuc, _+ℤ_, _-ℤ_, _*ℤ_}
+use lib.ListN.{getD}
+use lib.Signed.{leZ}
+use mir.Syntax.{w32}
+use mir.Val.{ofZ}
+use borrow.Author.Tests.{leb-true}
+use Rattle.basis.proofs.Below.{below-ext, below-induct}
+use Rattle.basis.proofs.Tests.{and-right, cond-cases}
+use Rattle.value.specs.declared.Value.{Value}
+use Rattle.value.specs.declared.Value.the-variants.{Absent, Present}
+use Rattle.value.specs.declared.Truth.{Truth}
+use Rattle.value.specs.Values.{signed, inRange, fit, isZero, quotient, remainder, arithmetic, operate}
+use Rattle.value.specs.Truths.{undefined}
+use Rattle.table.specs.Tables.{Table, kindAt, pAt, qAt, constantAt, linkAt}
+use Rattle.state.specs.declared.Store.{Store}
+use Rattle.state.specs.declared.Store.the-variants.{Environment, Attributes, Entries}
+use Rattle.state.specs.Layout.{keyLimit, markOf, valueIn}
+use Rattle.state.specs.Evaluation.{partyOf, valueStep, valueBelow, valueOf, truthStep, truthBelow, holds, linkHolds}
+use Rattle.state.proofs.Places.{Mark, Word}
+use Rattle.state.proofs.Frames.{Small, SameAt, value-same}
+
+-- two states have the same values in a store
+abbrev pub SameValues : List ℕ → List ℕ → Store → Type 0
+SameValues s u store = (k : ℕ) → valueIn s store k ≡ valueIn u store k
+
+pub words-values : (s u : List ℕ) (store : Store) → ((k : ℕ) → k < keyLimit → SameAt s u (Mark store k)) → ((k : ℕ) → k < keyLimit → SameAt s u (Word store k)) → SameValues s u store
+words-values s u store f g k = value-same s u store k (f k) (g k)
+
+-- and those that an agent's expressions look at
+pub record SameParty (s u : List ℕ) (a : ℕ) : Type 0 where
+  pub attributes : SameValues s u (Attributes a)
+  pub entries : SameValues s u (Entries a)
+
+module _ (t : Table) (s u : List ℕ) (x y : ℕ) (environment : SameValues s u Environment) (sender : SameParty s u x) (receiver : SameParty s u y) where
+  party : (q : ℕ) → SameParty s u (partyOf t s x y q)
+  party q = cond-cases (SameParty s u) (eqb q 2) (λ e. receiver) (λ e. sender)
+
+  step-same : (value : ℕ → Value) (n : ℕ) → valueStep t s x y value n ≡ valueStep t u x y value n
+  unfolding valueStep
+  step-same value n =
+      let p = party (qAt t n) in
+      rw (p .attributes (pAt t n), p .entries (pAt t n), environment (pAt t n))
+
+  pub valueOf-same : (n : ℕ) → valueOf t s x y n ≡ valueOf t u x y n
+  valueOf-same n = below-ext (valueStep t s x y) (valueStep t u x y) Absent (t .sizes .nodes) (λ k l. step-same (valueBelow t s x y k) k) n
+
+  truth-same : (guard : ℕ → Truth) (n : ℕ) → truthStep t s x y guard n ≡ truthStep t u x y guard n
+  unfolding truthStep
+  truth-same guard n = rw (valueOf-same (pAt t n), valueOf-same (qAt t n))
+
+  pub holds-same : (n : ℕ) → holds t s x y n ≡ holds t u x y n
+  holds-same n = ap (λ (b : Truth). b .holds) (below-ext (truthStep t s x y) (truthStep t u x y) undefined (t .sizes .nodes) (λ k l. truth-same (truthBelow t s x y k) k) n)
+
+  -- so a link is judged alike while other agents change
+  pub link-same : (k : ℕ) → linkHolds t s k x y ≡ linkHolds t u k x y
+  link-same k = holds-same (linkAt t k)
+
+-- WORDS OF 32 BITS
+abbrev pub SmallValue : Value → Type 0
+SmallValue Absent = Unit {0}
+SmallValue (Present v) = v < 2 ^ 32
+
+in-range : (z : ℤ) → inRange z ≡ true → ofZ w32 z < 2 ^ 32
+in-range (pos n) e = let l = leb-true n 2147483647 (and-right (leZ (negsuc 2147483647) (pos n)) (leZ (pos n) (pos 2147483647)) e) in omega arith
+in-range (negsuc n) e = omega arith
+
+fit-small : (z : ℤ) → SmallValue (fit z)
+fit-small z = cond-cases SmallValue (inRange z) (in-range z) (λ e. tt)
+
+arithmetic-small : (kind : ℕ) (x y : ℤ) → SmallValue (arithmetic kind x y)
+arithmetic-small kind x y =
+    cond-cases SmallValue (eqb kind 36) (λ e. fit-small (x +ℤ y))
+    (λ e. cond-cases SmallValue (eqb kind 37) (λ f. fit-small (x -ℤ y))
+    (λ f. cond-cases SmallValue (eqb kind 38) (λ g. fit-small (x *ℤ y))
+    (λ g. cond-cases SmallValue (eqb kind 39) (λ h. divided (quotient x y))
+    (λ h. cond-cases SmallValue (eqb kind 40) (λ i. divided (remainder x y)) (λ i. tt)))))
+  where
+    divided : (z : ℤ) → SmallValue (cond (isZero y) Absent (fit z))
+    divided z = cond-cases SmallValue (isZero y) (λ e. tt) (λ e. fit-small z)
+
+operate-small : (kind : ℕ) (a b : Value) → SmallValue (operate kind a b)
+operate-small kind Absent b = tt
+operate-small kind (Present x) Absent = tt
+operate-small kind (Present x) (Present y) = arithmetic-small kind (signed x) (signed y)
+
+pub valueIn-small : (s : List ℕ) → Small s → (store : Store) (k : ℕ) → SmallValue (valueIn s store k)
+unfolding valueIn
+valueIn-small s small store k =
+    cond-cases SmallValue (ltb k keyLimit) (λ e. cond-cases SmallValue (eqb (markOf s store k) 0) (λ f. tt) (λ f. small _)) (λ e. tt)
+
+module _ (t : Table) (bytes : (i : ℕ) → getD (t .operands) i 0 < 256) (s : List ℕ) (small : Small s) (x y : ℕ) where
+  constant-small : (n : ℕ) → constantAt t n < 2 ^ 32
+  constant-small n = let i = 4 * n in omega (arith, bytes i, bytes (i + 1), bytes (i + 2), bytes (i + 2 + 1))
+
+  step-small : (lower : ℕ → Value) (n : ℕ) → SmallValue (valueStep t s x y lower n)
+  unfolding valueStep
+  step-small lower n =
+      cond-cases SmallValue (eqb (kindAt t n) 32) (λ e. constant-small n)
+      (λ e. cond-cases SmallValue (eqb (kindAt t n) 33) (λ f. valueIn-small s small (Attributes (partyOf t s x y (qAt t n))) (pAt t n))
+      (λ f. cond-cases SmallValue (eqb (kindAt t n) 34) (λ g. valueIn-small s small (Entries (partyOf t s x y (qAt t n))) (pAt t n))
+      (λ g. cond-cases SmallValue (eqb (kindAt t n) 35) (λ h. valueIn-small s small Environment (pAt t n))
+      (λ h. operate-small (kindAt t n) (lower (pAt t n)) (lower (qAt t n))))))
+
+  pub valueOf-small : (n : ℕ) → SmallValue (valueOf t s x y n)
+  valueOf-small n = below-induct (valueStep t s x y) Absent (λ k v. SmallValue v) (t .sizes .nodes) (λ k. tt) (λ k l r. step-small (valueBelow t s x y k) k) n

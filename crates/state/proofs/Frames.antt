@@ -1,0 +1,184 @@
+-- What is read after a change: at the changed place the new word, at any other the old one.
+-- Assumes nothing.
+use Prim.Native.Nat.{ℕ, _^_, _<_, _≤_}
+use mathlib.Core.Bool.{Bool, true, false, cond, not, _&&_, _||_}
+use mathlib.Core.Logic.{⊎-elim}
+use mathlib.Core.Path.{_≡_, refl, sym, ap, ap₂, _∙_}
+use mathlib.Core.List.{List}
+use native.Mathlib.Omega.{arith}
+use lib.Dec.{eqb, ltb}
+use lib.ListN.{length, getD, set, take, drop, length-set, length-take, length-drop}
+use lib.Seq.{set-out, getD-set-same, getD-set-other, ext-getD}
+use borrow.Author.Tests.{eqb-false, ne-eqb, ltb-true, ltb-false}
+use Rattle.basis.specs.KeySets.{has, plus, minus}
+use Rattle.basis.proofs.KeySets.{has-plus, has-minus, plus-small, minus-small}
+use Rattle.basis.proofs.Lists.{getD-set, getD-part}
+use Rattle.basis.proofs.Tests.{not-both, lt-or-le, same-or-other}
+use Rattle.value.specs.declared.Value.the-variants.{Absent, Present}
+use Rattle.term.specs.Acceptance.{stateWords}
+use Rattle.term.specs.Terms.{termOf}
+use Rattle.state.specs.declared.Store.{Store}
+use Rattle.state.specs.Layout.{keyLimit, residualWords, residualAt, markOf, wordOf, residualOf, termIn, valueIn, put, addKey, dropKey}
+use Rattle.state.proofs.Places.{Place, KeySet, Mark, Word, Waits, Length, Residual, placeAt, Inside, placeAgent, storeAgent, same, sameStore, same-self, same-not, settled, same-place, place-fits}
+
+abbrev pub wordAt : List ℕ → Place → ℕ
+wordAt s p = getD s (placeAt p) 0
+
+-- every word fits 32 bits
+abbrev pub Small : List ℕ → Type 0
+Small s = (i : ℕ) → getD s i 0 < 2 ^ 32
+
+-- two states have the same word at a place
+abbrev pub SameAt : List ℕ → List ℕ → Place → Type 0
+SameAt s u p = wordAt s p ≡ wordAt u p
+
+-- ONE WORD
+pub set-small : (s : List ℕ) (i v : ℕ) → Small s → v < 2 ^ 32 → Small (set s i v)
+set-small s i v small h j = ⊎-elim (λ (e : j ≡ i). at e) (λ (e : j ≡ i → ⊥). rw (getD-set-other s i j v 0 e) (small j)) (same-or-other j i)
+  where
+    at : j ≡ i → getD (set s i v) j 0 < 2 ^ 32
+    at e = ⊎-elim (λ (l : i < length s). rw (e, getD-set-same s i v 0 l) h) (λ (l : length s ≤ i). rw (set-out s i v l) (small j)) (lt-or-le i (length s))
+
+module _ (s : List ℕ) (p : Place) (v : ℕ) (inside : Inside p) where
+  pub set-other : (q : Place) → Inside q → same q p ≡ false → SameAt (set s (placeAt p) v) s q
+  set-other q h e = getD-set-other s (placeAt p) (placeAt q) v 0 (eqb-false (placeAt q) (placeAt p) (same-place q p h inside ∙ e))
+
+  -- a settled word, after a change of the clock or of a set of keys
+  pub set-settled : settled p ≡ false → (q : Place) → Inside q → settled q ≡ true → SameAt (set s (placeAt p) v) s q
+  set-settled e q h f = set-other q h (same-not q p (λ i. not-both f (ap settled i ∙ e)))
+
+  module _ (whole : length s ≡ stateWords) (there : placeAgent p < 32) where
+    pub set-word : (q : Place) → Inside q → wordAt (set s (placeAt p) v) q ≡ cond (same q p) v (wordAt s q)
+    set-word q h =
+        getD-set s (placeAt p) (placeAt q) v 0 (rw whole (place-fits p inside there))
+        ∙ ap (λ b. cond b v (wordAt s q)) (same-place q p h inside)
+
+    pub set-here : wordAt (set s (placeAt p) v) p ≡ v
+    set-here = getD-set-same s (placeAt p) v 0 (rw whole (place-fits p inside there))
+
+-- A PAIR of any store
+module _ (store : Store) (k v m : ℕ) (s : List ℕ) where
+  pub put-length : length (put store k v m s) ≡ length s
+  unfolding put
+  put-length = simp length-set
+
+  pub put-small : Small s → v < 2 ^ 32 → m < 2 ^ 32 → Small (put store k v m s)
+  unfolding put
+  put-small small h l = set-small (set s (placeAt (Word store k)) v) (placeAt (Mark store k)) m (set-small s (placeAt (Word store k)) v small h) l
+
+  module _ (key : k < keyLimit) where
+    pub put-other : (q : Place) → Inside q → same q (Mark store k) ≡ false → same q (Word store k) ≡ false → SameAt (put store k v m s) s q
+    unfolding put
+    put-other q h e f =
+        set-other (set s (placeAt (Word store k)) v) (Mark store k) m key q h e
+        ∙ set-other s (Word store k) v key q h f
+
+    module _ (whole : length s ≡ stateWords) (there : storeAgent store < 32) where
+      pub put-word : (q : Place) → Inside q
+          → wordAt (put store k v m s) q ≡ cond (same q (Mark store k)) m (cond (same q (Word store k)) v (wordAt s q))
+      unfolding put
+      put-word q h =
+          set-word (set s (placeAt (Word store k)) v) (Mark store k) m key (length-set s (placeAt (Word store k)) v ∙ whole) there q h
+          ∙ ap (λ w. cond (same q (Mark store k)) m w) (set-word s (Word store k) v key whole there q h)
+
+      pub put-mark : markOf (put store k v m s) store k ≡ m
+      put-mark = put-word (Mark store k) key ∙ rw (same-self (Mark store k))
+
+      pub put-value : wordOf (put store k v m s) store k ≡ v
+      put-value = put-word (Word store k) key ∙ rw (same-self (Word store k))
+
+      -- the value that it then has, and those of all other keys
+      pub put-valueIn : 0 < m → (other : Store) (j : ℕ) → valueIn (put store k v m s) other j ≡ cond (eqb j k && sameStore other store) (Present v) (valueIn s other j)
+      unfolding valueIn
+      put-valueIn pos other j = by (ltb j keyLimit) refl
+        where
+          pick : (b : Bool)
+              → cond (eqb (cond b m (markOf s other j)) 0) Absent (Present (cond b v (wordOf s other j)))
+              ≡ cond b (Present v) (cond (eqb (markOf s other j) 0) Absent (Present (wordOf s other j)))
+          pick true = rw (ne-eqb m 0 (omega arith))
+          pick false = refl
+
+          by : (b : Bool) → ltb j keyLimit ≡ b
+              → cond b (cond (eqb (markOf (put store k v m s) other j) 0) Absent (Present (wordOf (put store k v m s) other j))) Absent
+              ≡ cond (eqb j k && sameStore other store) (Present v) (cond b (cond (eqb (markOf s other j) 0) Absent (Present (wordOf s other j))) Absent)
+          by true e =
+              let l = ltb-true j keyLimit e in
+              rw (put-word (Mark other j) l, put-word (Word other j) l) (pick (eqb j k && sameStore other store))
+          by false e = let l = ltb-false j keyLimit e in rw (ne-eqb j k (omega arith))
+
+-- A SET OF KEYS, Zc or Zp of agent a
+module _ (z : KeySet) (a k : ℕ) (s : List ℕ) where
+  pub add-length : length (addKey (placeAt (Waits z a)) k s) ≡ length s
+  unfolding addKey
+  add-length = simp length-set
+
+  pub drop-length : length (dropKey (placeAt (Waits z a)) k s) ≡ length s
+  unfolding dropKey
+  drop-length = simp length-set
+
+  pub add-small : k < 32 → Small s → Small (addKey (placeAt (Waits z a)) k s)
+  unfolding addKey
+  add-small l small = set-small s (placeAt (Waits z a)) _ small (plus-small 32 (wordAt s (Waits z a)) k l (small (placeAt (Waits z a))))
+
+  pub drop-small : Small s → Small (dropKey (placeAt (Waits z a)) k s)
+  unfolding dropKey
+  drop-small small = set-small s (placeAt (Waits z a)) _ small (minus-small 32 (wordAt s (Waits z a)) k (small (placeAt (Waits z a))))
+
+  pub add-other : (q : Place) → Inside q → same q (Waits z a) ≡ false → SameAt (addKey (placeAt (Waits z a)) k s) s q
+  unfolding addKey
+  add-other q h e = set-other s (Waits z a) _ tt q h e
+
+  pub drop-other : (q : Place) → Inside q → same q (Waits z a) ≡ false → SameAt (dropKey (placeAt (Waits z a)) k s) s q
+  unfolding dropKey
+  drop-other q h e = set-other s (Waits z a) _ tt q h e
+
+  module _ (whole : length s ≡ stateWords) (there : a < 32) where
+    pub add-word : (q : Place) → Inside q → wordAt (addKey (placeAt (Waits z a)) k s) q ≡ cond (same q (Waits z a)) (plus (wordAt s (Waits z a)) k) (wordAt s q)
+    unfolding addKey
+    add-word q h = set-word s (Waits z a) _ tt whole there q h
+
+    pub drop-word : (q : Place) → Inside q → wordAt (dropKey (placeAt (Waits z a)) k s) q ≡ cond (same q (Waits z a)) (minus (wordAt s (Waits z a)) k) (wordAt s q)
+    unfolding dropKey
+    drop-word q h = set-word s (Waits z a) _ tt whole there q h
+
+    pub has-add : (j : ℕ) → has (wordAt (addKey (placeAt (Waits z a)) k s) (Waits z a)) j ≡ (eqb k j || has (wordAt s (Waits z a)) j)
+    has-add j = rw (add-word (Waits z a) tt, same-self (Waits z a)) (has-plus (wordAt s (Waits z a)) k j)
+
+    pub has-drop : (j : ℕ) → has (wordAt (dropKey (placeAt (Waits z a)) k s) (Waits z a)) j ≡ (not (eqb k j) && has (wordAt s (Waits z a)) j)
+    has-drop j = rw (drop-word (Waits z a) tt, same-self (Waits z a)) (has-minus (wordAt s (Waits z a)) k j)
+
+-- WHAT IS READ FROM SEVERAL WORDS is the same where they are
+module _ (s u : List ℕ) where
+  pub value-same : (store : Store) (k : ℕ) → (k < keyLimit → SameAt s u (Mark store k)) → (k < keyLimit → SameAt s u (Word store k)) → valueIn s store k ≡ valueIn u store k
+  unfolding valueIn
+  value-same store k f g = by (ltb k keyLimit) refl
+    where
+      by : (b : Bool) → ltb k keyLimit ≡ b
+          → cond b (cond (eqb (markOf s store k) 0) Absent (Present (wordOf s store k))) Absent
+          ≡ cond b (cond (eqb (markOf u store k) 0) Absent (Present (wordOf u store k))) Absent
+      by true e = rw (f (ltb-true k keyLimit e), g (ltb-true k keyLimit e))
+      by false e = refl
+
+  pub residual-same : (a : ℕ) → length s ≡ length u → ((i : ℕ) → i < residualWords → SameAt s u (Residual a i)) → residualOf s a ≡ residualOf u a
+  residual-same a e h =
+      let n = residualAt a in
+      let l : length (take residualWords (drop n s)) ≡ length (take residualWords (drop n u)) = simp (length-take, length-drop, e) in
+      ext-getD 0 (residualOf s a) (residualOf u a) l (λ i b. let c : i < residualWords = omega (arith, length-take residualWords (drop n s)) in
+      getD-part s n residualWords i 0 c ∙ h i c ∙ sym (getD-part u n residualWords i 0 c))
+
+  pub term-same : (a : ℕ) → length s ≡ length u → SameAt s u (Length a) → ((i : ℕ) → i < residualWords → SameAt s u (Residual a i)) → termIn s a ≡ termIn u a
+  term-same a e f h = ap₂ (λ (n : ℕ) (ws : List ℕ). termOf (take n ws)) f (residual-same a e h)
+
+-- so values and terms stay where the clock or a set of keys changes, and terms where a pair does
+module _ (s : List ℕ) (p : Place) (v : ℕ) (inside : Inside p) (loose : settled p ≡ false) where
+  pub set-valueIn : (store : Store) (k : ℕ) → valueIn (set s (placeAt p) v) store k ≡ valueIn s store k
+  set-valueIn store k =
+      value-same (set s (placeAt p) v) s store k (λ l. set-settled s p v inside loose (Mark store k) l refl) (λ l. set-settled s p v inside loose (Word store k) l refl)
+
+  pub set-termIn : (a : ℕ) → termIn (set s (placeAt p) v) a ≡ termIn s a
+  set-termIn a =
+      term-same (set s (placeAt p) v) s a (length-set s (placeAt p) v) (set-settled s p v inside loose (Length a) tt refl) (λ i l. set-settled s p v inside loose (Residual a i) l refl)
+
+pub put-termIn : (store : Store) (k v m : ℕ) (s : List ℕ) → k < keyLimit → (a : ℕ) → termIn (put store k v m s) a ≡ termIn s a
+put-termIn store k v m s key a =
+    term-same (put store k v m s) s a (put-length store k v m s) (put-other store k v m s key (Length a) tt refl refl) (λ i l. put-other store k v m s key (Residual a i) l refl refl)

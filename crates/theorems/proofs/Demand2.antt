@@ -1,0 +1,168 @@
+-- DEMAND 2: a step is done exactly when the rules and the limits allow it, and leaves what they give.
+-- Assumes nothing.
+use Prim.Native.Nat.{ℕ, zero, suc, _<_}
+use mathlib.Core.Bool.{true}
+use mathlib.Core.Logic.{_↔_}
+use mathlib.Core.Path.{_≡_, refl, sym, ap, subst, _∙_}
+use mathlib.Core.List.{List, []}
+use native.Mathlib.Omega.{arith}
+use lib.ListN.{length}
+use Rattle.basis.specs.KeySets.{has}
+use Rattle.basis.proofs.Lists.{nth-in, nth-is}
+use Rattle.table.specs.Checks.{passes, firstOf}
+use Rattle.table.specs.Tables.{Table, tableOf}
+use Rattle.table.specs.Sound.{Limits}
+use Rattle.term.specs.Accepted.{Accepted, Checked}
+use Rattle.term.specs.Processes.{Derivation, derivation, ticks}
+use Rattle.term.specs.Terms.{Idle}
+use Rattle.state.specs.declared.Store.{Store}
+use Rattle.state.specs.declared.Store.the-variants.{Environment, Attributes, Entries}
+use Rattle.state.specs.Layout.{keyLimit, stampOf, valueIn}
+use Rattle.state.proofs.Places.{KeySet, Zc, Zp, Waits}
+use Rattle.state.proofs.Frames.{wordAt}
+use Rattle.state.proofs.Formed.{WellFormed, Proper, There}
+use Rattle.state.proofs.Exact.{show-exact}
+use Rattle.machine.specs.Acts.{choices, chosen, acted}
+use Rattle.machine.specs.Steps.{Outcome, done, takenBy, after, ownChecks, stepOf}
+use Rattle.machine.proofs.Steps.{InRange, Done, act-able, state-checks, step-in, done-step, step-done}
+use Rattle.machine.proofs.Proper.{step-checked}
+use Rattle.machine.proofs.Steps.{propagates as may-propagate, confirms as may-confirm}
+use Rattle.labs.specs.Agents.{Agent, Interface, System}
+use Rattle.labs.specs.Expressions.{valueIn as valueOfEntry}
+use Rattle.labs.specs.Reading.{agentOf, systemOf}
+use Rattle.theorems.specs.Demand2.{Allowed, act, propagate, confirm, State, Same, Ready, Demand-2}
+use Rattle.theorems.proofs.Moves.{moves-listed}
+use Rattle.theorems.proofs.Expressions.{entry-value}
+use Rattle.theorems.proofs.Reading.{timeIn, entry-stamp}
+use Rattle.theorems.proofs.Ready.{state-proper, done-ready, load-ready}
+use Rattle.theorems.proofs.Acting.{act-exactly}
+use Rattle.theorems.proofs.Offers.{propagated-passed, confirmed-passed, passed-propagated, passed-confirmed}
+
+same-refl : {agents : ℕ} {S : System} → Same agents S S
+same-refl = record { environment-same = refl; clock-same = refl; agents-same = λ a l. refl }
+
+module _ (bytes s : List ℕ) (scratch : ℕ) (ready : Ready bytes s scratch) where
+  abbrev t : Table
+  t = tableOf bytes
+
+  abbrev A : ℕ
+  A = t .sizes .agents
+
+  accepted : Accepted bytes (length s) scratch
+  accepted = state-checks bytes s scratch .0 (ready .passed) .0
+
+  checked : Checked t
+  checked = accepted .table
+
+  limits : Limits (t .sizes)
+  limits = checked .sound .shaped .limits
+
+  formed : WellFormed t s
+  formed = state-proper t s limits .0 (ready .state) .formed
+
+  key : (k : ℕ) → k < t .sizes .stigmergy → k < keyLimit
+  key k l = omega (arith, limits .stigmergy)
+
+  pending : (z : KeySet) (x k : ℕ) → x < A → k < t .sizes .stigmergy → has (wordAt s (Waits z x)) k ≡ true → 0 < stampOf s x k
+  pending z x k l i h = formed .formed .sets z x l .entered k (key k i) h
+
+  -- A DONE STEP IS ALLOWED
+  after-allowed : (kind x number : ℕ) → Done bytes s scratch kind x number →
+      Allowed t (systemOf s) (systemOf (after t s kind x number)) kind x number (takenBy t s kind x number)
+  after-allowed zero x c d =
+      let a = act-able t s x c .0 (d .own) in
+      let e = nth-in (choices t s x) c (derivation ticks [] Idle) (a .there) in
+      let p = act-exactly t checked s (ready .state .whole) formed x (d .range .agent-below) c (chosen t s x c) e (systemOf (after t s zero x c)) .1 (a, same-refl) in
+      act (p .0) e (p .1) (p .2) (p .3)
+  after-allowed (suc zero) x k d =
+      let l = d .range .key-below (omega arith) in
+      let h = may-propagate t s x k .0 (d .own) in
+      propagate l (propagated-passed t s x k A (ready .state .whole) (limits .agents) (d .range .agent-below) (key k l) (pending Zp x k (d .range .agent-below) l h) h)
+  after-allowed (suc (suc zero)) x k d =
+      let l = d .range .key-below (omega arith) in
+      let h = may-confirm t s x k .0 (d .own) in
+      confirm l (confirmed-passed t s x k A (ready .state .whole) (limits .agents) (d .range .agent-below) (key k l) (pending Zc x k (d .range .agent-below) l h) h)
+  after-allowed (suc (suc (suc kind))) x k d = absurd (omega (arith, d .range .kind-below))
+
+  allowed : (s′ : List ℕ) (kind x number taken : ℕ) → stepOf bytes s scratch kind x number ≡ done taken s′ → Allowed t (systemOf s) (systemOf s′) kind x number taken
+  allowed s′ kind x number taken e =
+      let d = done-step bytes s scratch kind x number (ap (λ (o : Outcome). o .check) e) in
+      let f : done (takenBy t s kind x number) (after t s kind x number) ≡ done taken s′ = sym (step-done bytes s scratch kind x number d) ∙ e in
+      subst (λ (o : Outcome). Allowed t (systemOf s) (systemOf (o .state)) kind x number (o .taken)) f (after-allowed kind x number d)
+
+  -- AND WHAT IS ALLOWED IS DONE
+  abbrev Made : ℕ → ℕ → ℕ → ℕ → System → Type 0
+  Made kind x number taken S′ = (s′ : List ℕ) × (stepOf bytes s scratch kind x number ≡ done taken s′) × Same A S′ (systemOf s′)
+
+  made : (kind x number taken : ℕ) (S′ : System) → InRange t kind x number → firstOf (ownChecks t s kind x number) ≡ passes →
+      taken ≡ takenBy t s kind x number → Same A S′ (systemOf (after t s kind x number)) → Made kind x number taken S′
+  made kind x number taken S′ r o e h = (
+    after t s kind x number,
+    step-done bytes s scratch kind x number (record { accepted = accepted; formed = ready .state .formed; range = r; own = o })
+        ∙ ap (λ (n : ℕ). done n (after t s kind x number)) (sym e),
+    h,
+  )
+
+  in-range : (kind x k : ℕ) → kind < 3 → x < A → k < t .sizes .stigmergy → InRange t kind x k
+  in-range kind x k l h i = record { kind-below = l; agent-below = h; key-below = λ p. i }
+
+  every : (kind x number taken : ℕ) (S′ : System) → Allowed t (systemOf s) S′ kind x number taken → Made kind x number taken S′
+  every kind x number taken S′ (act {d = d} a e few clock short) =
+      let w = act-exactly t checked s (ready .state .whole) formed x (a .there) number d e S′ .0 (a, few, clock, short) in
+      let i : d ≡ chosen t s x number = sym (nth-is (choices t s x) number (derivation ticks [] Idle) d e .1) in
+      made 0 x number taken S′ (record { kind-below = omega arith; agent-below = a .there; key-below = λ h. absurd (omega arith) }) (act-able t s x number .1 (w .0)) refl
+      (subst (λ (o : Derivation). Same A S′ (systemOf (acted t s x o))) i (w .1))
+  every kind x k taken S′ (propagate l p) =
+      let w = passed-propagated t s x k A (ready .state .whole) (limits .agents) (key k l) (pending Zp x k (p .there) l) p in
+      made 1 x k taken S′ (in-range 1 x k (omega arith) (p .there) l) (may-propagate t s x k .1 (w .0)) (w .1) (w .2)
+  every kind x k taken S′ (confirm l p) =
+      let w = passed-confirmed t s x k A (ready .state .whole) (limits .agents) (key k l) (pending Zc x k (p .there) l) p in
+      made 2 x k taken S′ (in-range 2 x k (omega arith) (p .there) l) (may-confirm t s x k .1 (w .0)) (w .1) (w .2)
+
+  -- ONE STATE FOR A SYSTEM
+  module _ (u v : List ℕ) (first : State t u) (second : State t v) (same : Same A (systemOf u) (systemOf v)) where
+    agent : (a : ℕ) → a < A → agentOf u a ≡ agentOf v a
+    agent a l = same .agents-same a l
+
+    values : (store : Store) → There t store → (k : ℕ) → valueIn u store k ≡ valueIn v store k
+    values Environment h k = ap (λ (E : Interface). E k) (same .environment-same)
+    values (Attributes a) h k = ap (λ (b : Agent). b .I k) (agent a h)
+    values (Entries a) h k = sym (entry-value u a k) ∙ ap (λ (b : Agent). valueOfEntry (b .L k)) (agent a h) ∙ entry-value v a k
+
+    sets : (z : KeySet) (a : ℕ) → a < A → (k : ℕ) → has (wordAt u (Waits z a)) k ≡ has (wordAt v (Waits z a)) k
+    sets Zc a l k = ap (λ (b : Agent). b .Zc k) (agent a l)
+    sets Zp a l k = ap (λ (b : Agent). b .Zp k) (agent a l)
+
+    one : u ≡ v
+    one = show-exact t u v (state-proper t u limits .0 first .formed) (state-proper t v limits .0 second .formed)
+        (record {
+          clock = same .clock-same;
+          values = λ store h k l. values store h k;
+          stamps = λ a h k l. sym (entry-stamp u a k l) ∙ ap (λ (b : Agent). timeIn (b .L k)) (agent a h) ∙ entry-stamp v a k l;
+          sets = λ z a h k l. sets z a h k;
+          terms = λ a h. ap (λ (b : Agent). b .P) (agent a h);
+        }) (first .whole) (second .whole)
+
+  -- A DONE STEP LEAVES A WELL-FORMED STATE
+  kept : (s′ : List ℕ) (kind x number taken : ℕ) → stepOf bytes s scratch kind x number ≡ done taken s′ → State t s′
+  kept s′ kind x number taken e =
+      let f = ap (λ (o : Outcome). o .state) (sym (step-in bytes s scratch kind x number (ready .passed)) ∙ e) in
+      state-proper t s′ limits .1 (subst (Proper t) f (step-checked bytes (ready .small) s (ready .state .narrow) scratch (ready .passed) kind x number))
+
+  exactly : (s′ : List ℕ) (kind x number taken : ℕ) →
+      (stepOf bytes s scratch kind x number ≡ done taken s′) ↔ (State t s′ × Allowed t (systemOf s) (systemOf s′) kind x number taken)
+  exactly s′ kind x number taken = (
+    λ e. (kept s′ kind x number taken e, allowed s′ kind x number taken e),
+    λ h. let w = every kind x number taken (systemOf s′) (h .1) in
+        w .1 ∙ ap (done taken) (sym (one s′ (w .0) (h .0) (kept (w .0) kind x number taken (w .1)) (w .2))),
+  )
+
+pub demand-2 : Demand-2
+demand-2 = record {
+  ready = done-ready;
+  loads = load-ready;
+  exactly = λ bytes s s′ scratch kind x number taken r. exactly bytes s scratch r s′ kind x number taken;
+  every = λ bytes s scratch kind x number taken r S′ h. every bytes s scratch r kind x number taken S′ h;
+  one = λ bytes s s′ scratch r state same. one bytes s scratch r s s′ (r .state) state same;
+  transitions = λ bytes s scratch x r l d. moves-listed (tableOf bytes) (checked bytes s scratch r) (agentOf s x .P) d;
+}

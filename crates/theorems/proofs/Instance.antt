@@ -1,0 +1,112 @@
+-- DEMAND 2 IS ABOUT SOMETHING: a table that is accepted, its loaded state, steps of each kind that are done and allowed, and one that is neither.
+-- Assumes nothing.
+use Prim.Native.Nat.{ℕ, _<_, _≤_}
+use mathlib.Core.Bool.{true}
+use mathlib.Core.Logic.{⊎-elim}
+use mathlib.Core.Path.{_≡_, refl, sym, ap, _∙_}
+use mathlib.Core.List.{List, [], _∷_}
+use native.Mathlib.Omega.{arith}
+use lib.Dec.{ltb}
+use lib.ListN.{length, getD, List·getD-eq-default}
+use borrow.Author.Tests.{ltb-true}
+use Rattle.basis.specs.Below.{below}
+use Rattle.basis.specs.Numbers.{some, every, lowest, howMany, forEach}
+use Rattle.basis.specs.KeySets.{has, plus, minus, plusAll}
+use Rattle.basis.proofs.Numbers.{every-at}
+use Rattle.basis.proofs.Tests.{lt-or-le}
+use Rattle.table.specs.Checks.{firstOf, passes, refuses}
+use Rattle.table.specs.Tables.{tableOf, withinLimits}
+use Rattle.table.specs.Nodes.{processRows, guardRows, expressionRows, lookup, fieldsHere, fits, fitting, named, namesAgain, badNode}
+use Rattle.table.specs.Reach.{reachStep, reachedFrom, wrongKey}
+use Rattle.term.specs.Terms.{words, termsOf, areTerms}
+use Rattle.term.specs.Processes.{keep, joins, derivations, nodeStep, nodeWith, defined, nodeProcess, process, allFew}
+use Rattle.term.specs.Exposure.{canTick, callsBelow}
+use Rattle.term.specs.Acceptance.{stateWords}
+use Rattle.state.specs.Layout.{valueIn, put, addKey, dropKey}
+use Rattle.state.specs.Evaluation.{valueStep, truthStep, readsStep}
+use Rattle.state.specs.WellFormed.{allZero, pairFormed, pendingFormed, residualFormed, agentFormed, wellFormed, loaded}
+use Rattle.machine.specs.Acts.{leave, setKey, acted}
+use Rattle.machine.specs.Offers.{takeEntry, hears, takes, answers, offer}
+use Rattle.machine.specs.Steps.{Outcome, done, outcome, tableChecks, stepIn, stepOf}
+use Rattle.labs.specs.Agents.{System}
+use Rattle.labs.specs.Reading.{systemOf}
+use Rattle.theorems.specs.Demand2.{Allowed, Bytes, Ready}
+use Rattle.theorems.proofs.Ready.{state-ready, loaded-ready}
+use Rattle.theorems.proofs.Demand2.{demand-2}
+
+-- the table that the paper gives for labs_show: sizes 8, 0, 2, 1, 1, 0; kinds; operands
+abbrev pub fleet : List ℕ
+fleet =
+    8 ∷ 0 ∷ 0 ∷ 0 ∷ 2 ∷ 0 ∷ 1 ∷ 0 ∷ 1 ∷ 0 ∷ 0 ∷ 0
+    ∷ 32 ∷ 3 ∷ 34 ∷ 2 ∷ 16 ∷ 64 ∷ 64 ∷ 64
+    ∷ 7 ∷ 0 ∷ 0 ∷ 0 ∷ 0 ∷ 0 ∷ 0 ∷ 0 ∷ 0 ∷ 0 ∷ 0 ∷ 0 ∷ 0 ∷ 0 ∷ 2 ∷ 0
+    ∷ 0 ∷ 0 ∷ 0 ∷ 0 ∷ 4 ∷ 0 ∷ 0 ∷ 0 ∷ 1 ∷ 0 ∷ 0 ∷ 0 ∷ 3 ∷ 0 ∷ 0 ∷ 0 ∷ []
+
+abbrev pub stepped : List ℕ → ℕ → ℕ → ℕ → Outcome
+stepped s kind x number = stepOf fleet s 16 kind x number
+
+-- loaded; agent 0 writes, and propagates; agent 1 propagates, copies the entry to its attribute, and confirms
+abbrev pub s₀ : List ℕ
+s₀ = loaded (tableOf fleet)
+
+abbrev pub s₁ : List ℕ
+s₁ = stepped s₀ 0 0 0 .state
+
+abbrev pub s₂ : List ℕ
+s₂ = stepped s₁ 1 0 0 .state
+
+abbrev pub s₃ : List ℕ
+s₃ = stepped s₂ 1 1 0 .state
+
+abbrev pub s₄ : List ℕ
+s₄ = stepped s₃ 0 1 0 .state
+
+abbrev pub s₅ : List ℕ
+s₅ = stepped s₄ 2 1 0 .state
+
+-- by computing
+table-passes : firstOf (tableChecks fleet stateWords 16) ≡ passes
+unfolding below some lowest firstOf withinLimits processRows guardRows expressionRows lookup fieldsHere fits fitting named namesAgain badNode reachStep reachedFrom wrongKey keep joins derivations nodeStep nodeWith defined nodeProcess canTick callsBelow
+table-passes = refl
+
+steps-come : (stepped s₀ 0 0 0 ≡ done 0 s₁) × (stepped s₁ 1 0 0 ≡ done 1 s₂) × (stepped s₂ 1 1 0 ≡ done 0 s₃) × (stepped s₃ 0 1 0 ≡ done 0 s₄) × (stepped s₄ 2 1 0 ≡ done 0 s₅)
+    × (stepped s₀ 0 1 0 .check ≡ refuses 15 0)
+unfolding below some every lowest howMany forEach has plus minus plusAll firstOf withinLimits processRows guardRows expressionRows lookup fieldsHere fits fitting named namesAgain badNode reachStep reachedFrom wrongKey words termsOf areTerms keep joins derivations nodeStep nodeWith defined nodeProcess process allFew canTick callsBelow valueIn put addKey dropKey valueStep truthStep readsStep allZero pairFormed pendingFormed residualFormed agentFormed wellFormed loaded leave setKey acted takeEntry hears takes answers offer outcome stepIn stepOf
+steps-come = (refl, refl, refl, refl, refl, refl)
+
+small-bytes : (l : List ℕ) → every (λ (i : ℕ). ltb (getD l i 0) 256) (length l) ≡ true → Bytes l
+small-bytes l e i =
+    ⊎-elim (λ (h : i < length l). ltb-true (getD l i 0) 256 (every-at (λ (i : ℕ). ltb (getD l i 0) 256) (length l) e i h))
+    (λ (h : length l ≤ i). rw (List·getD-eq-default l 0 h) (omega arith)) (lt-or-le i (length l))
+
+fleet-small : Bytes fleet
+unfolding every
+fleet-small = small-bytes fleet refl
+
+-- a done step is allowed, and leaves a state that is ready again
+goes : (s s′ : List ℕ) (kind x number taken : ℕ) → Ready fleet s 16 → stepped s kind x number ≡ done taken s′ →
+    Ready fleet s′ 16 × Allowed (tableOf fleet) (systemOf s) (systemOf s′) kind x number taken
+goes s s′ kind x number taken r e =
+    let w = demand-2 .exactly fleet s s′ 16 kind x number taken r .0 e in
+    (state-ready fleet fleet-small 16 table-passes s′ (w .0), w .1)
+
+pub fleet-ready : Ready fleet s₀ 16
+fleet-ready = loaded-ready fleet fleet-small 16 table-passes
+
+pub fleet-steps : Allowed (tableOf fleet) (systemOf s₀) (systemOf s₁) 0 0 0 0 × Allowed (tableOf fleet) (systemOf s₁) (systemOf s₂) 1 0 0 1
+    × Allowed (tableOf fleet) (systemOf s₂) (systemOf s₃) 1 1 0 0 × Allowed (tableOf fleet) (systemOf s₃) (systemOf s₄) 0 1 0 0
+    × Allowed (tableOf fleet) (systemOf s₄) (systemOf s₅) 2 1 0 0
+fleet-steps =
+    let g₁ = goes s₀ s₁ 0 0 0 0 fleet-ready (steps-come .0) in
+    let g₂ = goes s₁ s₂ 1 0 0 1 (g₁ .0) (steps-come .1) in
+    let g₃ = goes s₂ s₃ 1 1 0 0 (g₂ .0) (steps-come .2) in
+    let g₄ = goes s₃ s₄ 0 1 0 0 (g₃ .0) (steps-come .3) in
+    let g₅ = goes s₄ s₅ 2 1 0 0 (g₄ .0) (steps-come .4) in
+    (g₁ .1, g₂ .1, g₃ .1, g₄ .1, g₅ .1)
+
+-- agent 1 has nothing to copy yet: no rule allows its act, whatever system it would leave
+pub fleet-refuses : (S′ : System) (taken : ℕ) → Allowed (tableOf fleet) (systemOf s₀) S′ 0 1 0 taken → ⊥
+fleet-refuses S′ taken h =
+    let w = demand-2 .every fleet s₀ 16 0 1 0 taken fleet-ready S′ h in
+    let e : passes ≡ refuses 15 0 = sym (ap (λ (o : Outcome). o .check) (w .1)) ∙ steps-come .5 in
+    let z : _≡_ {A = ℕ} 0 1 = cc in omega arith

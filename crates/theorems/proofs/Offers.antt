@@ -1,0 +1,210 @@
+-- TABLE 8 on a state's words: propagate and confirm stand for the message that every other agent hears, and for no other system;
+-- the machine's takers are the agents that take the entry.
+-- Assumes nothing.
+use Prim.Native.Nat.{ℕ, _<_, _≤_}
+use mathlib.Core.Bool.{Bool, true, false, cond, _&&_}
+use mathlib.Core.Logic.{_↔_}
+use mathlib.Core.Option.{Option, none, some}
+use mathlib.Core.Path.{_≡_, refl, sym, ap, subst, _∙_, fun-ext}
+use mathlib.Core.List.{List}
+use native.Mathlib.Omega.{arith}
+use lib.ListN.{length}
+use borrow.Author.Tests.{ltb-true, lt-ltb, eq-eqb, ne-eqb}
+use Rattle.basis.specs.Numbers.{howMany}
+use Rattle.basis.specs.KeySets.{has}
+use Rattle.basis.proofs.Tests.{not-both, and-left, and-right, and-both}
+use Rattle.table.specs.Tables.{Table}
+use Rattle.term.specs.Acceptance.{stateWords}
+use Rattle.state.specs.declared.Store.the-variants.{Environment, Entries}
+use Rattle.state.specs.Layout.{keyLimit, clockOf, zcAt, zpAt, wordOf, stampOf, zcOf, zpOf, addKey, dropKey}
+use Rattle.state.specs.Layout.{put as putPair}
+use Rattle.state.specs.Evaluation.{linkHolds}
+use Rattle.state.proofs.Places.{Place, KeySet, Zc, Zp, Clock, Mark, Word, Waits, placeAt, placeKind, Inside, same-not, other-agent}
+use Rattle.state.proofs.Frames.{SameAt, put-length, drop-length, drop-other, value-same}
+use Rattle.machine.specs.Offers.{takeEntry, hears, takes, answers, offer, offered, takers, propagated, confirmed}
+use Rattle.machine.proofs.Offers.{offer-length, offered-length, offered-other, offered-turn}
+use Rattle.labs.specs.Agents.{⟨_⸴_⸴_⸴_⸴_⟩, Agent, Entry, System, _⟦_≔_⟧, _∪｛_｝, _∖｛_｝, Inserted}
+use Rattle.labs.specs.Systems.{Kind, put, qry, Message, message, Sends, PROPAGATE, CONFIRM, Older, Newer, Linked, Hears, PUT, QRY₁, QRY₂, STAY, Passed}
+use Rattle.labs.specs.Reading.{agentOf, systemOf}
+use Rattle.theorems.specs.Demand2.{Same}
+use Rattle.theorems.proofs.Expressions.{link-holds}
+use Rattle.theorems.proofs.Reading.{entry, timeIn, entry-present, entry-stamp, agent-same, put-agent, with, add-zp-agent, drop-zp-agent, drop-zc-agent}
+use Rattle.theorems.proofs.Passing.{inserted, sends-zp, sends-zc, passed-unique, passed-count}
+
+-- older and newer, by the stamp
+older-time : (o : Option Entry) (n : ℕ) → 0 < n → Older o n ↔ (timeIn o < n)
+older-time none n pos = (λ h. pos, λ h. tt)
+older-time (some e) n pos = (λ h. h, λ h. h)
+
+newer-time : (o : Option Entry) (n : ℕ) → Newer o n ↔ (n < timeIn o)
+newer-time none n = (λ h. absurd h, λ h. omega arith)
+newer-time (some e) n = (λ h. h, λ h. h)
+
+abbrev sentKind : Bool → Kind
+sentKind asks = cond asks qry put
+
+asking : (asks : Bool) → sentKind asks ≡ qry → asks ≡ true
+asking true e = refl
+asking false e = let z : _≡_ {A = ℕ} 0 1 = cc in absurd (omega arith)
+
+-- an agent that takes the entry
+abbrev took : ℕ → Entry → Agent → Agent
+took k e a = ⟨ a .I ⸴ a .L ⟦ k ≔ some e ⟧ ⸴ a .P ⸴ a .Zc ∖｛ k ｝ ⸴ a .Zp ∪｛ k ｝ ⟩
+
+took-agent : (k v m y : ℕ) (s : List ℕ) → k < keyLimit → length s ≡ stateWords → y < 32 → 0 < m → agentOf (takeEntry k v m y s) y ≡ took k (entry v m) (agentOf s y)
+unfolding takeEntry
+took-agent k v m y s key whole there pos =
+    let p : length (putPair (Entries y) k v m s) ≡ stateWords = put-length (Entries y) k v m s ∙ whole in
+    add-zp-agent y k (dropKey (zcAt y) k (putPair (Entries y) k v m s)) (drop-length Zc y k (putPair (Entries y) k v m s) ∙ p) there
+    ∙ ap (λ (a : Agent). with Zp a (a .Zp ∪｛ k ｝))
+    (drop-zc-agent y k (putPair (Entries y) k v m s) p there
+    ∙ ap (λ (a : Agent). with Zc a (a .Zc ∖｛ k ｝)) (put-agent y k v m s key whole there pos))
+
+module _ (t : Table) (was : List ℕ) (x k agents : ℕ) (whole : length was ≡ stateWords) (few : agents ≤ 32) (there : x < agents) (key : k < keyLimit) (entered : 0 < stampOf was x k) where
+  abbrev mine : Entry
+  mine = entry (wordOf was (Entries x) k) (stampOf was x k)
+
+  abbrev said : Kind → Message
+  said kind = message kind (agentOf was x) k mine
+
+  takes-self : takes t was x k x ≡ false
+  unfolding takes hears
+  takes-self = rw (eq-eqb x x refl)
+
+  module _ (asks : Bool) where
+    abbrev spread : List ℕ
+    spread = offered t was x k asks agents
+
+    spread-whole : length spread ≡ stateWords
+    spread-whole = offered-length t was x k asks agents ∙ whole
+
+    sender-same : agentOf spread x ≡ agentOf was x
+    sender-same = agent-same spread was x (offered-length t was x k asks agents) (λ p i pos e. offered-other t was x k asks key agents p i (λ y l d o. absurd (d (sym o ∙ e))))
+
+    -- AN AGENT THAT HEARS
+    module _ (y : ℕ) (below : y < agents) (other : y ≡ x → ⊥) where
+      abbrev now : List ℕ
+      now = offered t was x k asks y
+
+      now-whole : length now ≡ stateWords
+      now-whole = offered-length t was x k asks y ∙ whole
+
+      before : agentOf now y ≡ agentOf was y
+      before = agent-same now was y (offered-length t was x k asks y) (λ p i pos e. offered-other t was x k asks key y p i (λ z l d o. absurd (omega arith)))
+
+      turned : agentOf spread y ≡ agentOf (offer t was x k asks y now) y
+      turned = agent-same spread (offer t was x k asks y now) y (spread-whole ∙ sym (offer-length t was x k asks y now ∙ now-whole))
+          (λ p i pos e. offered-turn t was x k asks key agents y below p i e)
+
+      abbrev Result : Bool → Agent → Type 0
+      Result b a = Hears t (systemOf was .E) (said (sentKind asks)) (agentOf was y) b a
+
+      heard : hears t was x k y ≡ linkHolds t was k x y
+      unfolding hears
+      heard = rw (ne-eqb x y (λ (e : x ≡ y). other (sym e)))
+
+      linked : hears t was x k y ≡ true → Linked t (systemOf was .E) (said (sentKind asks)) (agentOf was y)
+      linked e = link-holds t was x y k .0 (sym heard ∙ e)
+
+      of-linked : Linked t (systemOf was .E) (said (sentKind asks)) (agentOf was y) → hears t was x k y ≡ true
+      of-linked h = heard ∙ link-holds t was x y k .1 h
+
+      held : timeIn (agentOf was y .L k) ≡ stampOf was y k
+      held = entry-stamp was y k key
+
+      older : Older (agentOf was y .L k) (stampOf was x k) ↔ (timeIn (agentOf was y .L k) < stampOf was x k)
+      older = older-time (agentOf was y .L k) (stampOf was x k) entered
+
+      newer : Newer (agentOf was y .L k) (stampOf was x k) ↔ (stampOf was x k < timeIn (agentOf was y .L k))
+      newer = newer-time (agentOf was y .L k) (stampOf was x k)
+
+      taking : (b : Bool) → stampOf was y k < stampOf was x k → hears t was x k y ≡ true → Hears t (systemOf was .E) (said (sentKind b)) (agentOf was y) true (took k mine (agentOf was y))
+      taking b l e = by b
+        where
+          is-inserted : Inserted (agentOf was y .L) k mine (agentOf was y .L ⟦ k ≔ some mine ⟧)
+          is-inserted = inserted (agentOf was y .L) k mine (λ f i. omega (arith, sym (ap timeIn i) ∙ held))
+
+          by : (b : Bool) → Hears t (systemOf was .E) (said (sentKind b)) (agentOf was y) true (took k mine (agentOf was y))
+          by true = QRY₁ refl (linked e) (older .1 (omega (arith, held))) is-inserted
+          by false = PUT refl (linked e) (older .1 (omega (arith, held))) is-inserted
+
+      by-offer : (b : Bool) → takes t was x k y ≡ b → (c : Bool) → (asks && answers t was x k y) ≡ c →
+          Result b (agentOf (cond b (takeEntry k (wordOf was (Entries x) k) (stampOf was x k) y now) (cond c (addKey (zpAt y) k now) now)) y)
+      unfolding takes answers
+      by-offer true e c f =
+          subst (Result true) (sym (took-agent k (wordOf was (Entries x) k) (stampOf was x k) y now key now-whole (omega arith) entered ∙ ap (took k mine) before))
+          (taking asks (ltb-true (stampOf was y k) (stampOf was x k) (and-right (hears t was x k y) _ e)) (and-left (hears t was x k y) _ e))
+      by-offer false e true f =
+          let a = and-right asks _ f in
+          subst (Result false) (sym (add-zp-agent y k now now-whole (omega arith) ∙ ap (λ (a : Agent). with Zp a (a .Zp ∪｛ k ｝)) before))
+          (QRY₂ (ap sentKind (and-left asks _ f)) (linked (and-left (hears t was x k y) _ a))
+          (newer .1 (omega (arith, held, ltb-true (stampOf was x k) (stampOf was y k) (and-right (hears t was x k y) _ a)))))
+      by-offer false e false f = subst (Result false) (sym before) (STAY
+          (λ h o. not-both (and-both (hears t was x k y) _ (of-linked h) (lt-ltb (stampOf was y k) (stampOf was x k) (omega (arith, held, older .0 o)))) e)
+          (λ q h o. not-both (and-both asks _ (asking asks q) (and-both (hears t was x k y) _ (of-linked h)
+          (lt-ltb (stampOf was x k) (stampOf was y k) (omega (arith, held, newer .0 o))))) f))
+
+      heard-by : (z : KeySet) → Result (takes t was x k y) (agentOf (dropKey (placeAt (Waits z x)) k spread) y)
+      unfolding offer
+      heard-by z = subst (λ (a : Agent). Result (takes t was x k y) a) (sym (drop-away z ∙ turned)) (by-offer (takes t was x k y) refl (asks && answers t was x k y) refl)
+        where
+          drop-away : (z : KeySet) → agentOf (dropKey (placeAt (Waits z x)) k spread) y ≡ agentOf spread y
+          drop-away z = agent-same (dropKey (placeAt (Waits z x)) k spread) spread y (drop-length z x k spread)
+              (λ p i pos e. drop-other z x k spread p i (other-agent p (Waits z x) (λ (o : _). other (sym e ∙ o))))
+
+  -- THE STEPS
+  module _ (z : KeySet) (asks : Bool) where
+    abbrev after : List ℕ
+    after = dropKey (placeAt (Waits z x)) k (spread asks)
+
+    -- what is everyone's
+    stays : (p : Place) → Inside p → placeKind p ≡ 0 → SameAt after was p
+    stays p i e = drop-other z x k (spread asks) p i (same-not p (Waits z x) (λ (o : p ≡ Waits z x). omega (arith, ap placeKind o))) ∙ offered-other t was x k asks key agents p i (λ y l d o. e)
+
+    environment-stays : systemOf after .E ≡ systemOf was .E
+    environment-stays = fun-ext λ j. value-same after was Environment j (λ i. stays (Mark Environment j) i refl) (λ i. stays (Word Environment j) i refl)
+
+    clock-stays : clockOf after ≡ clockOf was
+    clock-stays = stays Clock tt refl
+
+  pub propagated-passed : has (zpOf was x) k ≡ true → Passed t agents x put k (takes t was x k) (systemOf was) (systemOf (propagated t was x k agents))
+  propagated-passed h = record {
+    there = there;
+    entry = mine;
+    sends = subst (λ (a : Agent). Sends (agentOf was x) (said put) a)
+        (sym (drop-zp-agent x k (spread false) (spread-whole false) (omega arith) ∙ ap (λ (a : Agent). with Zp a (a .Zp ∖｛ k ｝)) (sender-same false)))
+        (PROPAGATE h (entry-present was x k key entered));
+    itself = takes-self;
+    hears = λ y l d. heard-by false y l d Zp;
+    environment-stays = environment-stays Zp false;
+    clock-stays = clock-stays Zp false;
+  }
+
+  pub confirmed-passed : has (zcOf was x) k ≡ true → Passed t agents x qry k (takes t was x k) (systemOf was) (systemOf (confirmed t was x k agents))
+  confirmed-passed h = record {
+    there = there;
+    entry = mine;
+    sends = subst (λ (a : Agent). Sends (agentOf was x) (said qry) a)
+        (sym (drop-zc-agent x k (spread true) (spread-whole true) (omega arith) ∙ ap (λ (a : Agent). with Zc a (a .Zc ∖｛ k ｝)) (sender-same true)))
+        (CONFIRM h (entry-present was x k key entered));
+    itself = takes-self;
+    hears = λ y l d. heard-by true y l d Zc;
+    environment-stays = environment-stays Zc true;
+    clock-stays = clock-stays Zc true;
+  }
+
+-- THE THEOREMS: the rules give the step on words and no other, and the same number of takers. `pending` is what a well-formed state has
+module _ (t : Table) (was : List ℕ) (x k agents : ℕ) (whole : length was ≡ stateWords) (few : agents ≤ 32) (key : k < keyLimit) {taking : ℕ → Bool} {S′ : System} where
+  pub passed-propagated : (pending : has (zpOf was x) k ≡ true → 0 < stampOf was x k) → Passed t agents x put k taking (systemOf was) S′ →
+      (has (zpOf was x) k ≡ true) × (howMany taking agents ≡ takers t was x k agents) × Same agents S′ (systemOf (propagated t was x k agents))
+  passed-propagated pending p =
+      let h = sends-zp (p .sends) refl in
+      let q = propagated-passed t was x k agents whole few (p .there) key (pending h) h in
+      (h, passed-count p q, passed-unique p q)
+
+  pub passed-confirmed : (pending : has (zcOf was x) k ≡ true → 0 < stampOf was x k) → Passed t agents x qry k taking (systemOf was) S′ →
+      (has (zcOf was x) k ≡ true) × (howMany taking agents ≡ takers t was x k agents) × Same agents S′ (systemOf (confirmed t was x k agents))
+  passed-confirmed pending p =
+      let h = sends-zc (p .sends) refl in
+      let q = confirmed-passed t was x k agents whole few (p .there) key (pending h) h in
+      (h, passed-count p q, passed-unique p q)

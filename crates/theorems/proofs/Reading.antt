@@ -1,0 +1,146 @@
+-- The agents that a state's words stand for, after a change of the words.
+-- Assumes nothing.
+use Prim.Native.Nat.{ℕ, zero, suc, _<_}
+use mathlib.Core.Bool.{Bool, true, false, cond, and-false}
+use mathlib.Core.Logic.{_⊎_, ⊎-elim}
+use mathlib.Core.Option.{Option, none, some}
+use mathlib.Core.Path.{_≡_, refl, sym, ap, _∙_, fun-ext}
+use mathlib.Core.List.{List}
+use native.Mathlib.Omega.{arith}
+use lib.Dec.{eqb, ltb}
+use lib.ListN.{length}
+use borrow.Author.Tests.{ltb-true, lt-ltb, ne-eqb, eq-eqb}
+use Rattle.basis.specs.KeySets.{has}
+use Rattle.basis.proofs.Tests.{same-or-other}
+use Rattle.term.specs.Acceptance.{stateWords}
+use Rattle.term.specs.Terms.{Term}
+use Rattle.state.specs.declared.Store.the-variants.{Attributes, Entries}
+use Rattle.state.specs.Layout.{keyLimit, wordOf, stampOf, zcAt, zpAt, put, addKey, dropKey}
+use Rattle.state.proofs.Places.{Place, KeySet, Zc, Zp, Mark, Word, Waits, Length, Residual, Inside, placeKind, placeAgent, same}
+use Rattle.state.proofs.Frames.{wordAt, SameAt, value-same, term-same, put-length, put-other, put-mark, put-value, put-valueIn, add-length, add-other, has-add, drop-length, drop-other, has-drop}
+use Rattle.labs.specs.Agents.{⟨_⸴_⸴_⸴_⸴_⟩, Agent, Entry, Interface, Stigmergy, Keys, _⟦_≔_⟧, _∪｛_｝, _∖｛_｝}
+use Rattle.labs.specs.Reading.{entryOf, agentOf}
+
+pub tuple : {I I′ : Interface} {L L′ : Stigmergy} {P P′ : Term} {C C′ Q Q′ : Keys} → I ≡ I′ → L ≡ L′ → P ≡ P′ → C ≡ C′ → Q ≡ Q′ →
+    ⟨ I ⸴ L ⸴ P ⸴ C ⸴ Q ⟩ ≡ ⟨ I′ ⸴ L′ ⸴ P′ ⸴ C′ ⸴ Q′ ⟩
+tuple p q r u v = cc
+
+abbrev pub entry : ℕ → ℕ → Entry
+entry v time = record { value = v; time = time }
+
+-- an entry of this value and stamp; a stamp of 0 is none
+abbrev pub stamped : ℕ → ℕ → Option Entry
+stamped v stamp = cond (eqb stamp 0) none (some (entry v stamp))
+
+-- its stamp
+abbrev pub timeIn : Option Entry → ℕ
+timeIn none = 0
+timeIn (some e) = e .time
+
+module _ (s : List ℕ) (a k : ℕ) where
+  pub entry-read : k < keyLimit → entryOf s a k ≡ stamped (wordOf s (Entries a) k) (stampOf s a k)
+  entry-read l = rw (lt-ltb k keyLimit l)
+
+  pub entry-present : k < keyLimit → 0 < stampOf s a k → entryOf s a k ≡ some (entry (wordOf s (Entries a) k) (stampOf s a k))
+  entry-present l h = entry-read l ∙ rw (ne-eqb (stampOf s a k) 0 (omega arith))
+
+  pub entry-stamp : k < keyLimit → timeIn (entryOf s a k) ≡ stampOf s a k
+  entry-stamp l = ap timeIn (entry-read l) ∙ by (stampOf s a k)
+    where
+      by : (m : ℕ) → timeIn (stamped (wordOf s (Entries a) k) m) ≡ m
+      by zero = refl
+      by (suc m) = rw (ne-eqb (suc m) 0 (omega arith))
+
+-- EACH PART IS READ OFF ITS OWN WORDS
+module _ (s u : List ℕ) (a : ℕ) where
+  pub I-same : ((k : ℕ) → k < keyLimit → SameAt s u (Mark (Attributes a) k)) → ((k : ℕ) → k < keyLimit → SameAt s u (Word (Attributes a) k)) → agentOf s a .I ≡ agentOf u a .I
+  I-same f g = fun-ext λ k. value-same s u (Attributes a) k (f k) (g k)
+
+  pub entry-same : (k : ℕ) → (k < keyLimit → SameAt s u (Mark (Entries a) k)) → (k < keyLimit → SameAt s u (Word (Entries a) k)) → entryOf s a k ≡ entryOf u a k
+  entry-same k f g = by (ltb k keyLimit) refl
+    where
+      by : (b : Bool) → ltb k keyLimit ≡ b →
+          cond {A = Option Entry} b (stamped (wordOf s (Entries a) k) (stampOf s a k)) none ≡ cond {A = Option Entry} b (stamped (wordOf u (Entries a) k) (stampOf u a k)) none
+      by true e = rw (f (ltb-true k keyLimit e), g (ltb-true k keyLimit e))
+      by false e = refl
+
+  pub L-same : ((k : ℕ) → k < keyLimit → SameAt s u (Mark (Entries a) k)) → ((k : ℕ) → k < keyLimit → SameAt s u (Word (Entries a) k)) → agentOf s a .L ≡ agentOf u a .L
+  L-same f g = fun-ext λ k. entry-same k (f k) (g k)
+
+  pub Zc-same : SameAt s u (Waits Zc a) → agentOf s a .Zc ≡ agentOf u a .Zc
+  Zc-same e = ap (λ (w : ℕ). λ (x : ℕ). has w x) e
+
+  pub Zp-same : SameAt s u (Waits Zp a) → agentOf s a .Zp ≡ agentOf u a .Zp
+  Zp-same e = ap (λ (w : ℕ). λ (x : ℕ). has w x) e
+
+  -- an agent whose words are the same is the same
+  pub agent-same : length s ≡ length u → ((p : Place) → Inside p → 0 < placeKind p → placeAgent p ≡ a → SameAt s u p) → agentOf s a ≡ agentOf u a
+  agent-same e h = tuple
+      (I-same (λ k l. h (Mark (Attributes a) k) l (omega arith) refl) (λ k l. h (Word (Attributes a) k) l (omega arith) refl))
+      (L-same (λ k l. h (Mark (Entries a) k) l (omega arith) refl) (λ k l. h (Word (Entries a) k) l (omega arith) refl))
+      (term-same s u a e (h (Length a) tt (omega arith) refl) (λ i l. h (Residual a i) l (omega arith) refl))
+      (Zc-same (h (Waits Zc a) tt (omega arith) refl)) (Zp-same (h (Waits Zp a) tt (omega arith) refl))
+
+-- AN ENTRY IS PUT
+module _ (a k v m : ℕ) (s : List ℕ) (key : k < keyLimit) (whole : length s ≡ stateWords) (there : a < 32) (pos : 0 < m) where
+  abbrev after : List ℕ
+  after = put (Entries a) k v m s
+
+  put-L : (j : ℕ) → entryOf after a j ≡ cond (eqb k j) (some (entry v m)) (entryOf s a j)
+  put-L j = ⊎-elim here elsewhere (same-or-other k j)
+    where
+      here : k ≡ j → entryOf after a j ≡ cond (eqb k j) (some (entry v m)) (entryOf s a j)
+      here e = rw (← e, eq-eqb k k refl)
+          (entry-read after a k key ∙ rw (put-mark (Entries a) k v m s key whole there, put-value (Entries a) k v m s key whole there, ne-eqb m 0 (omega arith)))
+
+      elsewhere : (k ≡ j → ⊥) → entryOf after a j ≡ cond (eqb k j) (some (entry v m)) (entryOf s a j)
+      elsewhere d =
+          let e = ne-eqb j k (λ (h : j ≡ k). d (sym h)) in
+          rw (ne-eqb k j d) (entry-same after s a j
+          (λ l. put-other (Entries a) k v m s key (Mark (Entries a) j) l (rw e) refl)
+          (λ l. put-other (Entries a) k v m s key (Word (Entries a) j) l refl (rw e)))
+
+  pub put-agent : agentOf after a ≡ ⟨ agentOf s a .I ⸴ agentOf s a .L ⟦ k ≔ some (entry v m) ⟧ ⸴ agentOf s a .P ⸴ agentOf s a .Zc ⸴ agentOf s a .Zp ⟩
+  put-agent = tuple
+      (fun-ext λ j. put-valueIn (Entries a) k v m s key whole there pos (Attributes a) j ∙ rw and-false)
+      (fun-ext λ j. put-L j)
+      (term-same after s a (put-length (Entries a) k v m s) (put-other (Entries a) k v m s key (Length a) tt refl refl)
+      (λ i l. put-other (Entries a) k v m s key (Residual a i) l refl refl))
+      (Zc-same after s a (put-other (Entries a) k v m s key (Waits Zc a) tt refl refl))
+      (Zp-same after s a (put-other (Entries a) k v m s key (Waits Zp a) tt refl refl))
+
+-- A SET OF KEYS IS CHANGED
+abbrev pub with : KeySet → Agent → Keys → Agent
+with Zc b Z = ⟨ b .I ⸴ b .L ⸴ b .P ⸴ Z ⸴ b .Zp ⟩
+with Zp b Z = ⟨ b .I ⸴ b .L ⸴ b .P ⸴ b .Zc ⸴ Z ⟩
+
+module _ (u s : List ℕ) (a : ℕ) (e : length u ≡ length s) where
+  pub waits-agent : (z : KeySet) → ((q : Place) → Inside q → same q (Waits z a) ≡ false → SameAt u s q) →
+      agentOf u a ≡ with z (agentOf s a) (λ j. has (wordAt u (Waits z a)) j)
+  waits-agent Zc other = tuple
+      (I-same u s a (λ j l. other (Mark (Attributes a) j) l refl) (λ j l. other (Word (Attributes a) j) l refl))
+      (L-same u s a (λ j l. other (Mark (Entries a) j) l refl) (λ j l. other (Word (Entries a) j) l refl))
+      (term-same u s a e (other (Length a) tt refl) (λ i l. other (Residual a i) l refl))
+      refl (Zp-same u s a (other (Waits Zp a) tt refl))
+  waits-agent Zp other = tuple
+      (I-same u s a (λ j l. other (Mark (Attributes a) j) l refl) (λ j l. other (Word (Attributes a) j) l refl))
+      (L-same u s a (λ j l. other (Mark (Entries a) j) l refl) (λ j l. other (Word (Entries a) j) l refl))
+      (term-same u s a e (other (Length a) tt refl) (λ i l. other (Residual a i) l refl))
+      (Zc-same u s a (other (Waits Zc a) tt refl)) refl
+
+-- a key is added or dropped
+module _ (a k : ℕ) (s : List ℕ) (whole : length s ≡ stateWords) (there : a < 32) where
+  pub add-zp-agent : agentOf (addKey (zpAt a) k s) a ≡ with Zp (agentOf s a) (agentOf s a .Zp ∪｛ k ｝)
+  add-zp-agent =
+      waits-agent (addKey (zpAt a) k s) s a (add-length Zp a k s) Zp (add-other Zp a k s)
+      ∙ ap (with Zp (agentOf s a)) (fun-ext λ j. has-add Zp a k s whole there j)
+
+  pub drop-zp-agent : agentOf (dropKey (zpAt a) k s) a ≡ with Zp (agentOf s a) (agentOf s a .Zp ∖｛ k ｝)
+  drop-zp-agent =
+      waits-agent (dropKey (zpAt a) k s) s a (drop-length Zp a k s) Zp (drop-other Zp a k s)
+      ∙ ap (with Zp (agentOf s a)) (fun-ext λ j. has-drop Zp a k s whole there j)
+
+  pub drop-zc-agent : agentOf (dropKey (zcAt a) k s) a ≡ with Zc (agentOf s a) (agentOf s a .Zc ∖｛ k ｝)
+  drop-zc-agent =
+      waits-agent (dropKey (zcAt a) k s) s a (drop-length Zc a k s) Zc (drop-other Zc a k s)
+      ∙ ap (with Zc (agentOf s a)) (fun-ext λ j. has-drop Zc a k s whole there j)

@@ -1,0 +1,35 @@
+-- What a rehearsal comes to, as numbers: to compare the definitions with the second implementation by computing both.
+use Prim.Native.Nat.{ℕ, suc, _*_}
+use mathlib.Core.Bool.{cond}
+use mathlib.Core.Path.{_≡_}
+use mathlib.Core.List.{List, [], _∷_, _++_, map}
+use lib.Dec.{eqb}
+use lib.ListN.{replicate}
+use Rattle.table.specs.Checks.{numberOf, placeOf}
+use Rattle.table.specs.Tables.{sizesOf}
+use Rattle.term.specs.Acceptance.{stateWords}
+use Rattle.machine.specs.Steps.{Outcome, loadOf}
+use Rattle.machine.specs.Runs.{Rehearsal, stepsOf, runOf}
+use Rattle.theorems.specs.Cases.{Case, cases}
+
+-- the place and the word of each word that is not 0, counted from i
+unfoldable pub wordsFrom : ℕ → List ℕ → List ℕ
+wordsFrom i [] = []
+wordsFrom i (w ∷ ws) = cond (eqb w 0) (wordsFrom (suc i) ws) (i ∷ w ∷ wordsFrom (suc i) ws)
+
+-- load's refusal and place, run's refusal and place, done, refused, taken, the answer bytes, and the state's words that are not 0
+abbrev pub summary : Outcome → Rehearsal → List ℕ
+summary l r =
+    numberOf (l .check) ∷ placeOf (l .check) ∷ numberOf (r .check) ∷ placeOf (r .check)
+    ∷ r .progress .done ∷ r .progress .refused ∷ r .progress .taken ∷ (r .progress .answers ++ wordsFrom 0 (r .progress .state))
+
+-- load on words of 0, then run, with just enough scratch and an answer buffer of 0
+abbrev pub rehearsed : List ℕ → List ℕ → List ℕ
+rehearsed bytes schedule =
+    let scratch = 2 * sizesOf bytes .nodes in
+    let l = loadOf bytes (replicate stateWords 0) scratch in
+    summary l (runOf bytes (l .state) scratch schedule (replicate (stepsOf schedule) 0))
+
+-- every case, computed from the definitions, gives what the second implementation gave
+abbrev pub AllAgree : Type 0
+AllAgree = map (λ (c : Case). rehearsed (c .table) (c .schedule)) cases ≡ map (λ (c : Case). c .given) cases

@@ -1,0 +1,179 @@
+//! The history of writes, made without the lent state, and the four points of
+//! demand 3 along a list of steps.
+
+use std::collections::{BTreeMap, BTreeSet};
+
+use crate::machine::open;
+use crate::refusal::{Answer, Reason};
+use crate::state::{World, STATE_WORDS};
+use crate::step::Step;
+use crate::syntax::{Key, Store};
+use crate::table::Fleet;
+use crate::value::Scene;
+
+/// A stigmergy write.
+#[derive(Clone, Copy, Debug, PartialEq, Eq)]
+pub struct Write {
+    pub agent: u16,
+    pub key: Key,
+    pub value: i32,
+    pub stamp: u32,
+}
+
+/// The writes since load, from the table and the steps' arguments alone.
+pub struct History {
+    fleet: Fleet,
+    world: World,
+    pub writes: Vec<Write>,
+}
+
+impl History {
+    pub fn after_load(table: &[u8]) -> Answer<History> {
+        let fleet = open(table, STATE_WORDS, usize::MAX)?;
+        let world = World::start(&fleet);
+        Ok(History {
+            fleet,
+            world,
+            writes: Vec::new(),
+        })
+    }
+
+    pub fn fleet(&self) -> &Fleet {
+        &self.fleet
+    }
+
+    /// The next step with the length of its scratch; says what it answers.
+    pub fn note(&mut self, scratch_words: usize, step: Step) -> Answer<u32> {
+        if scratch_words < 2 * self.fleet.sizes.nodes {
+            return Err(Reason::Room.into());
+        }
+        let write = self.write_of(step);
+        let answer = self.world.step(&self.fleet, step);
+        if answer.is_ok() {
+            self.writes.extend(write);
+        }
+        answer
+    }
+
+    /// The write that the step adds if it is done.
+    fn write_of(&self, step: Step) -> Option<Write> {
+        let who = usize::from(step.agent);
+        if step.kind != 0 || who >= self.fleet.sizes.agents {
+            return None;
+        }
+        let derivation = self.world.chosen(&self.fleet, who, step.number).ok()?;
+        let action = derivation.action.filter(|a| a.store == Store::Stigmergy)?;
+        let scene = Scene::Agent(&self.world.agents[who], &self.world.environment);
+        Some(Write {
+            agent: step.agent,
+            key: action.key,
+            value: action.value.value(scene)?,
+            stamp: self.writes.len() as u32 + 1,
+        })
+    }
+}
+
+/// Watches a list of steps on a lent state and checks demand 3 after each.
+pub struct Watch {
+    pub history: History,
+    /// The highest stamp seen so far of (agent, key).
+    stamps: BTreeMap<(usize, Key), u32>,
+    /// The links (key, sender, receiver) that held before every step so far.
+    linked: BTreeSet<(Key, usize, usize)>,
+    /// How often point (iv) said something: a sender newer than a receiver.
+    pub newer: usize,
+}
+
+impl Watch {
+    pub fn after_load(table: &[u8]) -> Answer<Watch> {
+        let history = History::after_load(table)?;
+        let agents = history.fleet.sizes.agents;
+        let mut linked = BTreeSet::new();
+        for key in 0..history.fleet.sizes.stigmergy as Key {
+            for sender in 0..agents {
+                let others = (0..agents).filter(|&other| other != sender);
+                linked.extend(others.map(|receiver| (key, sender, receiver)));
+            }
+        }
+        Ok(Watch {
+            history,
+            stamps: BTreeMap::new(),
+            linked,
+            newer: 0,
+        })
+    }
+
+    /// To be called with the lent state before each step.
+    pub fn before(&mut self, lent: &World) {
+        let fleet = &self.history.fleet;
+        self.linked
+            .retain(|&(key, sender, receiver)| lent.linked(fleet, key, sender, receiver));
+    }
+
+    /// To be called with the lent state after each step, and once after load.
+    pub fn after(&mut self, lent: &World) -> Result<(), String> {
+        self.entries_are_writes(lent)?;
+        self.equal_stamps_agree(lent)?;
+        self.stamps_never_fall(lent)?;
+        self.newer_waits(lent)
+    }
+
+    /// (i) An entry with stamp n has the key and value of write n.
+    pub fn entries_are_writes(&self, lent: &World) -> Result<(), String> {
+        for (i, agent) in lent.agents.iter().enumerate() {
+            for (&key, entry) in &agent.entries {
+                let write = self.history.writes.get(entry.stamp as usize - 1);
+                let same = write.is_some_and(|w| {
+                    w.key == key && w.value == entry.value && w.stamp == entry.stamp
+                });
+                if !same {
+                    return Err(format!("agent {i} key {key}: {entry:?} but {write:?}"));
+                }
+            }
+        }
+        Ok(())
+    }
+
+    /// (ii) Equal stamps for a key mean equal values.
+    pub fn equal_stamps_agree(&self, lent: &World) -> Result<(), String> {
+        let mut values = BTreeMap::new();
+        for agent in &lent.agents {
+            for (&key, entry) in &agent.entries {
+                let value = *values.entry((key, entry.stamp)).or_insert(entry.value);
+                if value != entry.value {
+                    return Err(format!("key {key} stamp {}: two values", entry.stamp));
+                }
+            }
+        }
+        Ok(())
+    }
+
+    /// (iii) An agent's stamp for a key never falls.
+    pub fn stamps_never_fall(&mut self, lent: &World) -> Result<(), String> {
+        for (i, agent) in lent.agents.iter().enumerate() {
+            for key in 0..self.history.fleet.sizes.stigmergy as Key {
+                let stamp = agent.stamp(key);
+                let last = self.stamps.insert((i, key), stamp).unwrap_or(0);
+                if stamp < last {
+                    return Err(format!("agent {i} key {key}: from {last} to {stamp}"));
+                }
+            }
+        }
+        Ok(())
+    }
+
+    /// (iv) Along a link that held before every step, a key whose entry is
+    /// newer at the sender waits there to be propagated.
+    pub fn newer_waits(&mut self, lent: &World) -> Result<(), String> {
+        for &(key, sender, receiver) in &self.linked {
+            let (from, to) = (&lent.agents[sender], &lent.agents[receiver]);
+            if from.stamp(key) > to.stamp(key) {
+                self.newer += 1;
+                if !from.to_propagate.contains(&key) {
+                    return Err(format!("key {key} from {sender} to {receiver}: not in Zp"));
+                }
+            }
+        }
+        Ok(())
+    }
+}

@@ -1,0 +1,125 @@
+//! The programs `show`, `example`, `cases`, `answer`, `describe`, `stats` and `equations`.
+
+use std::fs;
+use std::io::{self, BufWriter, Read, Write};
+use std::process::ExitCode;
+
+use reference::cases::read_all;
+use reference::describe::describe;
+use reference::equations::equations;
+use reference::generate::{case, edges};
+use reference::show::show;
+use reference::stats::Stats;
+use reference::{on_deep_stack, schedule};
+
+const USAGE: &str = "\
+usage: reference show                      table and schedule on standard input
+       reference example                   writes the input of the paper's example
+       reference cases SEED COUNT [FILE]   writes inputs; expected lines to FILE
+       reference cases --expected SEED COUNT   writes the expected lines
+       reference answer                    cases on standard input, lines out
+       reference describe SEED INDEX       one case in words
+       reference stats SEED COUNT          how often each answer occurs
+       reference equations SEED            small rehearsals, as definitions to compute
+--small, with cases, describe and stats: at most 24 nodes";
+
+fn main() -> ExitCode {
+    let arguments: Vec<String> = std::env::args().skip(1).collect();
+    on_deep_stack(move || match command(arguments) {
+        Ok(()) => ExitCode::SUCCESS,
+        Err(error) if error.kind() == io::ErrorKind::BrokenPipe => ExitCode::SUCCESS,
+        Err(error) => {
+            eprintln!("{error}");
+            ExitCode::FAILURE
+        }
+    })
+}
+
+fn command(mut arguments: Vec<String>) -> io::Result<()> {
+    let small = take_flag(&mut arguments, "--small");
+    let expected = take_flag(&mut arguments, "--expected");
+    let words: Vec<&str> = arguments.iter().map(String::as_str).collect();
+    match words[..] {
+        ["show"] => print(show(&input()?).as_bytes()),
+        ["example"] => {
+            let mut bytes = edges::example().bytes();
+            bytes.extend(schedule::write(&edges::example_steps()));
+            print(&bytes)
+        }
+        ["cases", seed, count] if expected => {
+            write_lines(number(seed)?, number(count)?, small, io::stdout().lock())
+        }
+        ["cases", seed, count] => write_cases(number(seed)?, number(count)?, small),
+        ["cases", seed, count, file] if !expected => {
+            let (seed, count) = (number(seed)?, number(count)?);
+            write_cases(seed, count, small)?;
+            write_lines(seed, count, small, fs::File::create(file)?)
+        }
+        ["answer"] => {
+            let cases = read_all(&input()?).ok_or_else(|| fault("not a stream of cases"))?;
+            let mut out = BufWriter::new(io::stdout().lock());
+            for case in cases {
+                out.write_all(case.outcome().line().as_bytes())?;
+            }
+            out.flush()
+        }
+        ["describe", seed, index] => {
+            let case = case(number(seed)?, number(index)?, small);
+            print(describe(&case).as_bytes())
+        }
+        ["stats", seed, count] => {
+            let (seed, count) = (number(seed)?, number(count)?);
+            let mut stats = Stats::default();
+            for index in 0..count {
+                stats.add(&case(seed, index, small));
+            }
+            print(stats.to_string().as_bytes())
+        }
+        ["equations", seed] => print(equations(number(seed)?).as_bytes()),
+        _ => Err(fault(USAGE)),
+    }
+}
+
+fn take_flag(arguments: &mut Vec<String>, flag: &str) -> bool {
+    let before = arguments.len();
+    arguments.retain(|argument| argument != flag);
+    arguments.len() < before
+}
+
+fn fault(message: &str) -> io::Error {
+    io::Error::other(message)
+}
+
+fn number(word: &str) -> io::Result<u64> {
+    word.parse().map_err(|_| fault(USAGE))
+}
+
+fn input() -> io::Result<Vec<u8>> {
+    let mut bytes = Vec::new();
+    io::stdin().lock().read_to_end(&mut bytes)?;
+    Ok(bytes)
+}
+
+fn print(bytes: &[u8]) -> io::Result<()> {
+    let mut out = io::stdout().lock();
+    out.write_all(bytes)?;
+    out.flush()
+}
+
+fn write_cases(seed: u64, count: u64, small: bool) -> io::Result<()> {
+    let size = u32::try_from(count).map_err(|_| fault("too many cases"))?;
+    let mut out = BufWriter::new(io::stdout().lock());
+    out.write_all(&size.to_le_bytes())?;
+    for index in 0..count {
+        case(seed, index, small).write(&mut out)?;
+    }
+    out.flush()
+}
+
+fn write_lines(seed: u64, count: u64, small: bool, out: impl Write) -> io::Result<()> {
+    let mut out = BufWriter::new(out);
+    for index in 0..count {
+        out.write_all(case(seed, index, small).outcome().line().as_bytes())?;
+    }
+    out.flush()
+}

@@ -1,0 +1,101 @@
+//! Answers: what a call returns, and how it is packed into one number.
+
+/// Why a call was refused. The numbers are those of the paper's table.
+#[derive(Clone, Copy, Debug, PartialEq, Eq, PartialOrd, Ord, Hash)]
+#[repr(u8)]
+pub enum Reason {
+    TableShort = 1,
+    SizeOutsideLimits = 2,
+    TableLength = 3,
+    BadNode = 4,
+    WrongParty = 5,
+    ExposedCall = 6,
+    NodeDerivations = 7,
+    Room = 8,
+    StateNotWellFormed = 9,
+    StepOutOfRange = 10,
+    KeysPending = 11,
+    ResidualDerivations = 12,
+    NoSuchChoice = 13,
+    GuardFails = 14,
+    ExpressionAbsent = 15,
+    ClockAtEnd = 16,
+    ResidualTooLong = 17,
+    KeyNotInSet = 18,
+    ScheduleLength = 19,
+    AnswersShort = 20,
+}
+
+/// How many refusals there are; they count from 1.
+pub const REASONS: usize = 20;
+
+impl Reason {
+    pub fn number(self) -> u8 {
+        self as u8
+    }
+}
+
+/// A refusal with its place: a node, a definition, or 0.
+#[derive(Clone, Copy, Debug, PartialEq, Eq, Hash)]
+pub struct Refusal {
+    pub reason: Reason,
+    pub place: u16,
+}
+
+impl Refusal {
+    pub fn at(reason: Reason, place: u16) -> Refusal {
+        Refusal { reason, place }
+    }
+}
+
+impl From<Reason> for Refusal {
+    fn from(reason: Reason) -> Refusal {
+        Refusal { reason, place: 0 }
+    }
+}
+
+pub type Answer<T> = Result<T, Refusal>;
+
+/// What a run that is not refused returns.
+#[derive(Clone, Copy, Debug, Default, PartialEq, Eq)]
+pub struct Totals {
+    pub done: u32,
+    pub refused: u32,
+    pub taken: u32,
+}
+
+/// What a done call reports, as one number.
+pub trait Report {
+    fn number(&self) -> u64;
+}
+
+/// Load reports 0.
+impl Report for () {
+    fn number(&self) -> u64 {
+        0
+    }
+}
+
+/// A step reports how many agents took the entry.
+impl Report for u32 {
+    fn number(&self) -> u64 {
+        u64::from(*self)
+    }
+}
+
+impl Report for Totals {
+    fn number(&self) -> u64 {
+        u64::from(self.done) + (u64::from(self.refused) << 16) + (u64::from(self.taken) << 32)
+    }
+}
+
+/// The answer as the C interface gives it: a report, or
+/// 2^63 + 65,536 x place + refusal.
+pub fn pack<T: Report>(answer: &Answer<T>) -> u64 {
+    match answer {
+        Ok(report) => report.number(),
+        Err(refusal) => {
+            (1 << 63) + (u64::from(refusal.place) << 16) + u64::from(refusal.reason.number())
+        }
+    }
+}

@@ -1,0 +1,238 @@
+//! The four points of demand 3 along random lists of steps, against a history
+//! that is made without the lent state.
+
+mod common;
+
+use common::*;
+use reference::draft::Draft;
+use reference::generate::edges;
+use reference::generate::fleets::{accepted, Scale};
+use reference::generate::schedules::{any, enabled};
+use reference::history::{Watch, Write};
+use reference::machine::step;
+use reference::rng::Rng;
+use reference::state::{Entry, World};
+use reference::step::Step;
+
+/// What a list of steps came to.
+#[derive(Default)]
+struct Seen {
+    done: usize,
+    refused: usize,
+    taken: usize,
+    writes: usize,
+    newer: usize,
+}
+
+/// Does random steps on a lent state and watches them.
+fn watch(rng: &mut Rng, table: &[u8], length: usize, seen: &mut Seen) {
+    let fleet = fleet(table);
+    let mut lent = start(table);
+    let mut watch = Watch::after_load(table).expect("the table is accepted");
+    watch.after(&World::decode(&lent, &fleet).unwrap()).unwrap();
+    for _ in 0..length {
+        let before = World::decode(&lent, &fleet).expect("the state is well formed");
+        let next = match enabled(rng, &fleet, &before) {
+            Some(step) if rng.chance(85) => step,
+            None if rng.chance(30) => break,
+            _ => any(rng, &fleet),
+        };
+        let scratch = if rng.chance(5) {
+            rng.below(2 * fleet.sizes.nodes)
+        } else {
+            SCRATCH
+        };
+        watch.before(&before);
+        let answer = step(
+            table,
+            &mut lent,
+            scratch,
+            next.kind,
+            next.agent,
+            next.number,
+        );
+        // The history says the same of the step, without the lent state.
+        assert_eq!(watch.history.note(scratch, next), answer);
+        let after = World::decode(&lent, &fleet).expect("the state is well formed");
+        watch.after(&after).unwrap();
+        assert_eq!(after.clock as usize, watch.history.writes.len());
+        match answer {
+            Ok(taken) => {
+                seen.done += 1;
+                seen.taken += taken as usize;
+            }
+            Err(_) => {
+                seen.refused += 1;
+                assert_eq!(before, after);
+            }
+        }
+    }
+    seen.writes += watch.history.writes.len();
+    seen.newer += watch.newer;
+}
+
+#[test]
+fn holds_along_random_lists() {
+    let rng = &mut Rng::new(11);
+    let mut seen = Seen::default();
+    for round in 0..400 {
+        let scale = match round % 13 {
+            0 => Scale::Large,
+            1..=4 => Scale::Small,
+            _ => Scale::Middle,
+        };
+        let (table, _) = accepted(rng, scale);
+        let length = rng.below(80);
+        watch(rng, &table, length, &mut seen);
+    }
+    // The lists did something.
+    assert!(
+        seen.done > 2_000 && seen.refused > 500,
+        "{} {}",
+        seen.done,
+        seen.refused
+    );
+    assert!(
+        seen.writes > 300 && seen.taken > 300,
+        "{} {}",
+        seen.writes,
+        seen.taken
+    );
+    assert!(seen.newer > 300, "{}", seen.newer);
+}
+
+#[test]
+fn holds_where_all_write() {
+    // Four agents write two keys for ever, each from what it reads; the links
+    // are true, or lead to higher values of an attribute that changes too.
+    let mut draft = Draft::new(1, 1);
+    let mut bodies = Vec::new();
+    for key in 0..2 {
+        let (read, one) = (draft.stigmergy(key, 0), draft.constant(1));
+        let next = draft.binary(0, read, one);
+        let add = draft.set_stigmergy(key, next);
+        let seven = draft.constant(7);
+        let first = draft.set_stigmergy(key, seven);
+        bodies.push(draft.choice(add, first));
+    }
+    let read = draft.stigmergy(0, 0);
+    bodies.push(draft.set_attribute(0, read));
+    let mut all = bodies[0];
+    for &body in &bodies[1..] {
+        all = draft.choice(all, body);
+    }
+    let again = draft.call(0);
+    let loop_of = draft.sequence(all, again);
+    draft.define(loop_of);
+    let truth = draft.truth();
+    let (s, r) = (draft.attribute(0, 1), draft.attribute(0, 2));
+    let higher = draft.less(s, r);
+    let unlike = draft.not(higher);
+    draft.link(truth);
+    draft.link(unlike);
+    draft.agents = vec![loop_of; 4];
+    let table = draft.bytes();
+    let rng = &mut Rng::new(12);
+    let mut seen = Seen::default();
+    for _ in 0..30 {
+        watch(rng, &table, 200, &mut seen);
+    }
+    assert!(
+        seen.writes > 1_000 && seen.taken > 1_000,
+        "{} {}",
+        seen.writes,
+        seen.taken
+    );
+    assert!(seen.newer > 3_000, "{}", seen.newer);
+}
+
+#[test]
+fn the_empty_list_has_no_writes() {
+    let table = edges::example().bytes();
+    let mut watch = Watch::after_load(&table).unwrap();
+    assert!(watch.history.writes.is_empty());
+    assert_eq!(watch.after(&world(&table, &start(&table))), Ok(()));
+}
+
+/// The example after the first write, and its watch.
+fn after_a_write() -> (World, Watch) {
+    let table = edges::example().bytes();
+    let mut lent = start(&table);
+    let mut watch = Watch::after_load(&table).unwrap();
+    for next in [Step::act(1, 0), Step::act(0, 0)] {
+        watch.before(&world(&table, &lent));
+        let answer = do_step(&table, &mut lent, next);
+        assert_eq!(watch.history.note(SCRATCH, next), answer);
+        assert_eq!(watch.after(&world(&table, &lent)), Ok(()));
+    }
+    let wanted = Write {
+        agent: 0,
+        key: 0,
+        value: 7,
+        stamp: 1,
+    };
+    assert_eq!(watch.history.writes, [wanted]);
+    (world(&table, &lent), watch)
+}
+
+#[test]
+fn each_point_can_fail() {
+    let entry = |value, stamp| Entry { value, stamp };
+    let (sound, mut watch) = after_a_write();
+    assert_eq!(watch.after(&sound), Ok(()));
+    // (i) another value, or a stamp that was never taken.
+    for wrong in [entry(8, 1), entry(7, 2)] {
+        let (mut bad, watch) = after_a_write();
+        bad.agents[0].entries.insert(0, wrong);
+        assert!(watch.entries_are_writes(&bad).is_err());
+    }
+    // (ii) the other agent has another value under the same stamp.
+    let (mut bad, watch) = after_a_write();
+    bad.agents[1].entries.insert(0, entry(8, 1));
+    assert!(watch.equal_stamps_agree(&bad).is_err());
+    bad.agents[1].entries.insert(0, entry(8, 2));
+    assert!(watch.equal_stamps_agree(&bad).is_ok());
+    // (iii) the entry is lost.
+    let (mut bad, mut watch) = after_a_write();
+    bad.agents[0].entries.clear();
+    assert!(watch.stamps_never_fall(&bad).is_err());
+    // (iv) the newer entry no longer waits.
+    let (mut bad, mut watch) = after_a_write();
+    bad.agents[0].to_propagate.clear();
+    assert!(watch.newer_waits(&bad).is_err());
+    assert!(watch.after(&bad).is_err());
+    // Both agents alike: then it need not wait.
+    bad.agents[1].entries.insert(0, entry(7, 1));
+    assert_eq!(watch.after(&bad), Ok(()));
+}
+
+#[test]
+fn a_link_that_did_not_always_hold_promises_nothing() {
+    // Agent 0 writes key 0; the link is that the receiver has attribute 0.
+    let mut draft = Draft::new(1, 0);
+    let one = draft.constant(1);
+    let write = draft.set_stigmergy(0, one);
+    let two = draft.constant(2);
+    let enter = draft.set_attribute(0, two);
+    let (x, y) = (draft.attribute(0, 2), draft.attribute(0, 2));
+    let there = draft.equal(x, y);
+    draft.link(there);
+    draft.agent(write);
+    draft.agent(enter);
+    let table = draft.bytes();
+    let mut lent = start(&table);
+    let mut watch = Watch::after_load(&table).unwrap();
+    for next in [Step::act(0, 0), Step::propagate(0, 0), Step::act(1, 0)] {
+        watch.before(&world(&table, &lent));
+        let answer = do_step(&table, &mut lent, next);
+        assert_eq!(answer, Ok(0));
+        assert_eq!(watch.history.note(SCRATCH, next), answer);
+        assert_eq!(watch.after(&world(&table, &lent)), Ok(()));
+    }
+    // Agent 0 is newer, linked by now, and its key does not wait.
+    let after = world(&table, &lent);
+    assert!(after.linked(&fleet(&table), 0, 0, 1));
+    assert!(after.agents[0].stamp(0) > after.agents[1].stamp(0));
+    assert!(after.agents[0].to_propagate.is_empty());
+    assert_eq!(watch.newer, 0);
+}

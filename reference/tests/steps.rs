@@ -1,0 +1,277 @@
+//! What steps do: sets of keys, links, and what a done step leaves alone.
+
+mod common;
+
+use common::*;
+use reference::draft::Draft;
+use reference::state::{Entry, World};
+use reference::step::Step;
+use reference::table::Fleet;
+
+fn entry(value: i32, stamp: u32) -> Entry {
+    Entry { value, stamp }
+}
+
+/// A fleet of one agent with this process, 2 attributes, 4 stigmergy keys and
+/// 1 environment key; the agent has entries for keys 1, 2, 3 but not for 0.
+fn alone(process: impl Fn(&mut Draft) -> u16) -> (Vec<u8>, Fleet, World) {
+    let mut draft = Draft::new(2, 1);
+    let start = process(&mut draft);
+    let link = draft.truth();
+    draft.links = vec![link; 4];
+    draft.agent(start);
+    let table = draft.bytes();
+    let fleet = fleet(&table);
+    let mut world = World::start(&fleet);
+    world.clock = 20;
+    for key in 1..4 {
+        let stamp = 10 + u32::from(key);
+        world.agents[0]
+            .entries
+            .insert(key, entry(i32::from(key), stamp));
+    }
+    (table, fleet, world)
+}
+
+/// Acts, and says the world after.
+fn acted(process: impl Fn(&mut Draft) -> u16) -> (World, World) {
+    let (table, fleet, before) = alone(process);
+    let mut state = before.words();
+    assert_eq!(do_step(&table, &mut state, Step::act(0, 0)), Ok(0));
+    let after = World::decode(&state, &fleet).unwrap();
+    (before, after)
+}
+
+fn keys(set: &std::collections::BTreeSet<u16>) -> Vec<u16> {
+    set.iter().copied().collect()
+}
+
+/// key x is itself: x = x, true when it has an entry.
+fn known(draft: &mut Draft, key: u16) -> u16 {
+    let (a, b) = (draft.stigmergy(key, 0), draft.stigmergy(key, 0));
+    draft.equal(a, b)
+}
+
+#[test]
+fn an_act_confirms_what_it_read() {
+    // A tick under a guard that reads 0 (no entry), 1 and 2; 2 decides nothing.
+    let (before, after) = acted(|d| {
+        let (zero, one, two) = (known(d, 0), known(d, 1), known(d, 2));
+        let either = d.or(one, two);
+        let any = d.or(either, zero);
+        let tick = d.tick();
+        d.guarded(any, tick)
+    });
+    assert_eq!(keys(&after.agents[0].to_confirm), [1, 2]);
+    assert!(after.agents[0].to_propagate.is_empty());
+    // A tick sets the residual only.
+    let mut same = before.clone();
+    same.agents[0].to_confirm = after.agents[0].to_confirm.clone();
+    same.agents[0].residual = reference::term::Term::Idle;
+    assert_eq!(same, after);
+}
+
+#[test]
+fn an_attribute_takes_the_value_read_before() {
+    let (before, after) = acted(|d| {
+        let (a, b) = (d.stigmergy(3, 0), d.constant(4));
+        let product = d.binary(2, a, b);
+        d.set_attribute(1, product)
+    });
+    let mut same = before.clone();
+    same.agents[0].attributes.insert(1, 12);
+    same.agents[0].to_confirm.insert(3);
+    same.agents[0].residual = reference::term::Term::Tick;
+    assert_eq!(same, after);
+}
+
+#[test]
+fn an_environment_write_is_seen_by_all() {
+    let (before, after) = acted(|d| {
+        let seven = d.constant(7);
+        d.set_environment(0, seven)
+    });
+    let mut same = before.clone();
+    same.environment.insert(0, 7);
+    same.agents[0].residual = reference::term::Term::Tick;
+    assert_eq!(same, after);
+}
+
+#[test]
+fn a_stigmergy_write_takes_the_next_stamp() {
+    // Key 0 had no entry: written, to be propagated, not to be confirmed,
+    // although the guard reads it.
+    let (before, after) = acted(|d| {
+        let (none, truth) = (known(d, 0), d.truth());
+        let guard = d.or(none, truth);
+        let read = d.stigmergy(2, 0);
+        let write = d.set_stigmergy(0, read);
+        d.guarded(guard, write)
+    });
+    let mut same = before.clone();
+    same.clock = 21;
+    same.agents[0].entries.insert(0, entry(2, 21));
+    same.agents[0].to_propagate.insert(0);
+    same.agents[0].to_confirm.insert(2);
+    same.agents[0].residual = reference::term::Term::Tick;
+    assert_eq!(same, after);
+}
+
+#[test]
+fn a_write_that_reads_its_own_key_is_in_both_sets() {
+    let (before, after) = acted(|d| {
+        let (read, one) = (d.stigmergy(1, 0), d.constant(1));
+        let sum = d.binary(0, read, one);
+        d.set_stigmergy(1, sum)
+    });
+    assert_eq!(before.agents[0].entries[&1], entry(1, 11));
+    assert_eq!(after.agents[0].entries[&1], entry(2, 21));
+    assert_eq!(keys(&after.agents[0].to_confirm), [1]);
+    assert_eq!(keys(&after.agents[0].to_propagate), [1]);
+}
+
+#[test]
+fn guards_of_a_joined_tick_count() {
+    // (g1 -> tick | g2 -> tick) ; (key 0 := key 3): both guards are read.
+    let (_, after) = acted(|d| {
+        let (g1, t1) = (known(d, 1), d.tick());
+        let p = d.guarded(g1, t1);
+        let (g2, t2) = (known(d, 2), d.tick());
+        let q = d.guarded(g2, t2);
+        let both = d.parallel(p, q);
+        let read = d.stigmergy(3, 0);
+        let write = d.set_stigmergy(0, read);
+        d.sequence(both, write)
+    });
+    assert_eq!(keys(&after.agents[0].to_confirm), [1, 2, 3]);
+    assert_eq!(after.agents[0].residual.words(), [65_533]);
+}
+
+#[test]
+fn a_lone_tick_on_the_left_is_no_step() {
+    // tick ; (attribute 0 := 1): one act does the action.
+    let (_, after) = acted(|d| {
+        let (tick, one) = (d.tick(), d.constant(1));
+        let write = d.set_attribute(0, one);
+        d.sequence(tick, write)
+    });
+    assert_eq!(after.agents[0].attributes[&0], 1);
+    assert_eq!(after.agents[0].residual.words(), [65_533]);
+}
+
+/// Agents with these attributes; key 0's link is sender < receiver, key 1's is
+/// that the receiver's key 1 is below 5 or the sender has attribute 9.
+fn linked(attributes: &[i32]) -> (Vec<u8>, World) {
+    let mut draft = Draft::new(1, 0);
+    let (s, r) = (draft.attribute(0, 1), draft.attribute(0, 2));
+    let less = draft.less(s, r);
+    let (held, five) = (draft.stigmergy(1, 2), draft.constant(5));
+    let low = draft.less(held, five);
+    let (s, nine) = (draft.attribute(0, 1), draft.constant(9));
+    let is_nine = draft.equal(s, nine);
+    let either = draft.or(low, is_nine);
+    let idle = draft.idle();
+    draft.link(less);
+    draft.link(either);
+    draft.agents = vec![idle; attributes.len()];
+    let table = draft.bytes();
+    let mut world = World::start(&fleet(&table));
+    world.clock = 9;
+    for (agent, &value) in world.agents.iter_mut().zip(attributes) {
+        agent.attributes.insert(0, value);
+    }
+    (table, world)
+}
+
+/// Does a step and says what was taken and the world after.
+fn after(table: &[u8], world: &World, step: Step) -> (u32, World) {
+    let mut state = world.words();
+    let taken = do_step(table, &mut state, step).expect("the step is done");
+    (taken, common::world(table, &state))
+}
+
+#[test]
+fn links_have_a_direction() {
+    let (table, mut before) = linked(&[3, 2, 4, 3, 5]);
+    before.agents[0].entries.insert(0, entry(-8, 6));
+    before.agents[0].to_propagate.insert(0);
+    before.agents[0].to_confirm.insert(0);
+    before.agents[4].entries.insert(0, entry(1, 5));
+    before.agents[4].to_confirm.insert(0);
+    for kind in [1, 2] {
+        let (taken, after) = after(
+            &table,
+            &before,
+            Step {
+                kind,
+                agent: 0,
+                number: 0,
+            },
+        );
+        // Agents 2 and 4 are linked from 0; 1 and 3 are not.
+        let mut same = before.clone();
+        if kind == 1 {
+            same.agents[0].to_propagate.clear();
+        } else {
+            same.agents[0].to_confirm.clear();
+        }
+        for i in [2, 4] {
+            same.agents[i].entries.insert(0, entry(-8, 6));
+            same.agents[i].to_propagate.insert(0);
+            same.agents[i].to_confirm.remove(&0);
+        }
+        assert_eq!(taken, 2);
+        assert_eq!(after, same);
+    }
+}
+
+#[test]
+fn a_link_may_read_what_is_sent() {
+    let (table, mut before) = linked(&[1, 1, 1]);
+    for (agent, own) in before
+        .agents
+        .iter_mut()
+        .zip([entry(7, 8), entry(3, 2), entry(6, 2)])
+    {
+        agent.entries.insert(1, own);
+    }
+    before.agents[0].to_propagate.insert(1);
+    // The link is judged on what agent 1 held before.
+    let (taken, got) = after(&table, &before, Step::propagate(0, 1));
+    assert_eq!(taken, 1);
+    assert_eq!(got.agents[1].entries[&1], entry(7, 8));
+    assert_eq!(got.agents[2].entries[&1], entry(6, 2));
+    // An absent entry is not below 5; the other part of the or decides.
+    before.agents[1].entries.clear();
+    let (taken, _) = after(&table, &before, Step::propagate(0, 1));
+    assert_eq!(taken, 0);
+    before.agents[0].attributes.insert(0, 9);
+    let (taken, _) = after(&table, &before, Step::propagate(0, 1));
+    assert_eq!(taken, 2);
+}
+
+#[test]
+fn a_confirm_asks_linked_agents_only() {
+    let (table, mut before) = linked(&[3, 2, 4, 5, 6]);
+    let entries = [
+        entry(0, 5),
+        entry(1, 9),
+        entry(2, 9),
+        entry(3, 5),
+        entry(4, 4),
+    ];
+    for (agent, own) in before.agents.iter_mut().zip(entries) {
+        agent.entries.insert(0, own);
+        agent.to_confirm.insert(0);
+    }
+    let (taken, got) = after(&table, &before, Step::confirm(0, 0));
+    let mut same = before.clone();
+    same.agents[0].to_confirm.clear();
+    // 1 is newer but not linked; 2 is newer; 3 is as new; 4 is older.
+    same.agents[2].to_propagate.insert(0);
+    same.agents[4].entries.insert(0, entry(0, 5));
+    same.agents[4].to_propagate.insert(0);
+    same.agents[4].to_confirm.clear();
+    assert_eq!(taken, 1);
+    assert_eq!(got, same);
+}
