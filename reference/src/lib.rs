@@ -21,6 +21,7 @@ pub mod stats;
 pub mod step;
 pub mod syntax;
 pub mod table;
+pub mod tables;
 pub mod term;
 pub mod value;
 

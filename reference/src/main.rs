@@ -1,4 +1,4 @@
-//! The programs `show`, `example`, `cases`, `answer`, `describe`, `stats` and `equations`.
+//! The programs `show`, `example`, `cases`, `answer`, `describe`, `stats`, `tables` and `equations`.
 
 use std::fs;
 use std::io::{self, BufWriter, Read, Write};
@@ -10,6 +10,7 @@ use reference::equations::equations;
 use reference::generate::{case, edges};
 use reference::show::show;
 use reference::stats::Stats;
+use reference::tables::{lines, tables};
 use reference::{on_deep_stack, schedule};
 
 const USAGE: &str = "\
@@ -21,6 +22,8 @@ usage: reference show                      table and schedule on standard input
        reference describe SEED INDEX       one case in words
        reference stats SEED COUNT          how often each answer occurs
        reference equations SEED            small rehearsals, as definitions to compute
+       reference tables SEED               tables for the program tables
+       reference tables --expected SEED    what it must print
 --small, with cases, describe and stats: at most 24 nodes";
 
 fn main() -> ExitCode {
@@ -75,6 +78,8 @@ fn command(mut arguments: Vec<String>) -> io::Result<()> {
             }
             print(stats.to_string().as_bytes())
         }
+        ["tables", seed] if expected => print(lines(&tables(number(seed)?)).as_bytes()),
+        ["tables", seed] => print(&tables(number(seed)?).concat()),
         ["equations", seed] => print(equations(number(seed)?).as_bytes()),
         _ => Err(fault(USAGE)),
     }
