@@ -1,7 +1,9 @@
 // The counts of a node, from those of the nodes and the definitions that it names, and of all nodes; refusal 7.
 use crate::Counts;
+use crate::sums::ACTION;
+use crate::sums::NONE;
+use crate::sums::TICK;
 use crate::sums::choice;
-use crate::sums::counts;
 use crate::sums::parallel;
 use crate::sums::sequence;
 use crate::words::pair;
@@ -27,7 +29,7 @@ fn called(scratch: &[u32], roots: usize, level: usize, d: usize) -> Counts
     if d < level {
         return pair(scratch, roots + d);
     }
-    counts(0, 0)
+    NONE
 }
 
 // The counts of node n, where the definitions below a level may be called.
@@ -47,16 +49,16 @@ fn node(
     let p = p_at(operands, n);
     let q = q_at(operands, n);
     match kind {
-        1 => counts(0, 1),
-        2 => counts(1, 0),
-        3 => counts(1, 0),
-        4 => counts(1, 0),
+        1 => TICK,
+        2 => ACTION,
+        3 => ACTION,
+        4 => ACTION,
         5 => sequence(pair(scratch, p), pair(scratch, q)),
         6 => choice(pair(scratch, p), pair(scratch, q)),
         7 => pair(scratch, q),
         8 => parallel(pair(scratch, p), pair(scratch, q)),
         9 => called(scratch, first_root(sizes), level, p),
-        _ => counts(0, 0),
+        _ => NONE,
     }
 }
 

@@ -2,13 +2,22 @@
 use crate::Counts;
 ghost use mathlib.Core.Path.{_≡_};
 ghost use Prim.Native.Nat.{_*_, _≤_};
-ghost use Rattle.accept.specs.Counts.{capped, counts as countsFrom, Small, choiceCounts, seqCounts, parCounts};
+ghost use Rattle.accept.specs.Counts.{capped, Small, choiceCounts, seqCounts, parCounts};
 
-pub fn counts(actions: u64, ticks: u64) -> Counts
-    ensures { λ r. ⌜ r ≡ countsFrom actions ticks ⌝ }
-{
-    Counts { actions, ticks }
-}
+pub const NONE: Counts = Counts {
+    actions: 0,
+    ticks: 0,
+};
+
+pub const TICK: Counts = Counts {
+    actions: 0,
+    ticks: 1,
+};
+
+pub const ACTION: Counts = Counts {
+    actions: 1,
+    ticks: 0,
+};
 
 fn cap(x: u64) -> u64
     ensures { λ r. ⌜ r ≡ capped x ⌝ }
@@ -27,7 +36,9 @@ pub fn choice(p: Counts, q: Counts) -> Counts
     requires { ⌜ Small p ⌝ ∗ ⌜ Small q ⌝ }
     ensures { λ r. ⌜ r ≡ choiceCounts p q ⌝ }
 {
-    counts(cap(p.actions + q.actions), cap(p.ticks + q.ticks))
+    let actions = cap(p.actions + q.actions);
+    let ticks = cap(p.ticks + q.ticks);
+    Counts { actions, ticks }
 }
 
 // The right part counts once for each tick of the left.
@@ -37,7 +48,7 @@ pub fn sequence(p: Counts, q: Counts) -> Counts
 {
     let actions = cap(p.actions + times(p.ticks, q.actions));
     let ticks = cap(times(p.ticks, q.ticks));
-    counts(actions, ticks)
+    Counts { actions, ticks }
 }
 
 // Each part counts, and once more for each tick of the other.
@@ -48,5 +59,5 @@ pub fn parallel(p: Counts, q: Counts) -> Counts
     let joined = times(p.ticks, q.actions) + times(q.ticks, p.actions);
     let actions = cap(p.actions + (q.actions + joined));
     let ticks = cap(times(p.ticks, q.ticks) + times(q.ticks, p.ticks));
-    counts(actions, ticks)
+    Counts { actions, ticks }
 }

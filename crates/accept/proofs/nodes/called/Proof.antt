@@ -14,11 +14,8 @@ pair-requires c κs = search needs
 returns : tie.Need-returns
 returns c = rw (lt-ltb _ _ (c .before .if1 .taken)) (c .pair .ensures)
 
-counts-requires : tie.Need-counts-requires
-counts-requires c κs = search needs
-
 returns-2 : tie.Need-returns-2
-returns-2 c = rw (le-ltb _ _ (c .before .if1 .left)) (c .counts .ensures)
+returns-2 c = rw (le-ltb _ _ (c .if1 .left))
 
 pub called-spec : {M : Type 1} → statement M
-called-spec = tie.close (tie.spec add-pair pair-requires returns counts-requires returns-2)
+called-spec = tie.close (tie.spec add-pair pair-requires returns returns-2)

@@ -68,18 +68,6 @@ p-at-requires c κs = search needs
 q-at-requires : tie.Need-q-at-requires
 q-at-requires c κs = search needs
 
-counts-requires : tie.Need-counts-requires
-counts-requires c κs = search needs
-
-counts-requires-2 : tie.Need-counts-requires-2
-counts-requires-2 c κs = search needs
-
-counts-requires-3 : tie.Need-counts-requires-3
-counts-requires-3 c κs = search needs
-
-counts-requires-4 : tie.Need-counts-requires-4
-counts-requires-4 c κs = search needs
-
 pair-requires : tie.Need-pair-requires
 pair-requires c κs = room (c .before) 5 (c .match .keys5) (omega arith) (omega arith) .0
 
@@ -122,20 +110,17 @@ first-root-requires c κs = start (c .before) .pre .0 .sound .shaped .limits
 called-requires : tie.Need-called-requires
 called-requires c κs = search needs
 
-counts-requires-5 : tie.Need-counts-requires-5
-counts-requires-5 c κs = search needs
-
 returns : tie.Need-returns
-returns c = c .counts .ensures ∙ found (c .before .before) 1 (c .before .match .keys1)
+returns c = found (c .before) 1 (c .match .keys1)
 
 returns-2 : tie.Need-returns-2
-returns-2 c = c .counts2 .ensures ∙ found (c .before .before) 2 (c .before .match .keys2)
+returns-2 c = found (c .before) 2 (c .match .keys2)
 
 returns-3 : tie.Need-returns-3
-returns-3 c = c .counts3 .ensures ∙ found (c .before .before) 3 (c .before .match .keys3)
+returns-3 c = found (c .before) 3 (c .match .keys3)
 
 returns-4 : tie.Need-returns-4
-returns-4 c = c .counts4 .ensures ∙ found (c .before .before) 4 (c .before .match .keys4)
+returns-4 c = found (c .before) 4 (c .match .keys4)
 
 returns-5 : tie.Need-returns-5
 returns-5 c = c .sequence .ensures ∙ ap₂ seqCounts (c .before .before .pair .ensures) (c .before .pair2 .ensures) ∙ found (c .before .before .before .before) 5 (c .before .before .before .match .keys5)
@@ -156,8 +141,8 @@ returns-9 c =
 
 returns-10 : tie.Need-returns-10
 returns-10 c =
-    c .counts5 .ensures ∙ other-kind (counts 0 0) _ _ _ _ _ _ _ _ _ (kind (c .before .before)) (c .before .match .rest .0 .0 .0 .0 .0 .0 .0 .0 .1) (c .before .match .rest .0 .0 .0 .0 .0 .0 .0 .1) (c .before .match .rest .0 .0 .0 .0 .0 .0 .1) (c .before .match .rest .0 .0 .0 .0 .0 .1) (c .before .match .rest .0 .0 .0 .0 .1) (c .before .match .rest .0 .0 .0 .1) (c .before .match .rest .0 .0 .1) (c .before .match .rest .0 .1) (c .before .match .rest .1) ∙
-    found (c .before .before) _ refl
+    other-kind (counts 0 0) _ _ _ _ _ _ _ _ _ (kind (c .before)) (c .match .rest .0 .0 .0 .0 .0 .0 .0 .0 .1) (c .match .rest .0 .0 .0 .0 .0 .0 .0 .1) (c .match .rest .0 .0 .0 .0 .0 .0 .1) (c .match .rest .0 .0 .0 .0 .0 .1) (c .match .rest .0 .0 .0 .0 .1) (c .match .rest .0 .0 .0 .1) (c .match .rest .0 .0 .1) (c .match .rest .0 .1) (c .match .rest .1) ∙
+    found (c .before) _ refl
 
 pub node-spec : {M : Type 1} → statement M
 node-spec =
@@ -166,10 +151,6 @@ node-spec =
     shared-slice-read-kind
     p-at-requires
     q-at-requires
-    counts-requires
-    counts-requires-2
-    counts-requires-3
-    counts-requires-4
     pair-requires
     pair-requires-2
     sequence-requires
@@ -182,7 +163,6 @@ node-spec =
     parallel-requires
     first-root-requires
     called-requires
-    counts-requires-5
     returns
     returns-2
     returns-3

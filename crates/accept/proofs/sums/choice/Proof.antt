@@ -17,13 +17,9 @@ add-cap-2 c = search needs
 cap-requires-2 : tie.Need-cap-requires-2
 cap-requires-2 c κs = search needs
 
-counts-requires : tie.Need-counts-requires
-counts-requires c κs = search needs
-
 returns : tie.Need-returns
 unfolding choiceCounts
 returns c = cc
 
 pub choice-spec : {M : Type 1} → statement M
-choice-spec =
-    tie.close (tie.spec add-cap cap-requires add-cap-2 cap-requires-2 counts-requires returns)
+choice-spec = tie.close (tie.spec add-cap cap-requires add-cap-2 cap-requires-2 returns)

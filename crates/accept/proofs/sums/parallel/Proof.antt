@@ -35,9 +35,6 @@ add-cap-3 c = search needs
 cap-requires-2 : tie.Need-cap-requires-2
 cap-requires-2 c κs = search needs
 
-counts-requires : tie.Need-counts-requires
-counts-requires c κs = search needs
-
 returns : tie.Need-returns
 unfolding parCounts
 returns c = cc
@@ -56,5 +53,4 @@ parallel-spec =
     times-requires-4
     add-cap-3
     cap-requires-2
-    counts-requires
     returns)

@@ -20,9 +20,6 @@ times-requires-2 c κs = search needs
 cap-requires-2 : tie.Need-cap-requires-2
 cap-requires-2 c κs = search needs
 
-counts-requires : tie.Need-counts-requires
-counts-requires c κs = search needs
-
 returns : tie.Need-returns
 unfolding seqCounts
 returns c = cc
@@ -30,11 +27,4 @@ returns c = cc
 pub sequence-spec : {M : Type 1} → statement M
 sequence-spec =
     tie.close
-    (tie.spec
-    times-requires
-    add-cap
-    cap-requires
-    times-requires-2
-    cap-requires-2
-    counts-requires
-    returns)
+    (tie.spec times-requires add-cap cap-requires times-requires-2 cap-requires-2 returns)
