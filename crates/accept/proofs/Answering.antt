@@ -20,12 +20,12 @@ use Rattle.table.specs.Measuring.{measuredCheck, sizeChecks, Measure}
 use Rattle.table.proofs.Checks.{first-later, first-refuses, append-later, append-refuses, refuseIf-true, refuseIf-false, refuseAt-below, refuseAt-past}
 use Rattle.table.proofs.Limits.{kinds-part}
 use Rattle.term.specs.Exposure.{badCall}
-use Rattle.term.specs.Acceptance.{stateWords, contentChecks}
+use Rattle.term.specs.Acceptance.{stateWords, contentChecks, lentCheck}
 use Rattle.term.specs.Accepted.{Accepted as AcceptedTable}
 use Rattle.term.proofs.Acceptance.{passes-accepted}
 use Rattle.accept.specs.Scratch.{Held, Counted}
 use Rattle.accept.specs.Calls.{CallsJudged}
-use Rattle.accept.specs.Answers.{checkOf, lentCheck, Judged, Accepts}
+use Rattle.accept.specs.Answers.{checkOf, Judged, Accepts}
 use Rattle.accept.specs.declared.Acceptance.{Acceptance}
 use Rattle.accept.specs.declared.Acceptance.the-variants.{Accepted, Refused}
 

@@ -1,16 +1,12 @@
 -- What judging a table answers.
-use Prim.Native.Nat.{ℕ, _*_}
-use mathlib.Core.Bool.{not, _||_}
+use Prim.Native.Nat.{ℕ}
 use mathlib.Core.Path.{_≡_}
-use mathlib.Core.List.{List, [], _∷_, _++_}
-use lib.Dec.{ltb, eqb}
+use mathlib.Core.List.{List, _++_}
 use lib.ListN.{length}
-use Rattle.basis.specs.Numbers.{lowest}
-use Rattle.table.specs.Checks.{Check, passes, refuses, refuseIf, refuseAt, firstOf}
+use Rattle.table.specs.Checks.{Check, passes, refuses, firstOf}
 use Rattle.table.specs.Tables.{Table, sizesOf, tableOf}
 use Rattle.table.specs.declared.Sizes.{Sizes}
-use Rattle.term.specs.Exposure.{badCall}
-use Rattle.term.specs.Acceptance.{stateWords, overfull, lengthChecks, contentChecks}
+use Rattle.term.specs.Acceptance.{lengthChecks, contentChecks}
 use Rattle.accept.specs.Scratch.{Counted}
 use Rattle.accept.specs.declared.Acceptance.{Acceptance}
 use Rattle.accept.specs.declared.Acceptance.the-variants.{Accepted, Refused}
@@ -19,16 +15,6 @@ use Rattle.accept.specs.declared.Acceptance.the-variants.{Accepted, Refu
 abbrev pub checkOf : Acceptance → Check
 checkOf (Accepted n) = passes
 checkOf (Refused number place) = refuses number place
-
--- 8, and 6 and 7, of the checks of a table
-abbrev pub lentCheck : List ℕ → ℕ → ℕ → Check
-lentCheck bytes stateLength scratchLength = refuseIf 8 (not (eqb stateLength stateWords) || ltb scratchLength (2 * sizesOf bytes .nodes))
-
-abbrev pub termChecks : Table → List Check
-termChecks t =
-    refuseAt 6 (t .sizes .definitions) (lowest (badCall t) (t .sizes .definitions))
-    ∷ refuseAt 7 (t .sizes .nodes) (lowest (overfull t) (t .sizes .nodes))
-    ∷ []
 
 -- the answer r by some checks; s is what the words hold then
 pub record Judged (t : Table) (checks : List Check) (s : List ℕ) (r : Acceptance) : Type 0 where

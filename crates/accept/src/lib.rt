@@ -24,8 +24,8 @@ ghost use Rattle.table.specs.Checks.{passes, firstOf};
 ghost use Rattle.table.specs.Measuring.{sizeChecks};
 ghost use Rattle.table.specs.Sound.{Shaped, Sound};
 ghost use Rattle.table.specs.Tables.{table as tableFrom, sizesOf, tableOf};
-ghost use Rattle.term.specs.Acceptance.{contentChecks};
-ghost use Rattle.accept.specs.Answers.{lentCheck, termChecks, Judged, Accepts};
+ghost use Rattle.term.specs.Acceptance.{lentCheck, termChecks, contentChecks};
+ghost use Rattle.accept.specs.Answers.{Judged, Accepts};
 
 // How many actions and ticks a process has. 65,536 stands for any larger number too.
 pub struct Counts {
