@@ -1,0 +1,3 @@
+pub mod Chosen
+pub mod Picking
+pub mod Turning

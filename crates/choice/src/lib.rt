@@ -1,0 +1,31 @@
+// Choice c of a process node, found by counting: what it does, under which guards, and what it leaves.
+pub mod picks; // picks.rt: which part of a sequence or a parallel a choice is of
+pub mod turns; // turns.rt: one step from a node towards its choice
+
+// Of a sequence or a parallel: an action of the left part, or of the right; or a tick of the left part that joins a derivation of the
+// right, or a tick of the right part that joins a derivation of the left.
+pub enum Pick {
+    LeftActs(u64),
+    RightActs(u64),
+    LeftTicks(u64, u64),
+    RightTicks(u64, u64),
+}
+
+// What is collected where a walk goes on: nothing, a guard, or a tick of a node.
+pub enum Side {
+    Alone,
+    Under(usize),
+    After(usize, u64),
+}
+
+// One step from a node towards its choice: a tick, or the action at the node, ends it; else it goes on at a node, with a choice of the
+// same mode; or at the left part, whose operator and right node stay around its action; or at the right part of a parallel, whose left
+// node stays; or in the body of a definition.
+pub enum Turn {
+    Ticked,
+    Acted,
+    On(usize, u64, Side),
+    Left(u32, usize, u64, usize),
+    Right(usize, usize, u64),
+    Call(usize),
+}
