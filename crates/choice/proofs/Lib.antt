@@ -1,3 +1,4 @@
 pub mod Chosen
 pub mod Picking
 pub mod Turning
+pub mod Telling

@@ -25,12 +25,13 @@ use Rattle.accept.specs.Counts.{Small, trueCounts}
 use Rattle.accept.specs.Scratch.{pairAt}
 use Rattle.choice.specs.declared.Pick.{Pick}
 use Rattle.choice.specs.declared.Pick.the-variants.{LeftActs, RightActs, LeftTicks, RightTicks}
-use Rattle.choice.specs.declared.Side.the-variants.{Alone, Under}
+use Rattle.choice.specs.declared.Side.{Side}
+use Rattle.choice.specs.declared.Side.the-variants.{Alone, Under, After}
 use Rattle.choice.specs.declared.Turn.{Turn}
 use Rattle.choice.specs.declared.Turn.the-variants.{Ticked, Acted, On, Call}
 use Rattle.choice.specs.Chosen.{chosen}
 use Rattle.choice.specs.Picks.{actingOf, totalOf, pickOf}
-use Rattle.choice.specs.Turns.{pickTurn, choiceTurn, Ready, Reached, Around, Turned}
+use Rattle.choice.specs.Turns.{pickTurn, choiceTurn, Ready, Reached, Around, Collected, Turned}
 use Rattle.choice.proofs.Chosen.{no-idle, chosen-tick, chosen-act, chosen-guarded, chosen-choice-left, chosen-choice-right, chosen-same, count-same}
 use Rattle.choice.proofs.Picking.{acting-true, total-true, SeqPicked, ParPicked, seq-picked, par-picked}
 
@@ -223,8 +224,7 @@ module _ (t : Table) (s : List ℕ) (ready : Ready t s) (level : ℕ) (m : Mode)
   turned-call e =
       let l : p < level = ltb-true p level (form-calls 9 e) in
       let h : p < t .sizes .definitions = omega (arith, reached .top) in
-      let same = call-opened t (ready .checked .calls) n (reached .low) e h in
-      (
+      let same = call-opened t (ready .checked .calls) n (reached .low) e h in (
         l,
         record {
           low = body-process t (ready .checked .sound) p h .0;
@@ -234,3 +234,9 @@ module _ (t : Table) (s : List ℕ) (ready : Ready t s) (level : ℕ) (m : Mode)
         },
         chosen-same m (N n) c (N (bodyAt t p)) same,
       )
+
+-- what is collected changes neither what is done nor what is left
+pub collected-same : (t : Table) (level n : ℕ) (d e : Derivation) (side : Side) → Collected t level n d e side → (d .label ≡ e .label) × (d .leaving ≡ e .leaving)
+collected-same t level n d e Alone h = (ap (λ (x : Derivation). x .label) h, ap (λ (x : Derivation). x .leaving) h)
+collected-same t level n d e (Under g) h = (ap (λ (x : Derivation). x .label) (h .1), ap (λ (x : Derivation). x .leaving) (h .1))
+collected-same t level n d e (After k j) h = (ap (λ (x : Derivation). x .label) (h .2), ap (λ (x : Derivation). x .leaving) (h .2))

@@ -1,3 +1,4 @@
 pub mod Chosen
 pub mod Picks
 pub mod Turns
+pub mod Outcomes

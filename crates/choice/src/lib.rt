@@ -1,6 +1,7 @@
 // Choice c of a process node, found by counting: what it does, under which guards, and what it leaves.
 pub mod picks; // picks.rt: which part of a sequence or a parallel a choice is of
 pub mod turns; // turns.rt: one step from a node towards its choice
+pub mod outcomes; // outcomes.rt: what a node's choice does, and how many words it leaves
 
 // Of a sequence or a parallel: an action of the left part, or of the right; or a tick of the left part that joins a derivation of the
 // right, or a tick of the right part that joins a derivation of the left.
@@ -28,4 +29,16 @@ pub enum Turn {
     Left(u32, usize, u64, usize),
     Right(usize, usize, u64),
     Call(usize),
+}
+
+// What a derivation does: it ticks, or does the action at a node.
+pub enum Does {
+    Ticking,
+    Acting(usize),
+}
+
+// What a derivation does, and how many words it leaves.
+pub struct Outcome {
+    pub does: Does,
+    pub size: usize,
 }

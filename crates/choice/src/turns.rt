@@ -11,8 +11,11 @@ use basis::u16_at;
 use table::Sizes;
 use term::Mode;
 ghost use mathlib.Core.Path.{_≡_};
-ghost use Prim.Native.Nat.{_≤_};
-ghost use Rattle.table.specs.Tables.{table};
+ghost use Prim.Native.Nat.{_+_, _-_, _*_, _<_};
+ghost use lib.ListN.{length};
+ghost use Rattle.basis.specs.Bytes.{u16At};
+ghost use Rattle.table.specs.Tables.{table, rootsOf};
+ghost use Rattle.table.specs.Sound.{Limits};
 ghost use Rattle.term.specs.Processes.{nodeProcess};
 ghost use Rattle.choice.specs.Chosen.{chosen};
 ghost use Rattle.choice.specs.Turns.{pickTurn, choiceTurn, Ready, Reached, Turned};
@@ -37,6 +40,15 @@ fn either(c: u64, p: usize, q: usize, k: u64) -> Turn
         return Turn::On(p, c, Side::Alone);
     }
     Turn::On(q, c - k, Side::Alone)
+}
+
+// The node that is the body of a definition.
+pub fn body_at(sizes: Sizes, operands: &[u8], d: usize) -> usize
+    requires { ⌜ (Limits sizes) × (length (now operands) ≡ 4 * sizes .nodes) × (d < sizes .definitions) ⌝ }
+    ensures { λ r. ⌜ r ≡ u16At (now (operands .entry)) (4 * (sizes .nodes - rootsOf sizes + d)) ⌝ }
+{
+    let roots = sizes.nodes - (sizes.definitions + sizes.stigmergy + sizes.agents);
+    u16_at(operands, 4 * (roots + d))
 }
 
 pub fn turn_at(

@@ -91,7 +91,7 @@ pair-requires-2 : tie.Need-pair-requires-2
 pair-requires-2 c κs = let z = c .before .before in room z _ _ (q-is z) (lower z 5 (c .before .match .keys2) (omega arith) (omega arith) .1)
 
 pick-requires : tie.Need-pick-requires
-pick-requires c κs = 
+pick-requires c κs =
     let z = c .before .before .before in
     let w = lower z 5 (c .before .before .match .keys2) (omega arith) (omega arith) in
     (small z _ _ _ (c .before .pair .ensures) (p-is z) (w .0), small z _ _ _ (c .pair2 .ensures) (q-is z) (w .1))
@@ -118,7 +118,7 @@ pair-requires-5 : tie.Need-pair-requires-5
 pair-requires-5 c κs = let z = c .before .before .before in room z _ _ (p-is z) (lower z 8 (c .before .before .match .keys5) (omega arith) (omega arith) .0)
 
 pick-requires-2 : tie.Need-pick-requires-2
-pick-requires-2 c κs = 
+pick-requires-2 c κs =
     let z = c .before .before .before .before in
     let w = lower z 8 (c .before .before .before .match .keys5) (omega arith) (omega arith) in
     (small z _ _ _ (c .pair5 .ensures) (p-is z) (w .0), small z _ _ _ (c .before .before .pair4 .ensures) (q-is z) (w .1))
@@ -130,7 +130,7 @@ returns : tie.Need-returns
 returns c = let z = c .before in turned-tick (tb z) (words z) (start z .pre .0) (start z .args .level) (start z .args .mode) (start z .args .n) (start z .args .c) (start z .pre .1) (c .match .keys1)
 
 returns-2 : tie.Need-returns-2
-returns-2 c = 
+returns-2 c =
     let z = c .before .before .before .before .before in
     let left = c .before .before .before .pair .ensures ∙ ap (λ (i : ℕ). pairAt (words z) i) (p-is z) in
     let right = c .before .before .pair2 .ensures ∙ ap (λ (i : ℕ). pairAt (words z) i) (q-is z) in
@@ -139,7 +139,7 @@ returns-2 c =
     (c .before .pick .ensures ∙ ap₂ (pickOf (start z .args .mode) (start z .args .c) 0) left right))
 
 returns-3 : tie.Need-returns-3
-returns-3 c = 
+returns-3 c =
     let z = c .before .before .before .before in
     let left = c .before .before .pair3 .ensures ∙ ap (λ (i : ℕ). pairAt (words z) i) (p-is z) in
     subst (Is z) (sym (c .either .ensures ∙ ap₂ (λ (i j : ℕ). choiceTurn (start z .args .c) i j (c .before .total .result)) (p-is z) (q-is z)))
@@ -147,12 +147,12 @@ returns-3 c =
     (c .before .total .ensures .0 ∙ ap (totalOf (start z .args .mode)) left))
 
 returns-4 : tie.Need-returns-4
-returns-4 c = 
+returns-4 c =
     let z = c .before in
     subst (Is z) (sym (ap₂ (λ (i j : ℕ). On j (start z .args .c) (Under i)) (p-is z) (q-is z))) (turned-guarded (tb z) (words z) (start z .pre .0) (start z .args .level) (start z .args .mode) (start z .args .n) (start z .args .c) (start z .pre .1) (c .match .keys4))
 
 returns-5 : tie.Need-returns-5
-returns-5 c = 
+returns-5 c =
     let z = c .before .before .before .before .before .before in
     let left = c .before .before .pair5 .ensures ∙ ap (λ (i : ℕ). pairAt (words z) i) (p-is z) in
     let right = c .before .before .before .before .pair4 .ensures ∙ ap (λ (i : ℕ). pairAt (words z) i) (q-is z) in
