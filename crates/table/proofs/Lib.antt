@@ -1,5 +1,11 @@
 pub mod Checks
 pub mod Limits
+pub mod Measuring
 pub mod Operands
 pub mod Reaches
 pub mod Promises
+pub mod Marking
+pub mod Naming
+pub mod Spreading
+pub mod Halving
+pub mod Examples

@@ -8,7 +8,7 @@ use native.Mathlib.Omega.{arith}
 use lib.Dec.{leb}
 use lib.ListN.{length, take, drop, length-take, length-drop}
 use borrow.Author.Tests.{leb-true, le-leb}
-use Rattle.basis.proofs.Tests.{and-left, and-right, and-both}
+use Rattle.basis.proofs.Tests.{and-left, and-right}
 use Rattle.table.specs.declared.Sizes.{Sizes}
 use Rattle.table.specs.Tables.{sizesOf, rootsOf, withinLimits, kindsOf, operandsOf, tableOf}
 use Rattle.table.specs.Sound.{Limits, Shaped}

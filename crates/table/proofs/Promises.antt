@@ -2,27 +2,27 @@
 -- Assumes nothing.
 use Prim.Native.Nat.{ℕ, _+_, _*_, _<_, _≤_}
 use mathlib.Core.Bool.{Bool, true, false, cond, not, _&&_, _||_}
-use mathlib.Core.Path.{_≡_, refl, sym, ap, subst, _∙_}
+use mathlib.Core.Path.{_≡_, refl, ap, subst, _∙_}
 use mathlib.Core.Logic.{_⊎_, inl, inr, ⊎-elim}
 use mathlib.Core.List.{List}
 use native.Mathlib.Omega.{arith}
 use lib.Dec.{ltb, leb, eqb}
 use lib.ListN.{length, List·getD-eq-default}
-use borrow.Author.Tests.{ltb-true, ltb-false, leb-true, eqb-true, eqb-false, eq-eqb, ne-eqb, lt-ltb, le-ltb, le-leb, not-false}
-use Rattle.basis.specs.Numbers.{some, lowest}
+use borrow.Author.Tests.{leb-true, eqb-true, eqb-false, eq-eqb, lt-ltb, le-ltb, le-leb, not-false}
+use Rattle.basis.specs.Numbers.{lowest}
 use Rattle.basis.proofs.Numbers.{some-at}
-use Rattle.basis.proofs.Tests.{either, not-both, is-false, and-left, and-right, and-both, and-fails, or-either, or-left, or-right, or-neither, lt-or-le, same-or-other}
+use Rattle.basis.proofs.Tests.{not-both, and-left, and-right, and-both, and-fails, or-either, or-neither, lt-or-le}
 use Rattle.table.specs.declared.Field.{Field}
-use Rattle.table.specs.declared.Field.the-variants.{Never, Zero, Attribute, Stigmergy, Environment, Party, Definition, Process, Guard, Expression, Value}
+use Rattle.table.specs.declared.Field.the-variants.{Never, Zero, Process, Guard}
 use Rattle.table.specs.declared.Fields.{Fields}
 use Rattle.table.specs.Checks.{passes, refuseAt}
 use Rattle.table.specs.Tables.{Table, sizesOf, withinLimits, tableOf, kindAt, pAt, qAt, firstRoot, firstLinkRoot, firstAgentRoot, bodyAt, linkAt, startAt}
 use Rattle.table.specs.Nodes.{processRows, guardRows, expressionRows, lookup, fields, fieldsOf, fieldsHere, fieldsAt, rootNames, isProcess, isGuard, isExpression, inner, fitting, leftNode, rightNode, names, named, namesAgain, badNode}
-use Rattle.table.specs.Reach.{processNode, linkRoot, keyNode, reaches, reachedFrom, wrongKey}
-use Rattle.table.specs.Sound.{Limits, Shaped, Sound}
+use Rattle.table.specs.Reach.{processNode, linkRoot, reachedFrom, wrongKey}
+use Rattle.table.specs.Sound.{Sound}
 use Rattle.table.proofs.Checks.{refuseAt-passes}
 use Rattle.table.proofs.Limits.{shaped}
-use Rattle.table.proofs.Operands.{LowerProcess, LowerGuard, LowerExpression, Holds, left-holds, right-holds, names-left, names-right}
+use Rattle.table.proofs.Operands.{LowerProcess, LowerGuard, LowerExpression, Holds, left-holds, right-holds, names-left}
 use Rattle.table.proofs.Reaches.{reached-start, reached-named}
 
 -- bytes that checks 1 to 5 pass are a sound table
@@ -47,7 +47,7 @@ module _ (t : Table) where
   not-bad n e = let w = or-neither (not (fitting t n)) (namesAgain t n) e in (not-false (fitting t n) (w .0), w .1)
 
   -- fields of a node that is no root, and of one that is
-  inner-fields : (n : ℕ) → n < firstRoot t → fieldsAt t n ≡ fieldsOf (kindAt t n)
+  pub inner-fields : (n : ℕ) → n < firstRoot t → fieldsAt t n ≡ fieldsOf (kindAt t n)
   unfolding fieldsHere
   inner-fields n h = rw (fieldsHere, lt-ltb n (firstRoot t) h)
 

@@ -3,3 +3,6 @@ pub mod Tables
 pub mod Nodes
 pub mod Reach
 pub mod Sound
+pub mod Measuring
+pub mod Marks
+pub mod Halves

@@ -1,4 +1,22 @@
-// Reading a fleet table.
+// Reading a fleet table: its sizes, kinds and operands, and refusals 1 to 5.
+mod bad;
+mod header;
+mod kinds;
+mod marks;
+mod nodes;
+mod reading;
+mod wrong;
+
+pub use bad::lowest_bad;
+pub use header::measure;
+pub use kinds::first_root;
+pub use kinds::is_expression;
+pub use kinds::is_guard;
+pub use kinds::is_process;
+pub use reading::constant_at;
+pub use reading::p_at;
+pub use reading::q_at;
+pub use wrong::lowest_wrong;
 
 // The six sizes of a table.
 pub struct Sizes {
@@ -8,6 +26,12 @@ pub struct Sizes {
     pub attributes: usize,
     pub stigmergy: usize,
     pub environment: usize,
+}
+
+// What measuring a table gives: its sizes, or a refusal's number and place.
+pub enum Measured {
+    Fine(Sizes),
+    Refused(u8, usize),
 }
 
 // What an operand field holds. Nothing fits `Never`.
@@ -29,4 +53,13 @@ pub enum Field {
 pub struct Fields {
     pub p: Field,
     pub q: Field,
+}
+
+// What is found of a node: whether its fields fit, whether p and q are nodes, p and q.
+struct Look {
+    fitting: bool,
+    left: bool,
+    right: bool,
+    p: usize,
+    q: usize,
 }

@@ -1,0 +1,109 @@
+-- Answers of checks in order.
+-- Assumes nothing.
+use Prim.Native.Nat.{ℕ, _+_, _-_, _*_, _≤_, _<_}
+use mathlib.Core.Bool.{Bool, false, not, _||_}
+use mathlib.Core.Path.{_≡_, refl, sym, ap, subst, _∙_}
+use mathlib.Core.List.{List, [], _∷_}
+use native.Mathlib.Omega.{arith}
+use lib.Dec.{ltb, eqb}
+use lib.ListN.{length, take, drop}
+use borrow.Author.Tests.{lt-ltb, le-ltb, eq-eqb, ne-eqb}
+use Rattle.basis.specs.Numbers.{lowest}
+use Rattle.basis.proofs.Lists.{take-rest}
+use Rattle.basis.proofs.Numbers.{lowest-before, lowest-bound}
+use Rattle.table.specs.declared.Sizes.{Sizes}
+use Rattle.table.specs.declared.Measured.{Measured}
+use Rattle.table.specs.declared.Measured.the-variants.{Fine as MeasuredFine, Refused as MeasuredRefused}
+use Rattle.table.specs.Checks.{Check, passes, refuses, refuseAt, firstOf}
+use Rattle.table.specs.Tables.{Table, table, sizesOf, tableOf, kindsOf, operandsOf}
+use Rattle.table.specs.Measuring.{measuredCheck, sizeChecks, Measure}
+use Rattle.table.proofs.Checks.{first-later, first-refuses, append-later, append-refuses, refuseIf-true, refuseIf-false, refuseAt-below, refuseAt-past}
+use Rattle.table.proofs.Limits.{kinds-part}
+use Rattle.term.specs.Exposure.{badCall}
+use Rattle.term.specs.Acceptance.{stateWords, contentChecks}
+use Rattle.accept.specs.Scratch.{Held, Counted}
+use Rattle.accept.specs.Calls.{CallsJudged}
+use Rattle.accept.specs.Answers.{lentCheck, Judged, Accepts}
+use Rattle.accept.specs.declared.Acceptance.{Acceptance}
+use Rattle.accept.specs.declared.Acceptance.the-variants.{Accepted, Refused}
+
+-- a refusal accepts nothing
+not-accepted : {number place : ℕ} {n : Sizes} → Refused number place ≡ Accepted n → ⊥
+not-accepted e = let z : _≡_ {A = ℕ} 0 1 = cc in omega arith
+
+module _ {t : Table} {s : List ℕ} where
+  -- the first check refuses; it passes, and the others decide; there is none
+  pub judged-refused : {c : Check} {cs : List Check} {number place : ℕ} → c ≡ refuses number place → Judged t (c ∷ cs) s (Refused number place)
+  judged-refused {c} {cs} e = record { check = sym (first-refuses c cs e); sizes = λ n f. absurd (not-accepted f); counted = λ n f. absurd (not-accepted f) }
+
+  pub judged-later : {c : Check} {cs : List Check} {r : Acceptance} → c ≡ passes → Judged t cs s r → Judged t (c ∷ cs) s r
+  judged-later {c} {cs} e j = record { check = j .check ∙ sym (first-later c cs e); sizes = j .sizes; counted = j .counted }
+
+  pub judged-none : Counted t s → Judged t [] s (Accepted (t .sizes))
+  unfolding firstOf
+  judged-none c = record { check = refl; sizes = λ n f. (cc); counted = λ n f. c }
+
+-- a lowest number that code has found
+module _ (number limit : ℕ) (test : ℕ → Bool) {x : ℕ} (e : x ≡ lowest test limit) where
+  pub refuses-at : x < limit → refuseAt number limit (lowest test limit) ≡ refuses number x
+  refuses-at h = subst (λ (y : ℕ). refuseAt number limit y ≡ refuses number x) e (refuseAt-below number limit x h)
+
+  pub passes-at : limit ≤ x → refuseAt number limit (lowest test limit) ≡ passes
+  passes-at h = refuseAt-past number limit (lowest test limit) (omega arith)
+
+  pub none-at : limit ≤ x → (k : ℕ) → k < limit → test k ≡ false
+  none-at h k l = lowest-before test limit k (omega arith)
+
+-- the counts of all definitions, where 6 passes
+pub held-all : {t : Table} {s : List ℕ} {r : ℕ} → CallsJudged t s r → t .sizes .definitions ≤ r → Held t (t .sizes .definitions) 0 s
+held-all {t} j h = j .held (omega (arith, j .is, lowest-bound (badCall t) (t .sizes .definitions)))
+
+-- the parts of a table as code lends them
+pub lent-table : (bytes : List ℕ) (n : Sizes) → n ≡ sizesOf bytes
+    → table n (take (12 + n .nodes - 12) (drop 12 bytes)) (take (length bytes - (12 + n .nodes)) (drop (12 + n .nodes) bytes)) ≡ tableOf bytes
+lent-table bytes n e =
+    (λ i. table n (kinds-part bytes (n .nodes) i) (take-rest bytes (12 + n .nodes) i)) ∙
+    ap (λ (m : Sizes). table m (kindsOf bytes (m .nodes)) (operandsOf bytes (m .nodes))) e
+
+-- 8
+module _ (bytes : List ℕ) (stateLength scratchLength : ℕ) where
+  abbrev short : Bool
+  short = not (eqb stateLength stateWords) || ltb scratchLength (2 * sizesOf bytes .nodes)
+
+  pub lent-state : (stateLength ≡ stateWords → ⊥) → lentCheck bytes stateLength scratchLength ≡ refuses 8 0
+  lent-state h = refuseIf-true 8 short (rw (ne-eqb stateLength stateWords h))
+
+  pub lent-short : stateLength ≡ stateWords → scratchLength < 2 * sizesOf bytes .nodes → lentCheck bytes stateLength scratchLength ≡ refuses 8 0
+  lent-short e h = refuseIf-true 8 short (rw (eq-eqb stateLength stateWords e, lt-ltb scratchLength (2 * sizesOf bytes .nodes) h))
+
+  pub lent-enough : stateLength ≡ stateWords → 2 * sizesOf bytes .nodes ≤ scratchLength → lentCheck bytes stateLength scratchLength ≡ passes
+  lent-enough e h = refuseIf-false 8 short (rw (eq-eqb stateLength stateWords e, le-ltb scratchLength (2 * sizesOf bytes .nodes) h))
+
+-- 1 to 3
+module _ {bytes : List ℕ} {m : Measured} (measured : Measure bytes m) where
+  measured-is : (x : Measured) → m ≡ x → firstOf (sizeChecks bytes) ≡ measuredCheck x
+  measured-is x e = sym (measured .check) ∙ ap (λ (y : Measured). measuredCheck y) e
+
+  pub size-passes : {n : Sizes} → m ≡ MeasuredFine n → firstOf (sizeChecks bytes) ≡ passes
+  size-passes {n} e = measured-is (MeasuredFine n) e
+
+  -- the whole
+  module _ (stateLength : ℕ) {before after : List ℕ} (same : length after ≡ length before) where
+    pub accepts-refused : {number place : ℕ} → m ≡ MeasuredRefused number place → Accepts bytes stateLength before after (Refused number place)
+    accepts-refused {number} {place} e =
+        record {
+          check = sym (append-refuses (sizeChecks bytes) (lentCheck bytes stateLength (length before) ∷ contentChecks (tableOf bytes)) (measured-is (MeasuredRefused number place) e));
+          sizes = λ n f. absurd (not-accepted f);
+          counted = λ n f. absurd (not-accepted f);
+          same-length = same;
+        }
+
+    pub accepts-judged : {n : Sizes} {r : Acceptance} → m ≡ MeasuredFine n
+        → Judged (tableOf bytes) (lentCheck bytes stateLength (length before) ∷ contentChecks (tableOf bytes)) after r → Accepts bytes stateLength before after r
+    accepts-judged e j =
+        record {
+          check = j .check ∙ sym (append-later (sizeChecks bytes) (lentCheck bytes stateLength (length before) ∷ contentChecks (tableOf bytes)) (size-passes e));
+          sizes = j .sizes;
+          counted = j .counted;
+          same-length = same;
+        }

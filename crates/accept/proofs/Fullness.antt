@@ -1,0 +1,88 @@
+-- Refusal 7 by the counts that are held, and the true counts where no node is over-full.
+-- Assumes nothing.
+use Prim.Native.Nat.{ℕ, _+_, _≤_, _<_}
+use mathlib.Core.Bool.{true, false, not}
+use mathlib.Core.Path.{_≡_, sym, ap, subst, _∙_}
+use mathlib.Core.Logic.{⊎-elim}
+use mathlib.Core.List.{List}
+use native.Mathlib.Omega.{arith}
+use lib.Dec.{leb}
+use borrow.Author.Tests.{leb-true, le-leb, lt-leb}
+use Rattle.basis.specs.Numbers.{lowest}
+use Rattle.basis.proofs.Tests.{either, lt-or-le}
+use Rattle.basis.proofs.Numbers.{lowest-none, lowest-at}
+use Rattle.table.specs.Tables.{Table, kindAt, firstRoot}
+use Rattle.table.specs.Nodes.{isProcess}
+use Rattle.table.proofs.Promises.{root-kind}
+use Rattle.term.specs.Processes.{Process, nodeProcess, few}
+use Rattle.term.specs.Choices.{actionCount, tickCount}
+use Rattle.term.specs.Acceptance.{overfull}
+use Rattle.term.specs.Accepted.{Checked}
+use Rattle.term.proofs.Counting.{few-count}
+use Rattle.term.proofs.Acceptance.{no-process, nodes-few}
+use Rattle.accept.specs.Counts.{capped, counts, trueCounts, countsOf}
+use Rattle.accept.specs.Scratch.{pairAt, Held, Counted}
+use Rattle.accept.specs.declared.Counts.{Counts}
+use Rattle.accept.proofs.Caps.{counts-idle}
+
+abbrev sum : Counts → ℕ
+sum c = c .actions + c .ticks
+
+-- a sum is over 65,535 where that of its summands, held, is
+held-sum : (x y : ℕ) → leb (x + y) 65535 ≡ leb (capped x + capped y) 65535
+held-sum x y =
+    ⊎-elim (λ (h : 65535 < x + y). lt-leb (x + y) 65535 h ∙ sym (lt-leb (capped x + capped y) 65535 (omega arith)))
+    (λ (h : x + y ≤ 65535). le-leb (x + y) 65535 h ∙ sym (le-leb (capped x + capped y) 65535 (omega arith))) (lt-or-le 65535 (x + y))
+
+few-held : (P : Process) → few P ≡ leb (sum (countsOf P)) 65535
+unfolding countsOf
+few-held P = few-count P ∙ held-sum (actionCount P) (tickCount P)
+
+module _ {t : Table} {s : List ℕ} (held : Held t (t .sizes .definitions) (firstRoot t) s) where
+  pub all-held : (n : ℕ) → n < firstRoot t → pairAt s n ≡ countsOf (nodeProcess t n)
+  unfolding nodeProcess
+  all-held n h = held .nodes n h
+
+  overfull-held : (n : ℕ) → n < firstRoot t → overfull t n ≡ not (leb (sum (pairAt s n)) 65535)
+  overfull-held n h = ⊎-elim process other (either (isProcess (kindAt t n)))
+    where
+      full : not (few (nodeProcess t n)) ≡ not (leb (sum (pairAt s n)) 65535)
+      full = ap not (few-held (nodeProcess t n) ∙ sym (ap (λ (c : Counts). leb (sum c) 65535) (all-held n h)))
+
+      process : isProcess (kindAt t n) ≡ true → overfull t n ≡ not (leb (sum (pairAt s n)) 65535)
+      process e = rw e full
+
+      other : isProcess (kindAt t n) ≡ false → overfull t n ≡ not (leb (sum (pairAt s n)) 65535)
+      other e =
+          rw e (ap (λ (c : Counts). not (leb (sum c) 65535)) (sym (all-held n h ∙ ap countsOf (no-process t n e) ∙ counts-idle)))
+
+  -- as code finds it
+  pub overfull-yes : (n : ℕ) (c : Counts) → n < firstRoot t → c ≡ pairAt s n → 65535 < c .actions + c .ticks → overfull t n ≡ true
+  overfull-yes n c h e l = overfull-held n h ∙ ap (λ (x : Counts). not (leb (sum x) 65535)) (sym e) ∙ ap not (lt-leb (sum c) 65535 l)
+
+  pub overfull-no : (n : ℕ) (c : Counts) → n < firstRoot t → c ≡ pairAt s n → c .actions + c .ticks ≤ 65535 → overfull t n ≡ false
+  overfull-no n c h e l = overfull-held n h ∙ ap (λ (x : Counts). not (leb (sum x) 65535)) (sym e) ∙ ap not (le-leb (sum c) 65535 l)
+
+  pub lowest-full : (n : ℕ) → n < firstRoot t → overfull t n ≡ true → ((k : ℕ) → k < n → overfull t k ≡ false) → n ≡ lowest (overfull t) (t .sizes .nodes)
+  lowest-full n h e f = sym (lowest-at (overfull t) (t .sizes .nodes) n (omega arith) e f)
+
+  -- roots are no processes
+  pub none-full : ((k : ℕ) → k < firstRoot t → overfull t k ≡ false) → t .sizes .nodes ≡ lowest (overfull t) (t .sizes .nodes)
+  none-full f = sym (lowest-none (overfull t) (t .sizes .nodes) (λ k h. ⊎-elim (λ (l : k < firstRoot t). f k l) (root k h) (lt-or-le k (firstRoot t))))
+    where
+      root : (k : ℕ) → k < t .sizes .nodes → firstRoot t ≤ k → overfull t k ≡ false
+      root k h l = rw (root-kind t (held .sound) k h l)
+
+  -- what is left: the true counts, which are few
+  pub counted : Checked t → Counted t s
+  counted c = record { words = held .words; nodes = λ n h. all-held n h ∙ exact n; few = λ n h. subst (λ (x : Counts). sum x ≤ 65535) (sym (all-held n h ∙ exact n)) (bound n) }
+    where
+      bound : (n : ℕ) → sum (trueCounts (nodeProcess t n)) ≤ 65535
+      bound n = leb-true (sum (trueCounts (nodeProcess t n))) 65535 (sym (few-count (nodeProcess t n)) ∙ nodes-few t c n)
+
+      exact : (n : ℕ) → countsOf (nodeProcess t n) ≡ trueCounts (nodeProcess t n)
+      exact n = unfold countsOf in
+          (let b = bound n in
+          let a : capped (actionCount (nodeProcess t n)) ≡ actionCount (nodeProcess t n) = omega arith in
+          let k : capped (tickCount (nodeProcess t n)) ≡ tickCount (nodeProcess t n) = omega arith in
+          λ i. counts (a i) (k i))

@@ -1,0 +1,6 @@
+pub mod Caps
+pub mod Cells
+pub mod Counting
+pub mod Exposing
+pub mod Fullness
+pub mod Answering

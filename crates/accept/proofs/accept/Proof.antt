@@ -1,0 +1,43 @@
+-- `accept::accept` meets its contract.
+-- Assumes nothing.
+use mathlib.Core.Path.{refl}
+use borrow.Author.Needs.{needs}
+use Rattle.accept.proofs.accept.Statement.{statement}
+use Rattle.accept.proofs.accept.Tie as tie
+use Rattle.accept.proofs.Answering.{size-passes, accepts-refused, accepts-judged}
+
+measure-requires : tie.Need-measure-requires
+measure-requires c κs = search needs
+
+enum-known-measured : tie.Need-enum-known-measured
+enum-known-measured c = search needs
+
+judge-lent-requires : tie.Need-judge-lent-requires
+judge-lent-requires c κs =
+    let m = c .before .before .before .before .measure .ensures in
+    let e = c .before .before .measured .given .1 in
+    (size-passes m e, m .sizes _ e)
+
+enum-known-measured-2 : tie.Need-enum-known-measured-2
+enum-known-measured-2 c = search needs
+
+same-length : tie.Need-same-length
+same-length c = search needs
+
+returns : tie.Need-returns
+returns c = accepts-judged (c .before .before .before .before .before .before .before .measure .ensures) _ (c .before .before .judge-lent .kept .1 .1 .1 .0) (c .before .before .before .before .before .measured .given .1) (c .before .before .judge-lent .ensures)
+
+returns-2 : tie.Need-returns-2
+returns-2 c = accepts-refused (c .before .before .before .measure .ensures) _ refl (c .before .measured2 .given .1)
+
+pub accept-spec : {M : Type 1} → statement M
+accept-spec =
+    tie.close
+    (tie.spec
+    measure-requires
+    enum-known-measured
+    judge-lent-requires
+    enum-known-measured-2
+    same-length
+    returns
+    returns-2)

@@ -1,0 +1,89 @@
+-- `accept::judge` meets its contract.
+-- Assumes nothing.
+use Prim.Native.Nat.{ℕ, _<_}
+use mathlib.Core.Bool.{false}
+use mathlib.Core.Path.{_≡_}
+use native.Mathlib.Omega.{arith}
+use denote.Ref.{now}
+use borrow.Author.Needs.{needs}
+use Rattle.basis.specs.Numbers.{lowest}
+use Rattle.table.specs.Checks.{passes, refuseAt}
+use Rattle.table.specs.Tables.{Table, table}
+use Rattle.table.specs.Nodes.{badNode}
+use Rattle.table.specs.Reach.{wrongKey}
+use Rattle.table.specs.Sound.{Sound}
+use Rattle.accept.proofs.judge.Statement.{statement}
+use Rattle.accept.proofs.judge.Tie as tie
+use Rattle.accept.proofs.Answering.{judged-refused, judged-later, refuses-at, passes-at, none-at}
+
+abbrev tableAt : tie.Start → Table
+tableAt a = table (a .args .sizes) (now (a .args .kinds)) (now (a .args .operands))
+
+-- 4 has passed; and 5
+abbrev start : tie.Else1 → tie.Start
+start c = c .before .before .before .before .before .before .before .before .before
+
+fine : (c : tie.Else1) → (k : ℕ) → k < start c .args .sizes .nodes → badNode (tableAt (start c)) k ≡ false
+fine c = none-at 4 (start c .args .sizes .nodes) (badNode (tableAt (start c))) (c .before .before .before .before .lowest-bad .ensures) (c .if1 .left)
+
+abbrev first : tie.Else2 → tie.Else1
+first c = c .before .before .before .before .before .before
+
+sound : (c : tie.Else2) → Sound (tableAt (start (first c)))
+sound c =
+    let a = start (first c) in
+    record {
+      shaped = a .pre .0;
+      nodes = fine (first c);
+      keys = none-at 5 (a .args .sizes .nodes) (wrongKey (tableAt a)) (c .before .before .before .before .lowest-wrong .ensures) (c .if2 .left);
+    }
+
+four : (c : tie.Else1) → refuseAt 4 (start c .args .sizes .nodes) (lowest (badNode (tableAt (start c))) (start c .args .sizes .nodes)) ≡ passes
+four c = passes-at 4 (start c .args .sizes .nodes) (badNode (tableAt (start c))) (c .before .before .before .before .lowest-bad .ensures) (c .if1 .left)
+
+lowest-bad-requires : tie.Need-lowest-bad-requires
+lowest-bad-requires c κs = search needs
+
+same-length : tie.Need-same-length
+same-length c = search needs
+
+returns : tie.Need-returns
+returns c = judged-refused (refuses-at 4 _ (badNode (tableAt (c .before .before .before .before .before .before .before .before .before))) (c .before .before .before .before .lowest-bad .ensures) (c .if1 .taken))
+
+lowest-wrong-requires : tie.Need-lowest-wrong-requires
+lowest-wrong-requires c κs = (start (c .before) .pre .0, omega arith, fine (c .before))
+
+same-length-2 : tie.Need-same-length-2
+same-length-2 c = search needs
+
+returns-2 : tie.Need-returns-2
+returns-2 c =
+    let l = c .before .before .before .before .before .before in
+    judged-later (four l) (judged-refused (refuses-at 5 _ (wrongKey (tableAt (start l))) (c .before .before .before .before .lowest-wrong .ensures) (c .if2 .taken)))
+
+judge-terms-requires : tie.Need-judge-terms-requires
+judge-terms-requires c κs = (sound (c .before), omega arith)
+
+same-length-3 : tie.Need-same-length-3
+same-length-3 c = search needs
+
+returns-3 : tie.Need-returns-3
+returns-3 c =
+    let m = c .before .before .before .before in
+    let a = start (first m) in
+    judged-later (four (first m))
+    (judged-later (passes-at 5 (a .args .sizes .nodes) (wrongKey (tableAt a)) (m .before .before .before .before .lowest-wrong .ensures) (m .if2 .left)) (c .before .before .judge-terms .ensures))
+
+pub judge-spec : {M : Type 1} → statement M
+judge-spec =
+    tie.close
+    (tie.spec
+    lowest-bad-requires
+    same-length
+    returns
+    lowest-wrong-requires
+    same-length-2
+    returns-2
+    judge-terms-requires
+    same-length-3
+    returns-3)

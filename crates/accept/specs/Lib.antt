@@ -1,0 +1,4 @@
+pub mod Counts
+pub mod Scratch
+pub mod Calls
+pub mod Answers

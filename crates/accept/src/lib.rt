@@ -1,0 +1,111 @@
+// Which tables are accepted: how many derivations each node has, refusals 6 and 7, and all refusals of a table in order.
+use calls::lowest_bad_call;
+use nodes::lowest_overfull;
+use nodes::pass;
+use table::Measured;
+use table::Sizes;
+use table::first_root;
+use table::lowest_bad;
+use table::lowest_wrong;
+use table::measure;
+ghost use mathlib.Core.Path.{_≡_};
+ghost use mathlib.Core.List.{_∷_};
+ghost use Prim.Native.Nat.{_*_, _≤_};
+ghost use lib.ListN.{length};
+ghost use Rattle.table.specs.Checks.{passes, firstOf};
+ghost use Rattle.table.specs.Measuring.{sizeChecks};
+ghost use Rattle.table.specs.Sound.{Shaped, Sound};
+ghost use Rattle.table.specs.Tables.{table as tableFrom, sizesOf, tableOf};
+ghost use Rattle.term.specs.Acceptance.{contentChecks};
+ghost use Rattle.accept.specs.Answers.{lentCheck, termChecks, Judged, Accepts};
+
+pub mod sums; // sums.rt: counts of a choice, a sequence and a parallel
+pub mod words; // words.rt: a node's counts in the lent words
+mod nodes; // nodes.rt: the counts of a node, and of all nodes; refusal 7
+mod calls; // calls.rt: refusal 6
+
+// How many actions and ticks a process has. 65,536 stands for any larger number too.
+pub struct Counts {
+    pub actions: u64,
+    pub ticks: u64,
+}
+
+// What a node leaves to ask, where its exposed calls are looked for: nothing, the same of one node, or of two.
+pub enum Exposed {
+    Settled(bool),
+    One(usize),
+    Both(usize, usize),
+}
+
+// An accepted table's sizes, or a refusal's number and place.
+pub enum Acceptance {
+    Accepted(Sizes),
+    Refused(u8, usize),
+}
+
+// Refusals 6 and 7.
+fn judge_terms(sizes: Sizes, kinds: &[u8], operands: &[u8], scratch: &mut [u32]) -> Acceptance
+    requires { ⌜ Sound (tableFrom sizes (now kinds) (now operands)) × (2 * sizes .nodes ≤ length (now scratch)) ⌝ }
+    ensures { λ r. ⌜ Judged (tableFrom sizes (now (kinds .entry)) (now (operands .entry))) (termChecks (tableFrom sizes (now (kinds .entry)) (now (operands .entry)))) (now (scratch .exit)) r ⌝ }
+{
+    let call = lowest_bad_call(sizes, kinds, operands, scratch);
+    if call < sizes.definitions {
+        return Acceptance::Refused(6, call);
+    }
+    pass(
+        sizes,
+        kinds,
+        operands,
+        scratch,
+        sizes.definitions,
+        first_root(sizes),
+    );
+    let full = lowest_overfull(sizes, kinds, operands, scratch);
+    if full < sizes.nodes {
+        return Acceptance::Refused(7, full);
+    }
+    Acceptance::Accepted(sizes)
+}
+
+// Refusals 4 to 7.
+fn judge(sizes: Sizes, kinds: &[u8], operands: &[u8], scratch: &mut [u32]) -> Acceptance
+    requires { ⌜ Shaped (tableFrom sizes (now kinds) (now operands)) × (2 * sizes .nodes ≤ length (now scratch)) ⌝ }
+    ensures { λ r. ⌜ Judged (tableFrom sizes (now (kinds .entry)) (now (operands .entry))) (contentChecks (tableFrom sizes (now (kinds .entry)) (now (operands .entry)))) (now (scratch .exit)) r ⌝ }
+{
+    let bad = lowest_bad(sizes, kinds, operands, scratch);
+    if bad < sizes.nodes {
+        return Acceptance::Refused(4, bad);
+    }
+    let wrong = lowest_wrong(sizes, kinds, operands, scratch);
+    if wrong < sizes.nodes {
+        return Acceptance::Refused(5, wrong);
+    }
+    judge_terms(sizes, kinds, operands, scratch)
+}
+
+// Refusal 8, of a state of this length and the lent words, and then 4 to 7.
+fn judge_lent(table: &[u8], sizes: Sizes, state_length: usize, scratch: &mut [u32]) -> Acceptance
+    requires { ⌜ (firstOf (sizeChecks (now table)) ≡ passes) × (sizes ≡ sizesOf (now table)) ⌝ }
+    ensures { λ r. ⌜ Judged (tableOf (now (table .entry))) (lentCheck (now (table .entry)) «state_length» (length (now (scratch .entry))) ∷ contentChecks (tableOf (now (table .entry)))) (now (scratch .exit)) r ⌝ }
+{
+    if state_length != 4194 {
+        return Acceptance::Refused(8, 0);
+    }
+    if scratch.len() < 2 * sizes.nodes {
+        return Acceptance::Refused(8, 0);
+    }
+    let operands = 12 + sizes.nodes;
+    judge(sizes, &table[12..operands], &table[operands..], scratch)
+}
+
+// Judges a table, for a state of this length and the lent words: refusals 1, 2, 3, 8, 4, 5, 6 and 7, in this order.
+// Where it is accepted, the words hold the counts of its nodes.
+pub fn accept(table: &[u8], state_length: usize, scratch: &mut [u32]) -> Acceptance
+    ensures { λ r. ⌜ Accepts (now (table .entry)) «state_length» (now (scratch .entry)) (now (scratch .exit)) r ⌝ }
+{
+    let measured = measure(table);
+    match measured {
+        Measured::Fine(sizes) => judge_lent(table, sizes, state_length, scratch),
+        Measured::Refused(number, place) => Acceptance::Refused(number, place),
+    }
+}

@@ -1,0 +1,52 @@
+// Sums and products of counts, held at 65,536.
+use crate::Counts;
+ghost use mathlib.Core.Path.{_≡_};
+ghost use Prim.Native.Nat.{_*_, _≤_};
+ghost use Rattle.accept.specs.Counts.{capped, counts as countsFrom, Small, choiceCounts, seqCounts, parCounts};
+
+pub fn counts(actions: u64, ticks: u64) -> Counts
+    ensures { λ r. ⌜ r ≡ countsFrom actions ticks ⌝ }
+{
+    Counts { actions, ticks }
+}
+
+fn cap(x: u64) -> u64
+    ensures { λ r. ⌜ r ≡ capped x ⌝ }
+{
+    if x < 65536 { x } else { 65536 }
+}
+
+fn times(x: u64, y: u64) -> u64
+    requires { ⌜ (x ≤ 65536) × (y ≤ 65536) ⌝ }
+    ensures { λ r. ⌜ (r ≡ x * y) × (r ≤ 4294967296) ⌝ }
+{
+    x * y
+}
+
+pub fn choice(p: Counts, q: Counts) -> Counts
+    requires { ⌜ Small p ⌝ ∗ ⌜ Small q ⌝ }
+    ensures { λ r. ⌜ r ≡ choiceCounts p q ⌝ }
+{
+    counts(cap(p.actions + q.actions), cap(p.ticks + q.ticks))
+}
+
+// The right part counts once for each tick of the left.
+pub fn sequence(p: Counts, q: Counts) -> Counts
+    requires { ⌜ Small p ⌝ ∗ ⌜ Small q ⌝ }
+    ensures { λ r. ⌜ r ≡ seqCounts p q ⌝ }
+{
+    let actions = cap(p.actions + times(p.ticks, q.actions));
+    let ticks = cap(times(p.ticks, q.ticks));
+    counts(actions, ticks)
+}
+
+// Each part counts, and once more for each tick of the other.
+pub fn parallel(p: Counts, q: Counts) -> Counts
+    requires { ⌜ Small p ⌝ ∗ ⌜ Small q ⌝ }
+    ensures { λ r. ⌜ r ≡ parCounts p q ⌝ }
+{
+    let joined = times(p.ticks, q.actions) + times(q.ticks, p.actions);
+    let actions = cap(p.actions + (q.actions + joined));
+    let ticks = cap(times(p.ticks, q.ticks) + times(q.ticks, p.ticks));
+    counts(actions, ticks)
+}

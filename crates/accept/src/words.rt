@@ -1,0 +1,30 @@
+// A node's counts in the lent words: its actions at word 2n, its ticks at word 2n + 1.
+use crate::Counts;
+ghost use mathlib.Core.Path.{_≡_};
+ghost use Prim.Native.Nat.{_+_, _*_, _<_};
+ghost use lib.ListN.{length};
+ghost use Rattle.accept.specs.Counts.{Small};
+ghost use Rattle.accept.specs.Scratch.{pairAt, stored};
+
+fn wide(x: u32) -> u64
+    ensures { λ r. ⌜ r ≡ x ⌝ }
+{
+    x as u64
+}
+
+pub fn pair(scratch: &[u32], n: usize) -> Counts
+    requires { ⌜ 2 * n + 1 < length (now scratch) ⌝ }
+    ensures { λ r. ⌜ r ≡ pairAt (now (scratch .entry)) n ⌝ }
+{
+    let actions = wide(scratch[2 * n]);
+    let ticks = wide(scratch[2 * n + 1]);
+    Counts { actions, ticks }
+}
+
+pub fn store(scratch: &mut [u32], n: usize, c: Counts)
+    requires { ⌜ 2 * n + 1 < length (now scratch) ⌝ ∗ ⌜ Small c ⌝ }
+    ensures { λ r. ⌜ now (scratch .exit) ≡ stored (now (scratch .entry)) n c ⌝ }
+{
+    scratch[2 * n] = c.actions as u32;
+    scratch[2 * n + 1] = c.ticks as u32;
+}

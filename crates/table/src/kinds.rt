@@ -1,0 +1,192 @@
+// The list of kinds: which sort a kind is, and what its fields hold.
+ghost use mathlib.Core.Path.{_≡_};
+ghost use mathlib.Core.List.{List};
+ghost use Prim.Native.Nat.{ℕ, _-_};
+ghost use Rattle.table.specs.Tables.{table, rootsOf};
+ghost use Rattle.table.specs.Nodes.{isProcess, isGuard, isExpression, processRows, guardRows, expressionRows, lookup, fields, fieldsOf, rootNames, fieldsHere};
+ghost use Rattle.table.specs.Sound.{Limits};
+use super::Field;
+use super::Fields;
+use super::Sizes;
+
+pub fn is_process(kind: u8) -> bool
+    ensures { λ r. ⌜ r ≡ isProcess kind ⌝ }
+{
+    kind <= 9
+}
+
+pub fn is_guard(kind: u8) -> bool
+    ensures { λ r. ⌜ r ≡ isGuard kind ⌝ }
+{
+    (16 <= kind) & (kind <= 22)
+}
+
+pub fn is_expression(kind: u8) -> bool
+    ensures { λ r. ⌜ r ≡ isExpression kind ⌝ }
+{
+    (32 <= kind) & (kind <= 40)
+}
+
+const NOTHING: Fields = Fields {
+    p: Field::Never,
+    q: Field::Never,
+};
+
+const ZEROS: Fields = Fields {
+    p: Field::Zero,
+    q: Field::Zero,
+};
+
+const PROCESSES: Fields = Fields {
+    p: Field::Process,
+    q: Field::Process,
+};
+
+const GUARDS: Fields = Fields {
+    p: Field::Guard,
+    q: Field::Guard,
+};
+
+const EXPRESSIONS: Fields = Fields {
+    p: Field::Expression,
+    q: Field::Expression,
+};
+
+fn process_fields(kind: u8) -> Fields
+    ensures { λ r. ⌜ r ≡ lookup processRows kind ⌝ }
+{
+    match kind {
+        0 => ZEROS,
+        1 => ZEROS,
+        2 => Fields {
+            p: Field::Attribute,
+            q: Field::Expression,
+        },
+        3 => Fields {
+            p: Field::Stigmergy,
+            q: Field::Expression,
+        },
+        4 => Fields {
+            p: Field::Environment,
+            q: Field::Expression,
+        },
+        5 => PROCESSES,
+        6 => PROCESSES,
+        7 => Fields {
+            p: Field::Guard,
+            q: Field::Process,
+        },
+        8 => PROCESSES,
+        9 => Fields {
+            p: Field::Definition,
+            q: Field::Zero,
+        },
+        _ => NOTHING,
+    }
+}
+
+fn guard_fields(kind: u8) -> Fields
+    ensures { λ r. ⌜ r ≡ lookup guardRows kind ⌝ }
+{
+    match kind {
+        16 => ZEROS,
+        17 => EXPRESSIONS,
+        18 => EXPRESSIONS,
+        19 => EXPRESSIONS,
+        20 => Fields {
+            p: Field::Guard,
+            q: Field::Zero,
+        },
+        21 => GUARDS,
+        22 => GUARDS,
+        _ => NOTHING,
+    }
+}
+
+fn expression_fields(kind: u8) -> Fields
+    ensures { λ r. ⌜ r ≡ lookup expressionRows kind ⌝ }
+{
+    match kind {
+        32 => Fields {
+            p: Field::Value,
+            q: Field::Value,
+        },
+        33 => Fields {
+            p: Field::Attribute,
+            q: Field::Party,
+        },
+        34 => Fields {
+            p: Field::Stigmergy,
+            q: Field::Party,
+        },
+        35 => Fields {
+            p: Field::Environment,
+            q: Field::Zero,
+        },
+        36 => EXPRESSIONS,
+        37 => EXPRESSIONS,
+        38 => EXPRESSIONS,
+        39 => EXPRESSIONS,
+        40 => EXPRESSIONS,
+        _ => NOTHING,
+    }
+}
+
+// What the fields of a kind hold, roots aside.
+fn fields_of(kind: u8) -> Fields
+    ensures { λ r. ⌜ r ≡ fieldsOf kind ⌝ }
+{
+    if kind < 16 {
+        return process_fields(kind);
+    }
+    if kind < 32 {
+        return guard_fields(kind);
+    }
+    expression_fields(kind)
+}
+
+// The first of the last D + S + A nodes.
+pub fn first_root(sizes: Sizes) -> usize
+    requires { ⌜ Limits sizes ⌝ }
+    ensures { λ r. ⌜ r ≡ sizes .nodes - rootsOf sizes ⌝ }
+{
+    sizes.nodes - (sizes.definitions + sizes.stigmergy + sizes.agents)
+}
+
+// What the fields of a root hold, by its place.
+fn root_fields(sizes: Sizes, node: usize) -> Fields
+    requires { ⌜ Limits sizes ⌝ }
+    ensures { λ r. ⌜ ((kinds operands : List ℕ) → r ≡ fields (rootNames (table sizes kinds operands) node) Field.Zero) ⌝ }
+{
+    let links = first_root(sizes) + sizes.definitions;
+    if node < links {
+        return Fields {
+            p: Field::Process,
+            q: Field::Zero,
+        };
+    }
+    if node < links + sizes.stigmergy {
+        return Fields {
+            p: Field::Guard,
+            q: Field::Zero,
+        };
+    }
+    Fields {
+        p: Field::Process,
+        q: Field::Zero,
+    }
+}
+
+// What the fields of a node hold, if it has this kind: the last nodes, and no others, are roots.
+pub fn fields_here(sizes: Sizes, node: usize, kind: u8) -> Fields
+    requires { ⌜ Limits sizes ⌝ }
+    ensures { λ r. ⌜ ((kinds operands : List ℕ) → r ≡ fieldsHere (table sizes kinds operands) node kind) ⌝ }
+{
+    if node < first_root(sizes) {
+        return fields_of(kind);
+    }
+    if kind == 64 {
+        return root_fields(sizes, node);
+    }
+    NOTHING
+}
