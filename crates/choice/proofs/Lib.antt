@@ -2,3 +2,4 @@ pub mod Chosen
 pub mod Picking
 pub mod Turning
 pub mod Telling
+pub mod Gaps

@@ -2,3 +2,4 @@ pub mod Chosen
 pub mod Picks
 pub mod Turns
 pub mod Outcomes
+pub mod Writing

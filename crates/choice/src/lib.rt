@@ -1,6 +1,7 @@
 // Choice c of a process node, found by counting: what it does, under which guards, and what it leaves.
 pub mod picks; // picks.rt: which part of a sequence or a parallel a choice is of
 pub mod turns; // turns.rt: one step from a node towards its choice
+pub mod writing; // writing.rt: what a node's choice leaves, written between two places
 pub mod outcomes; // outcomes.rt: what a node's choice does, and how many words it leaves
 
 // Of a sequence or a parallel: an action of the left part, or of the right; or a tick of the left part that joins a derivation of the
@@ -41,4 +42,10 @@ pub enum Does {
 pub struct Outcome {
     pub does: Does,
     pub size: usize,
+}
+
+// The words from front up to back are free: those before and those from back on, put together, are a residual.
+pub struct Gap {
+    pub front: usize,
+    pub back: usize,
 }

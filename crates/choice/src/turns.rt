@@ -7,8 +7,10 @@ use crate::picks::pick;
 use crate::picks::total;
 use accept::Counts;
 use accept::words::pair;
-use basis::u16_at;
 use table::Sizes;
+use table::first_root;
+use table::p_at;
+use table::q_at;
 use term::Mode;
 ghost use mathlib.Core.Path.{_≡_};
 ghost use Prim.Native.Nat.{_+_, _-_, _*_, _<_};
@@ -47,8 +49,7 @@ pub fn body_at(sizes: Sizes, operands: &[u8], d: usize) -> usize
     requires { ⌜ (Limits sizes) × (length (now operands) ≡ 4 * sizes .nodes) × (d < sizes .definitions) ⌝ }
     ensures { λ r. ⌜ r ≡ u16At (now (operands .entry)) (4 * (sizes .nodes - rootsOf sizes + d)) ⌝ }
 {
-    let roots = sizes.nodes - (sizes.definitions + sizes.stigmergy + sizes.agents);
-    u16_at(operands, 4 * (roots + d))
+    p_at(operands, first_root(sizes) + d)
 }
 
 pub fn turn_at(
@@ -66,8 +67,8 @@ pub fn turn_at(
     ensures { λ r. ⌜ Turned (table sizes (now (kinds .entry)) (now (operands .entry))) level mode n c (chosen mode (nodeProcess (table sizes (now (kinds .entry)) (now (operands .entry))) n) c) r ⌝ }
 {
     let kind = kinds[n];
-    let p = u16_at(operands, 4 * n);
-    let q = u16_at(operands, 4 * n + 2);
+    let p = p_at(operands, n);
+    let q = q_at(operands, n);
     match kind {
         1 => Turn::Ticked,
         5 => part(

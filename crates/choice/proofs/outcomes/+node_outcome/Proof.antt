@@ -81,7 +81,7 @@ module _ (t : ℕ) where
   enum-known-turn c = c .match .keys3
 
   node-outcome-requires : node-outcome-lts.Need-node-outcome-requires claims (node-outcome-at t) node-outcome.Post
-  node-outcome-requires c κs = 
+  node-outcome-requires c κs =
       let z = c .before .before .before in
       let e = step z _ (c .before .turn .given .1) in
       (omega (arith, e .0, start z .pre .0), (start z .pre .1 .0, e .1))
@@ -90,13 +90,13 @@ module _ (t : ℕ) where
   enum-known-turn-2 c = c .match .keys4
 
   node-outcome-requires-2 : node-outcome-lts.Need-node-outcome-requires-2 claims (node-outcome-at t) node-outcome.Post
-  node-outcome-requires-2 c κs = 
+  node-outcome-requires-2 c κs =
       let z = c .before .before .before in
       let e = step z _ (c .before .turn2 .given .1) in
       (omega (arith, e .0, start z .pre .0), (start z .pre .1 .0, e .1))
 
   grown-requires : node-outcome-lts.Need-grown-requires claims (node-outcome-at t) node-outcome.Post
-  grown-requires c κs = 
+  grown-requires c κs =
       let z = c .before .before .before .before in
       let e = step z _ (c .before .before .turn2 .given .1) in
       omega (arith, e .0, e .1 .low, e .1 .top, sized z .limits .nodes, sized z .limits .definitions, c .node-outcome2 .ensures .bound)
@@ -105,13 +105,13 @@ module _ (t : ℕ) where
   enum-known-turn-3 c = c .match .keys5
 
   node-outcome-requires-3 : node-outcome-lts.Need-node-outcome-requires-3 claims (node-outcome-at t) node-outcome.Post
-  node-outcome-requires-3 c κs = 
+  node-outcome-requires-3 c κs =
       let z = c .before .before .before in
       let e = step z _ (c .before .turn3 .given .1) in
       (omega (arith, e .0, start z .pre .0), (start z .pre .1 .0, e .1))
 
   grown-requires-2 : node-outcome-lts.Need-grown-requires-2 claims (node-outcome-at t) node-outcome.Post
-  grown-requires-2 c κs = 
+  grown-requires-2 c κs =
       let z = c .before .before .before .before in
       let e = step z _ (c .before .before .turn3 .given .1) in
       omega (arith, e .0, e .1 .low, e .1 .top, sized z .limits .nodes, sized z .limits .definitions, c .node-outcome3 .ensures .bound)
@@ -120,13 +120,13 @@ module _ (t : ℕ) where
   enum-known-turn-4 c = c .match .keys6
 
   body-at-requires : node-outcome-lts.Need-body-at-requires claims (node-outcome-at t) node-outcome.Post
-  body-at-requires c κs = 
+  body-at-requires c κs =
       let z = c .before .before .before in
       let e = step z _ (c .before .turn4 .given .1) in
       (sized z .limits, sized z .operands, omega (arith, e .0, start z .pre .1 .1 .top))
 
   node-outcome-requires-4 : node-outcome-lts.Need-node-outcome-requires-4 claims (node-outcome-at t) node-outcome.Post
-  node-outcome-requires-4 c κs = 
+  node-outcome-requires-4 c κs =
       let z = c .before .before .before .before in
       let e = step z _ (c .before .before .turn4 .given .1) in
       (body z _ _ (c .body-at .ensures) (e .0, e .1), (start z .pre .1 .0, rw (c .body-at .ensures) (e .1)))
@@ -138,7 +138,7 @@ module _ (t : ℕ) where
   returns-2 c = let z = c .before .before in tells-act (goal z) (most (start z .args .level) (start z .args .n)) (omega arith) (start z .args .n) (step z _ (c .enum-told2 .given .1))
 
   returns-3 : node-outcome-lts.Need-returns-3 claims (node-outcome-at t) node-outcome.Post
-  returns-3 c = 
+  returns-3 c =
       let z = c .before .before .before .before in
       let v = c .before .before .turn .given .0 in
       let e = step z _ (c .before .before .turn .given .1) in
@@ -146,19 +146,19 @@ module _ (t : ℕ) where
       tells-same (goal z) d (most (start z .args .level) (v .0)) (most (start z .args .level) (start z .args .n)) _ (c .node-outcome .ensures) (collected-same (tb z) (start z .args .level) (start z .args .n) (goal z) d (v .1 .1 .0) (e .2)) (omega (arith, e .0))
 
   returns-4 : node-outcome-lts.Need-returns-4 claims (node-outcome-at t) node-outcome.Post
-  returns-4 c = 
+  returns-4 c =
       let z = c .before .before .before .before .before in
       let e = step z _ (c .before .before .before .turn2 .given .1) in
       tells-around (goal z) _ _ (most (start z .args .level) (start z .args .n)) _ (c .before .node-outcome2 .ensures) _ _ (e .2) 2 refl (omega (arith, e .0)) _ (c .grown .ensures)
 
   returns-5 : node-outcome-lts.Need-returns-5 claims (node-outcome-at t) node-outcome.Post
-  returns-5 c = 
+  returns-5 c =
       let z = c .before .before .before .before .before in
       let e = step z _ (c .before .before .before .turn3 .given .1) in
       tells-around (goal z) _ _ (most (start z .args .level) (start z .args .n)) _ (c .before .node-outcome3 .ensures) _ _ (e .2) 2 refl (omega (arith, e .0)) _ (c .grown2 .ensures)
 
   returns-6 : node-outcome-lts.Need-returns-6 claims (node-outcome-at t) node-outcome.Post
-  returns-6 c = 
+  returns-6 c =
       let z = c .before .before .before .before .before in
       let e = step z _ (c .before .before .before .turn4 .given .1) in
       let f = c .before .body-at .ensures in

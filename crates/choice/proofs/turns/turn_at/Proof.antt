@@ -23,7 +23,6 @@ use Rattle.choice.proofs.turns.turn_at.Tie as tie
 use Rattle.choice.proofs.turns.turn_at.Reads as reads
 use Rattle.choice.proofs.turns.turn_at.Lts as lts
 use Rattle.accept.proofs.words.pair.Reads as pair-reads
-use Rattle.basis.proofs.u16_at.Reads as u16-at-reads
 use Rattle.choice.proofs.picks.acting.Reads as acting-reads
 use Rattle.choice.proofs.picks.pick.Reads as pick-reads
 use Rattle.choice.proofs.picks.total.Reads as total-reads
@@ -32,7 +31,7 @@ use Rattle.choice.proofs.turns.part.Reads as part-reads
 
 -- both operands have been read
 abbrev At : Type 0
-At = tie.After-u16-at2
+At = tie.After-q-at
 
 abbrev start : At → tie.Start
 start c = c .before .before .before .before .before .before
@@ -43,11 +42,11 @@ tb c = table (start c .args .sizes) (now (start c .args .kinds)) (now (start c .
 abbrev words : At → List ℕ
 words c = now (start c .args .scratch)
 
-p-is : (c : At) → c .before .u16-at .result ≡ pAt (tb c) (start c .args .n)
-p-is c = c .before .u16-at .ensures .is
+p-is : (c : At) → c .before .p-at .result ≡ pAt (tb c) (start c .args .n)
+p-is c = c .before .p-at .ensures .is
 
-q-is : (c : At) → c .u16-at2 .result ≡ qAt (tb c) (start c .args .n)
-q-is c = c .u16-at2 .ensures .is
+q-is : (c : At) → c .q-at .result ≡ qAt (tb c) (start c .args .n)
+q-is c = c .q-at .ensures .is
 
 abbrev Is : (c : At) → Turn → Type 0
 Is c r = Turned (tb c) (start c .args .level) (start c .args .mode) (start c .args .n) (start c .args .c) (chosen (start c .args .mode) (nodeProcess (tb c) (start c .args .n)) (start c .args .c)) r
@@ -69,20 +68,11 @@ small c k x r f e h =
 shared-slice-read-kind : tie.Need-shared-slice-read-kind
 shared-slice-read-kind c = search needs
 
-mul-u16-at : tie.Need-mul-u16-at
-mul-u16-at c = search needs
+p-at-requires : tie.Need-p-at-requires
+p-at-requires c κs = search needs
 
-u16-at-requires : tie.Need-u16-at-requires
-u16-at-requires c κs = search needs
-
-mul-u16-at-2 : tie.Need-mul-u16-at-2
-mul-u16-at-2 c = search needs
-
-add-u16-at : tie.Need-add-u16-at
-add-u16-at c = search needs
-
-u16-at-requires-2 : tie.Need-u16-at-requires-2
-u16-at-requires-2 c κs = search needs
+q-at-requires : tie.Need-q-at-requires
+q-at-requires c κs = search needs
 
 pair-requires : tie.Need-pair-requires
 pair-requires c κs = let z = c .before in room z _ _ (p-is z) (lower z 5 (c .match .keys2) (omega arith) (omega arith) .0)
@@ -172,11 +162,8 @@ turn-at-spec =
     tie.close
     (tie.spec
     shared-slice-read-kind
-    mul-u16-at
-    u16-at-requires
-    mul-u16-at-2
-    add-u16-at
-    u16-at-requires-2
+    p-at-requires
+    q-at-requires
     pair-requires
     pair-requires-2
     pick-requires
