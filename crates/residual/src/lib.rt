@@ -1,6 +1,7 @@
 // A residual's words: whole terms, counts, choices, and what a choice does and leaves.
 pub mod reading; // reading.rt: reading words from the front; whole terms
 pub mod counting; // counting.rt: the counts of a term; refusal 12
+pub mod steps; // steps.rt: one step from a residual towards its choice
 
 use accept::Counts;
 
@@ -20,4 +21,17 @@ pub struct Measured {
     pub counts: Counts,
     pub next: usize,
     pub few: bool,
+}
+
+// One step from the residual at a place towards its choice: a lone tick; a node; an action of the left part, after its operator's word and
+// before so many words; the place of the right part, its choice, and the tick of the left part that joins it; so many words that stay
+// before an action of the right part; or the left part's number of words, the place that it ends the residual at, its choice, and the
+// tick of the right part that joins it.
+pub enum Step {
+    Ticked,
+    Leaf(usize),
+    In(u32, u64, usize),
+    Jump(usize, u64, u64),
+    Copy(usize, u64),
+    Drop(usize, usize, u64, u64),
 }

@@ -2,11 +2,14 @@
 use crate::Cursor;
 use crate::Read;
 use table::Sizes;
+use table::first_root;
+use table::is_process;
 ghost use mathlib.Core.Path.{_≡_};
 ghost use mathlib.Core.List.{List};
-ghost use Prim.Native.Nat.{ℕ, _-_, _≤_, _<_};
+ghost use Prim.Native.Nat.{ℕ, _≤_};
 ghost use lib.ListN.{length};
-ghost use Rattle.table.specs.Tables.{table, rootsOf};
+ghost use Rattle.table.specs.Tables.{table};
+ghost use Rattle.table.specs.Sound.{Limits};
 ghost use Rattle.term.specs.Terms.{areTerms};
 ghost use Rattle.residual.specs.Reading.{readAt, operatorWord, leafWord};
 
@@ -51,17 +54,17 @@ fn is_leaf(roots: usize, kinds: &[u8], word: u32) -> bool
     }
     let n = word as usize;
     if n < roots {
-        return kinds[n] <= 9;
+        return is_process(kinds[n]);
     }
     false
 }
 
 // Whether the words are one whole term over process nodes: `more` terms are still to come.
 pub fn whole_term(sizes: Sizes, kinds: &[u8], words: &[u32]) -> bool
-    requires { ⌜ (rootsOf sizes ≤ sizes .nodes) × (sizes .nodes ≤ 4096) × (sizes .nodes ≤ length (now kinds)) ⌝ }
+    requires { ⌜ (Limits sizes) × (sizes .nodes ≤ length (now kinds)) ⌝ }
     ensures { λ r. ⌜ ((operands : List ℕ) → r ≡ areTerms (table sizes (now (kinds .entry)) operands) 1 (now (words .entry))) ⌝ }
 {
-    let roots = sizes.nodes - (sizes.definitions + sizes.stigmergy + sizes.agents);
+    let roots = first_root(sizes);
     let mut cursor = Cursor::start();
     let mut more: usize = 1;
     loop {

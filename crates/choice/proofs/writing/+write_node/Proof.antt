@@ -100,13 +100,13 @@ module _ (t : ℕ) where
   enum-told c = c .match .keys1
 
   put-requires : write-node-lts.Need-put-requires claims (write-node-at t) write-node.Post
-  put-requires c κs = 
+  put-requires c κs =
       let z = c .before .before .before in
       let l = one-word z 65532 (leaves-idle (goal z) (step z _ (c .before .enum-told .given .1))) in
       omega (arith, room z .end)
 
   add-t28 : write-node-lts.Need-add-t28 claims (write-node-at t) write-node.Post
-  add-t28 c = 
+  add-t28 c =
       let z = c .before .before .before .before .before .before in
       let l = one-word z 65532 (leaves-idle (goal z) (step z _ (c .before .before .before .before .enum-told .given .1))) in
       omega (arith, room z .end, start z .good)
@@ -115,13 +115,13 @@ module _ (t : ℕ) where
   enum-told-2 c = c .match .keys2
 
   put-requires-2 : write-node-lts.Need-put-requires-2 claims (write-node-at t) write-node.Post
-  put-requires-2 c κs = 
+  put-requires-2 c κs =
       let z = c .before .before .before in
       let l = one-word z 65533 (leaves-tick (goal z) (start z .args .n) (step z _ (c .before .enum-told2 .given .1))) in
       omega (arith, room z .end)
 
   add-t32 : write-node-lts.Need-add-t32 claims (write-node-at t) write-node.Post
-  add-t32 c = 
+  add-t32 c =
       let z = c .before .before .before .before .before .before in
       let l = one-word z 65533 (leaves-tick (goal z) (start z .args .n) (step z _ (c .before .before .before .before .enum-told2 .given .1))) in
       omega (arith, room z .end, start z .good)
@@ -130,12 +130,11 @@ module _ (t : ℕ) where
   enum-known-turn c = c .match .keys3
 
   write-node-requires : write-node-lts.Need-write-node-requires claims (write-node-at t) write-node.Post
-  write-node-requires c κs = 
+  write-node-requires c κs =
       let z = c .before .before .before .before in
       let v = c .before .before .turn .given .0 in
       let e = step z _ (c .before .before .turn .given .1) in
-      let d = chosen (start z .args .mode) (nodeProcess (tb z) (v .0)) (v .1 .0) in
-      (
+      let d = chosen (start z .args .mode) (nodeProcess (tb z) (v .0)) (v .1 .0) in (
         omega (arith, e .0, start z .pre .0),
         (
           start z .pre .1 .0,
@@ -148,28 +147,28 @@ module _ (t : ℕ) where
   enum-known-turn-2 c = c .match .keys4
 
   wrap-requires : write-node-lts.Need-wrap-requires claims (write-node-at t) write-node.Post
-  wrap-requires c κs = 
+  wrap-requires c κs =
       let z = c .before .before .before .before in
       let e = step z _ (c .before .before .turn2 .given .1) in
       let f = between z _ _ _ _ (e .2) in
       (f, room z .end, e .4)
 
   add-write-node : write-node-lts.Need-add-write-node claims (write-node-at t) write-node.Post
-  add-write-node c = 
+  add-write-node c =
       let z = c .before .before .before .before .before .before .before .before in
       let e = step z _ (c .before .before .before .before .before .before .turn2 .given .1) in
       let f = between z _ _ _ _ (e .2) in
       omega (arith, f, room z .end, start z .good)
 
   sub-write-node : write-node-lts.Need-sub-write-node claims (write-node-at t) write-node.Post
-  sub-write-node c = 
+  sub-write-node c =
       let z = c .before .before .before .before .before .before .before .before in
       let e = step z _ (c .before .before .before .before .before .before .turn2 .given .1) in
       let f = between z _ _ _ _ (e .2) in
       omega (arith, f, room z .end, start z .good)
 
   write-node-requires-2 : write-node-lts.Need-write-node-requires-2 claims (write-node-at t) write-node.Post
-  write-node-requires-2 c κs = 
+  write-node-requires-2 c κs =
       let z = c .before .before .before .before .before .before .before .before in
       let e = step z _ (c .before .before .before .before .before .before .turn2 .given .1) in
       let g = between z _ _ _ _ (e .2) in
@@ -180,21 +179,21 @@ module _ (t : ℕ) where
   enum-known-turn-3 c = c .match .keys5
 
   lead-requires : write-node-lts.Need-lead-requires claims (write-node-at t) write-node.Post
-  lead-requires c κs = 
+  lead-requires c κs =
       let z = c .before .before .before .before in
       let e = step z _ (c .before .before .turn3 .given .1) in
       let f = between z _ _ _ _ (e .2) in
       (omega (arith, f, room z .end), e .3)
 
   add-write-node-2 : write-node-lts.Need-add-write-node-2 claims (write-node-at t) write-node.Post
-  add-write-node-2 c = 
+  add-write-node-2 c =
       let z = c .before .before .before .before .before .before .before .before in
       let e = step z _ (c .before .before .before .before .before .before .turn3 .given .1) in
       let f = between z _ _ _ _ (e .2) in
       omega (arith, f, room z .end, start z .good)
 
   write-node-requires-3 : write-node-lts.Need-write-node-requires-3 claims (write-node-at t) write-node.Post
-  write-node-requires-3 c κs = 
+  write-node-requires-3 c κs =
       let z = c .before .before .before .before .before .before .before .before in
       let e = step z _ (c .before .before .before .before .before .before .turn3 .given .1) in
       let f = around z _ _ _ _ (c .before .before .before .lead .last .0) (e .1) (e .2) (right-words z _ _ _ (c .before .before .before .lead .ensures)) (start z .args .front + 2) (start z .args .back) refl (omega arith) in
@@ -204,13 +203,13 @@ module _ (t : ℕ) where
   enum-known-turn-4 c = c .match .keys6
 
   body-at-requires : write-node-lts.Need-body-at-requires claims (write-node-at t) write-node.Post
-  body-at-requires c κs = 
+  body-at-requires c κs =
       let z = c .before .before .before in
       let e = step z _ (c .before .turn4 .given .1) in
       (sized z .limits, sized z .operands, omega (arith, e .0, room z .reached .top))
 
   write-node-requires-4 : write-node-lts.Need-write-node-requires-4 claims (write-node-at t) write-node.Post
-  write-node-requires-4 c κs = 
+  write-node-requires-4 c κs =
       let z = c .before .before .before .before .before in
       let e = step z _ (c .before .before .before .turn4 .given .1) in
       let r = room-same (tb z) (start z .args .level) (start z .args .mode) (start z .args .n) (start z .args .c) (start z .args .front) (start z .args .back) (ws z) (room z) _ _ _ _ (e .1) (ap (λ (x : Derivation). words (x .leaving)) (e .2)) in
@@ -220,7 +219,7 @@ module _ (t : ℕ) where
   same-length c = rw (c .before .before .put .ensures) (simp length-set)
 
   returns : write-node-lts.Need-returns claims (write-node-at t) write-node.Post
-  returns c = 
+  returns c =
       let z = c .before .before .before .before .before .before in
       let e = leaves-idle (goal z) (step z _ (c .before .before .before .before .enum-told .given .1)) in
       rw (c .before .before .put .ensures) (written-same e (written-end (ws z) (start z .args .front) (start z .args .back) (room z .end) 65532 (one-word z 65532 e)))
@@ -229,7 +228,7 @@ module _ (t : ℕ) where
   same-length-2 c = rw (c .before .before .put2 .ensures) (simp length-set)
 
   returns-2 : write-node-lts.Need-returns-2 claims (write-node-at t) write-node.Post
-  returns-2 c = 
+  returns-2 c =
       let z = c .before .before .before .before .before .before in
       let e = leaves-tick (goal z) (start z .args .n) (step z _ (c .before .before .before .before .enum-told2 .given .1)) in
       rw (c .before .before .put2 .ensures) (written-same e (written-end (ws z) (start z .args .front) (start z .args .back) (room z .end) 65533 (one-word z 65533 e)))
@@ -238,7 +237,7 @@ module _ (t : ℕ) where
   same-length-3 c = c .before .before .write-node .ensures .same
 
   returns-3 : write-node-lts.Need-returns-3 claims (write-node-at t) write-node.Post
-  returns-3 c = 
+  returns-3 c =
       let z = c .before .before .before .before .before .before .before in
       let v = c .before .before .before .before .before .turn .given .0 in
       let e = step z _ (c .before .before .before .before .before .turn .given .1) in
@@ -249,7 +248,7 @@ module _ (t : ℕ) where
   same-length-4 c = let z = c .before .before .before .before .before .before .before .before .before .before .before in c .before .before .write-node2 .ensures .same ∙ left-words z _ _ _ (c .before .before .before .before .before .before .wrap .ensures)
 
   returns-4 : write-node-lts.Need-returns-4 claims (write-node-at t) write-node.Post
-  returns-4 c = 
+  returns-4 c =
       let z = c .before .before .before .before .before .before .before .before .before .before .before in
       let e = step z _ (c .before .before .before .before .before .before .before .before .before .turn2 .given .1) in
       let f = between z _ _ _ _ (e .2) in
@@ -259,7 +258,7 @@ module _ (t : ℕ) where
   same-length-5 c = let z = c .before .before .before .before .before .before .before .before .before .before .before in c .before .before .write-node3 .ensures .same ∙ right-words z _ _ _ (c .before .before .before .before .before .before .lead .ensures)
 
   returns-5 : write-node-lts.Need-returns-5 claims (write-node-at t) write-node.Post
-  returns-5 c = 
+  returns-5 c =
       let z = c .before .before .before .before .before .before .before .before .before .before .before in
       let e = step z _ (c .before .before .before .before .before .before .before .before .before .turn3 .given .1) in
       let f = between z _ _ _ _ (e .2) in
@@ -269,7 +268,7 @@ module _ (t : ℕ) where
   same-length-6 c = c .before .before .write-node4 .ensures .same
 
   returns-6 : write-node-lts.Need-returns-6 claims (write-node-at t) write-node.Post
-  returns-6 c = 
+  returns-6 c =
       let z = c .before .before .before .before .before .before .before .before in
       let e = step z _ (c .before .before .before .before .before .before .turn4 .given .1) in
       let same = e .2 ∙ ap (λ (x : ℕ). chosen (start z .args .mode) (nodeProcess (tb z) x) (start z .args .c)) (sym (c .before .before .before .before .body-at .ensures)) in

@@ -34,7 +34,7 @@ abbrev At : Type 0
 At = tie.After-read2 Inv-loop μ-loop
 
 abbrev start : At → tie.Start Inv-loop μ-loop
-start c = c .before .before .before .before .before .before .before .before .before .before
+start c = c .before .before .before .before .before .before .before .before
 
 abbrev ws : At → List ℕ
 ws c = now (start c .args .words)
@@ -48,17 +48,14 @@ read c = read-word (ws c) (here c) _ _ (sym (c .before .before .read .ensures) �
 abbrev whole : (c : At) → List ℕ → Table
 whole c operands = table (start c .args .sizes) (now (start c .args .kinds)) operands
 
+root-is : (c : At) (operands : List ℕ) → firstRoot (whole c operands) ≡ c .before .before .before .before .before .first-root .result
+root-is c operands = sym (c .before .before .before .before .before .first-root .ensures)
+
 come : (c : At) (operands : List ℕ) → areTerms (whole c operands) 1 (ws c) ≡ areTerms (whole c operands) (c .before .before .before .loop .more) (drop (here c) (ws c))
-come c operands = c .before .before .before .loop .inv .2 (whole c operands) refl refl
+come c operands = c .before .before .before .loop .inv .2 (whole c operands) (root-is c operands) refl
 
-add-roots : tie.Need-add-roots Inv-loop μ-loop
-add-roots c = omega arith
-
-add-roots-2 : tie.Need-add-roots-2 Inv-loop μ-loop
-add-roots-2 c = omega arith
-
-sub-roots : tie.Need-sub-roots Inv-loop μ-loop
-sub-roots c = omega arith
+first-root-requires : tie.Need-first-root-requires Inv-loop μ-loop
+first-root-requires c κs = search needs
 
 start-requires : tie.Need-start-requires Inv-loop μ-loop
 start-requires c κs = search needs
@@ -77,10 +74,10 @@ enum-told c = c .match .keys2
 
 returns : tie.Need-returns Inv-loop μ-loop
 returns c operands =
-    let a = c .before .before .before .before .before .before .before .before .before .before in
+    let a = c .before .before .before .before .before .before .before .before in
     let l = c .before .before .before .loop in
     let t = table (a .args .sizes) (now (a .args .kinds)) operands in
-    sym (l .inv .2 t refl refl ∙ are-end t (now (a .args .words)) (l .cursor .at) (l .more) (read-end (now (a .args .words)) (l .cursor .at) (sym (c .before .before .read .ensures) ∙ c .enum-told .given .1)))
+    sym (l .inv .2 t (sym (c .before .before .before .before .before .first-root .ensures)) refl ∙ are-end t (now (a .args .words)) (l .cursor .at) (l .more) (read-end (now (a .args .words)) (l .cursor .at) (sym (c .before .before .read .ensures) ∙ c .enum-told .given .1)))
 
 returns-2 : tie.Need-returns-2 Inv-loop μ-loop
 returns-2 c operands =
@@ -94,7 +91,7 @@ add-more : tie.Need-add-more Inv-loop μ-loop
 add-more c = let z = c .before .before .before .before in record { fits = omega (arith, read z .0, z .before .before .before .loop .inv .1, start z .good) }
 
 is-leaf-requires : tie.Need-is-leaf-requires Inv-loop μ-loop
-is-leaf-requires c κs = let z = c .before .before .before .before in omega (arith, start z .pre)
+is-leaf-requires c κs = let z = c .before .before .before .before in omega (arith, start z .pre, z .before .before .before .before .before .first-root .ensures)
 
 -- what the tests say of the word that was read
 operator : (c : At) (b : Bool) (r : Bool) → r ≡ operatorWord (c .read2 .given .0 .0) → r ≡ b → operatorWord (getD (ws c) (here c) 0) ≡ b
@@ -107,7 +104,7 @@ leaf c roots b r e f = ap (λ (w : ℕ). leafWord roots (now (start c .args .kin
 returns-3 : tie.Need-returns-3 Inv-loop μ-loop
 returns-3 c operands =
     let z = c .before .before .before .before .before .before in
-    sym (come z operands ∙ are-bad (whole z operands) (ws z) (here z) (read z .0) _ _ refl refl _ (operator z false _ (c .before .before .before .is-operator .ensures) (c .before .before .if2 .left)) (leaf z _ false _ (c .before .is-leaf .ensures) (not-true _ (c .if3 .taken))))
+    sym (come z operands ∙ are-bad (whole z operands) (ws z) (here z) (read z .0) _ _ (root-is z operands) refl _ (operator z false _ (c .before .before .before .is-operator .ensures) (c .before .before .if2 .left)) (leaf z _ false _ (c .before .is-leaf .ensures) (not-true _ (c .if3 .taken))))
 
 sub-more : tie.Need-sub-more Inv-loop μ-loop
 sub-more c = let d = c .before .before .before .before .if1 .left in omega (arith, d)
@@ -149,9 +146,7 @@ whole-term-spec =
     (tie.spec
     Inv-loop
     μ-loop
-    add-roots
-    add-roots-2
-    sub-roots
+    first-root-requires
     start-requires
     loop-holds
     read-requires
