@@ -2,6 +2,10 @@
 pub mod reading; // reading.rt: reading words from the front; whole terms
 pub mod counting; // counting.rt: the counts of a term; refusal 12
 pub mod steps; // steps.rt: one step from a residual towards its choice
+pub mod outcomes; // outcomes.rt: what a residual's choice does, and how many words it leaves
+mod writing; // writing.rt: what a residual's choice leaves, written between a front and its end
+pub mod choosing; // choosing.rt: what is asked of a whole residual
+mod moves; // moves.rt: words moved and cleared
 
 use accept::Counts;
 
@@ -34,4 +38,10 @@ pub enum Step {
     Jump(usize, u64, u64),
     Copy(usize, u64),
     Drop(usize, usize, u64, u64),
+}
+
+// Whether each subterm of a residual has few derivations, and, where it is so, how many the residual has.
+pub struct Choices {
+    pub few: bool,
+    pub count: u64,
 }
