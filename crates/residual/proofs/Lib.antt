@@ -6,3 +6,4 @@ pub mod Standing
 pub mod Moving
 pub mod Reporting
 pub mod Placing
+pub mod Residuals
