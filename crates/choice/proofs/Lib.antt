@@ -3,3 +3,4 @@ pub mod Picking
 pub mod Turning
 pub mod Telling
 pub mod Gaps
+pub mod Collecting

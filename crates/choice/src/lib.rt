@@ -2,6 +2,7 @@
 pub mod picks; // picks.rt: which part of a sequence or a parallel a choice is of
 pub mod turns; // turns.rt: one step from a node towards its choice
 pub mod writing; // writing.rt: what a node's choice leaves, written between two places
+pub mod marking; // marking.rt: the guards of a node's choice, as marks
 pub mod outcomes; // outcomes.rt: what a node's choice does, and how many words it leaves
 
 // Of a sequence or a parallel: an action of the left part, or of the right; or a tick of the left part that joins a derivation of the
