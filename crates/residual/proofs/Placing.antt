@@ -15,13 +15,12 @@ use Rattle.choice.specs.declared.Gap.{Gap}
 use Rattle.choice.specs.Chosen.{chosen}
 use Rattle.choice.specs.Writing.{Room, Written}
 use Rattle.choice.specs.Turns.{Ready}
-use Rattle.choice.proofs.Chosen.{chosen-tick}
 use Rattle.choice.proofs.Gaps.{take-front, written-same, written-end, leaves-idle}
 use Rattle.residual.specs.Moves.{Moved}
 use Rattle.residual.specs.Steps.{Chosen, going, StepIn, StepJump, StepCopy, StepDrop, Stands}
 use Rattle.residual.specs.Spots.{Spot}
 use Rattle.residual.proofs.Moving.{moved-before, moved-after, moved-part}
-use Rattle.residual.proofs.Standing.{reached-node, same-node, stands-within, stands-here, stands-size, left-stands, right-stands, stands-left, stands-right}
+use Rattle.residual.proofs.Standing.{reached-node, going-tick, same-node, stands-within, stands-here, stands-size, left-stands, right-stands, stands-left, stands-right}
 
 regroup : (a b x r : List ℕ) → (a ++ b) ++ (x ++ r) ≡ a ++ ((b ++ (x ++ [])) ++ r)
 regroup a b x r = rw (append-nil x) (simp append-assoc)
@@ -235,10 +234,8 @@ module _ (t : Table) (m : Mode) (T : Term) (c front at : ℕ) (ws : List ℕ) (s
 
   -- a lone tick, and a node
   one-tick : T ≡ Tick → (words (going t m T c .leaving) ≡ idleWord ∷ []) × (at + length (words T) ≡ at + 1)
-  unfolding process words
-  one-tick e =
-      let k : Chosen t m Tick c = subst (λ (X : Term). Chosen t m X c) e (spot .stands .chosen) in
-      (leaves-idle (going t m T c) (ap (λ (X : Term). going t m X c) e ∙ chosen-tick m c (k .choice)), ap (λ (X : Term). at + length (words X)) e)
+  unfolding words
+  one-tick e = (leaves-idle (going t m T c) (going-tick t m T c e (spot .stands .chosen)), ap (λ (X : Term). at + length (words X)) e)
 
   pub written-tick : T ≡ Tick → Written ws front (at + length (words T)) (words (going t m T c .leaving)) (record { front = front + 1; back = at + 1 }) (set ws front idleWord)
   written-tick e =

@@ -15,25 +15,17 @@ use Rattle.choice.specs.declared.Does.the-variants.{Ticking}
 use Rattle.choice.specs.declared.Outcome.{Outcome}
 use Rattle.choice.specs.Chosen.{chosen}
 use Rattle.choice.specs.Outcomes.{grownBy, most, Tells}
-use Rattle.choice.proofs.Chosen.{chosen-tick}
 use Rattle.choice.proofs.Telling.{tells-tick, tells-same, tells-around}
 use Rattle.residual.specs.Steps.{Chosen, going, StepIn, StepJump, StepCopy, StepDrop, Stands}
 use Rattle.residual.specs.Spots.{furthest}
-use Rattle.residual.proofs.Standing.{same-node, stands-size}
-
--- a term that is a tick
-pub going-tick : (t : Table) (m : Mode) (T : Term) (c : ℕ) → T ≡ Tick → Chosen t m T c → going t m Tick c ≡ going t m T c
-going-tick t m T c e k = ap (λ (X : Term). going t m X c) (sym e)
+use Rattle.residual.proofs.Standing.{going-tick, same-node, stands-size}
 
 module _ (t : Table) (m : Mode) (T : Term) (c at : ℕ) (ws : List ℕ) (stands : Stands t m T c at ws) where
   abbrev limit : Term → ℕ
   limit X = furthest t + length (words X)
 
   pub told-tick : T ≡ Tick → Tells (going t m T c) (furthest t + length (words T)) (record { does = Ticking; size = 1 })
-  unfolding process
-  told-tick e =
-      let k : Chosen t m Tick c = subst (λ (X : Term). Chosen t m X c) e (stands .chosen) in
-      tells-tick (going t m T c) (limit T) (omega (arith, words-some T)) (ap (λ (X : Term). going t m X c) e ∙ chosen-tick m c (k .choice))
+  told-tick e = tells-tick (going t m T c) (limit T) (omega (arith, words-some T)) (going-tick t m T c e (stands .chosen))
 
   pub told-node : (n : ℕ) → T ≡ Node n → (o : Outcome) → Tells (chosen m (nodeProcess t n) c) (most (t .sizes .definitions) n) o → Tells (going t m T c) (furthest t + length (words T)) o
   told-node n e o w =

@@ -14,15 +14,16 @@ use Rattle.table.specs.Tables.{Table, kindAt, pAt, qAt, firstRoot}
 use Rattle.table.specs.Sound.{Sound}
 use Rattle.table.proofs.Promises.{call-operands}
 use Rattle.term.specs.declared.Mode.{Mode}
-use Rattle.term.specs.Terms.{Term, Tick, Node, words}
-use Rattle.term.specs.Processes.{Process, idle, byKind, nodeStep, nodeWith, defined, nodeProcess, process}
+use Rattle.term.specs.Terms.{Term, Tick, Idle, Node, words}
+use Rattle.term.specs.Processes.{Process, idle, ticks, derivation, byKind, nodeStep, nodeWith, defined, nodeProcess, process}
 use Rattle.term.specs.Exposure.{canTick, callsBelow}
 use Rattle.term.proofs.Words.{words-some}
 use Rattle.accept.specs.Scratch.{pairAt}
 use Rattle.choice.specs.Turns.{Ready, Reached}
 use Rattle.choice.specs.Chosen.{chosen}
+use Rattle.choice.proofs.Chosen.{chosen-tick}
 use Rattle.residual.specs.Measures.{Pairs}
-use Rattle.residual.specs.Steps.{Chosen, Stands}
+use Rattle.residual.specs.Steps.{Chosen, going, Stands}
 use Rattle.residual.proofs.Places.{past, term-within}
 
 -- the words hold counts below 65,536
@@ -66,6 +67,13 @@ module _ (t : Table) (sound : Sound t) where
   reached-node m n c T e k =
       let w : Chosen t m (Node n) c = subst (λ (X : Term). Chosen t m X c) e k in
       record { low = w .over .0; top = omega arith; choice = w .choice; calls = node-calls n }
+
+-- and one that is a tick
+pub going-tick : (t : Table) (m : Mode) (T : Term) (c : ℕ) → T ≡ Tick → Chosen t m T c → going t m T c ≡ derivation ticks [] Idle
+unfolding process
+going-tick t m T c e k =
+    let w : Chosen t m Tick c = subst (λ (X : Term). Chosen t m X c) e k in
+    ap (λ (X : Term). going t m X c) e ∙ chosen-tick m c (w .choice)
 
 pub same-node : (t : Table) (m : Mode) (n c : ℕ) (T : Term) → T ≡ Node n → chosen m (process t T) c ≡ chosen m (nodeProcess t n) c
 unfolding process

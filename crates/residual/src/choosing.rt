@@ -1,6 +1,7 @@
 // What is asked of a residual: its choices, what a choice does and leaves, and what it leaves in the residual's place.
 use crate::Choices;
 use crate::counting::measure;
+use crate::marking::mark_at;
 use crate::moves::clear;
 use crate::moves::move_down;
 use crate::moves::move_up;
@@ -18,6 +19,7 @@ ghost use lib.ListN.{length, replicate};
 ghost use Rattle.table.specs.Tables.{table};
 ghost use Rattle.term.specs.Terms.{words as wordsOf};
 ghost use Rattle.choice.specs.Turns.{Ready};
+ghost use Rattle.choice.specs.Marking.{Marks, Marked};
 ghost use Rattle.choice.specs.Outcomes.{Tells};
 ghost use Rattle.residual.specs.Wholes.{residualTerm, taken, Whole, Taking, Offered, limitOf, Rewritten};
 
@@ -85,4 +87,34 @@ pub fn rewrite(
     move_down(words, back, front, n);
     clear(words, front + n);
     front + n
+}
+
+// Marks the guards of choice c of the residual.
+pub fn collect(
+    sizes: Sizes,
+    kinds: &[u8],
+    operands: &[u8],
+    scratch: &[u32],
+    marks: &mut [u8],
+    words: &[u32],
+    size: usize,
+    c: u64,
+)
+    requires { ⌜ Ready (table sizes (now kinds) (now operands)) (now scratch) ⌝ }
+    requires { ⌜ Whole (table sizes (now kinds) (now operands)) size (now words) ⌝ }
+    requires { ⌜ Taking (table sizes (now kinds) (now operands)) (residualTerm size (now words)) c ⌝ }
+    requires { ⌜ Marks (table sizes (now kinds) (now operands)) (now marks) ⌝ }
+    ensures { λ r. ⌜ Marked (table sizes (now (kinds .entry)) (now (operands .entry))) (taken (table sizes (now (kinds .entry)) (now (operands .entry))) (residualTerm size (now (words .entry))) c .guards) (now (marks .entry)) (now (marks .exit)) ⌝ }
+{
+    mark_at(
+        sizes,
+        kinds,
+        operands,
+        scratch,
+        marks,
+        words,
+        0,
+        Mode::Any,
+        c,
+    );
 }

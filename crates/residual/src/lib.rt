@@ -3,6 +3,7 @@ pub mod reading; // reading.rt: reading words from the front; whole terms
 pub mod counting; // counting.rt: the counts of a term; refusal 12
 pub mod steps; // steps.rt: one step from a residual towards its choice
 pub mod outcomes; // outcomes.rt: what a residual's choice does, and how many words it leaves
+mod marking; // marking.rt: the guards of a residual's choice, as marks
 mod writing; // writing.rt: what a residual's choice leaves, written between a front and its end
 pub mod choosing; // choosing.rt: what is asked of a whole residual
 mod moves; // moves.rt: words moved and cleared

@@ -105,7 +105,7 @@ module _ (t : ℕ) where
   mark-node-slice-read-if2 c = let z = c .before .before in omega (arith, low z, marks z .room)
 
   mark-node-returns : mark-node-lts.Need-returns mark-node-claims (mark-node-at t) mark-node.Post
-  mark-node-returns c = 
+  mark-node-returns c =
       let z = c .before .before .before in
       marked-same (only z (c .before .before .if1 .taken)) (marked-before (tb z) (now (start z .args .marks)) (marks z) (start z .args .n) (process z) (eq-eqb _ _ (c .if2 .taken)))
 
@@ -189,7 +189,7 @@ module _ (t : ℕ) where
   walk-node-enum-told-3 c = c .match2 .keys1
 
   walk-node-mark-node-requires : walk-node-lts.Need-mark-node-requires walk-node-claims (walk-node-at t) walk-node.Post
-  walk-node-mark-node-requires c κs = 
+  walk-node-mark-node-requires c κs =
       let z = c .before .before .before .before .before .before in
       let e = on z _ _ _ _ (c .before .before .before .before .turn .given .1) (c .before .enum-told3 .given .1) in
       (omega (arith, e .0, begin z .pre .0), (begin z .pre .1 .0, (e .1, kept z)))
@@ -198,13 +198,13 @@ module _ (t : ℕ) where
   walk-node-enum-known-side c = c .match2 .keys2
 
   walk-node-mark-requires : walk-node-lts.Need-mark-requires walk-node-claims (walk-node-at t) walk-node.Post
-  walk-node-mark-requires c κs = 
+  walk-node-mark-requires c κs =
       let z = c .before .before .before .before .before .before .before in
       let e = on z _ _ _ _ (c .before .before .before .before .before .turn .given .1) (c .before .before .side .given .1) in
       omega (arith, inside z _ (e .2 .0 .0), kept z .room)
 
   walk-node-mark-node-requires-2 : walk-node-lts.Need-mark-node-requires-2 walk-node-claims (walk-node-at t) walk-node.Post
-  walk-node-mark-node-requires-2 c κs = 
+  walk-node-mark-node-requires-2 c κs =
       let z = c .before .before .before .before .before .before .before .before .before .before .before in
       let e = on z _ _ _ _ (c .before .before .before .before .before .before .before .before .before .turn .given .1) (c .before .before .before .before .before .before .side .given .1) in
       (omega (arith, e .0, begin z .pre .0), (begin z .pre .1 .0, (e .1, mark-guard (tab z) (ms z) (kept z) _ (e .2 .0 .1) (inside z _ (e .2 .0 .0)) _ (c .before .before .before .mark .ensures))))
@@ -213,13 +213,13 @@ module _ (t : ℕ) where
   walk-node-enum-known-side-2 c = c .match2 .keys3
 
   walk-node-mark-node-requires-3 : walk-node-lts.Need-mark-node-requires-3 walk-node-claims (walk-node-at t) walk-node.Post
-  walk-node-mark-node-requires-3 c κs = 
+  walk-node-mark-node-requires-3 c κs =
       let z = c .before .before .before .before .before .before .before in
       let e = on z _ _ _ _ (c .before .before .before .before .before .turn .given .1) (c .before .before .side2 .given .1) in
       (omega (arith, e .2 .0, begin z .pre .0), (begin z .pre .1 .0, (e .2 .1, kept z)))
 
   walk-node-mark-node-requires-4 : walk-node-lts.Need-mark-node-requires-4 walk-node-claims (walk-node-at t) walk-node.Post
-  walk-node-mark-node-requires-4 c κs = 
+  walk-node-mark-node-requires-4 c κs =
       let z = c .before .before .before .before .before .before .before .before .before .before .before in
       let e = on z _ _ _ _ (c .before .before .before .before .before .before .before .before .before .turn .given .1) (c .before .before .before .before .before .before .side2 .given .1) in
       (omega (arith, e .0, begin z .pre .0), (begin z .pre .1 .0, (e .1, c .before .before .before .mark-node3 .ensures .marks)))
@@ -228,7 +228,7 @@ module _ (t : ℕ) where
   walk-node-enum-known-turn-2 c = c .match .keys4
 
   walk-node-mark-node-requires-5 : walk-node-lts.Need-mark-node-requires-5 walk-node-claims (walk-node-at t) walk-node.Post
-  walk-node-mark-node-requires-5 c κs = 
+  walk-node-mark-node-requires-5 c κs =
       let z = c .before .before .before .before in
       let e = step z _ (c .before .before .turn2 .given .1) in
       (omega (arith, e .0, begin z .pre .0), (begin z .pre .1 .0, (e .1, kept z)))
@@ -237,7 +237,7 @@ module _ (t : ℕ) where
   walk-node-enum-known-turn-3 c = c .match .keys5
 
   walk-node-mark-node-requires-6 : walk-node-lts.Need-mark-node-requires-6 walk-node-claims (walk-node-at t) walk-node.Post
-  walk-node-mark-node-requires-6 c κs = 
+  walk-node-mark-node-requires-6 c κs =
       let z = c .before .before .before .before in
       let e = step z _ (c .before .before .turn3 .given .1) in
       (omega (arith, e .0, begin z .pre .0), (begin z .pre .1 .0, (e .1, kept z)))
@@ -246,13 +246,13 @@ module _ (t : ℕ) where
   walk-node-enum-known-turn-4 c = c .match .keys6
 
   walk-node-body-at-requires : walk-node-lts.Need-body-at-requires walk-node-claims (walk-node-at t) walk-node.Post
-  walk-node-body-at-requires c κs = 
+  walk-node-body-at-requires c κs =
       let z = c .before .before .before in
       let e = step z _ (c .before .turn4 .given .1) in
       (sized z .limits, sized z .operands, omega (arith, e .0, begin z .pre .1 .1 .0 .top))
 
   walk-node-mark-node-requires-7 : walk-node-lts.Need-mark-node-requires-7 walk-node-claims (walk-node-at t) walk-node.Post
-  walk-node-mark-node-requires-7 c κs = 
+  walk-node-mark-node-requires-7 c κs =
       let z = c .before .before .before .before .before in
       let e = step z _ (c .before .before .before .turn4 .given .1) in
       (body z _ _ (c .before .body-at .ensures) (e .0, e .1), (begin z .pre .1 .0, (rw (c .before .body-at .ensures) (e .1), kept z)))
@@ -267,19 +267,19 @@ module _ (t : ℕ) where
   walk-node-same-length c = c .before .before .mark-node .ensures .same
 
   walk-node-returns-3 : walk-node-lts.Need-returns-3 walk-node-claims (walk-node-at t) walk-node.Post
-  walk-node-returns-3 c = 
+  walk-node-returns-3 c =
       let z = c .before .before .before .before .before .before .before .before .before in
       let e = on z _ _ _ _ (c .before .before .before .before .before .before .before .turn .given .1) (c .before .before .before .before .enum-told3 .given .1) in
       marked-same (ap (λ (d : Derivation). d .guards) (e .2)) (c .before .before .mark-node .ensures)
 
   walk-node-same-length-2 : walk-node-lts.Need-same-length-2 walk-node-claims (walk-node-at t) walk-node.Post
-  walk-node-same-length-2 c = 
+  walk-node-same-length-2 c =
       let z = c .before .before .before .before .before .before .before .before .before .before .before .before .before .before in
       let e = on z _ _ _ _ (c .before .before .before .before .before .before .before .before .before .before .before .before .turn .given .1) (c .before .before .before .before .before .before .before .before .before .side .given .1) in
       (marked-same (ap (λ (d : Derivation). d .guards) (e .2 .1)) (marked-guard (tab z) (ms z) (kept z) _ (inside z _ (e .2 .0 .0)) _ (c .before .before .before .before .before .before .mark .ensures) _ _ (c .before .before .mark-node2 .ensures))) .same
 
   walk-node-returns-4 : walk-node-lts.Need-returns-4 walk-node-claims (walk-node-at t) walk-node.Post
-  walk-node-returns-4 c = 
+  walk-node-returns-4 c =
       let z = c .before .before .before .before .before .before .before .before .before .before .before .before .before .before in
       let e = on z _ _ _ _ (c .before .before .before .before .before .before .before .before .before .before .before .before .turn .given .1) (c .before .before .before .before .before .before .before .before .before .side .given .1) in
       marked-same (ap (λ (d : Derivation). d .guards) (e .2 .1)) (marked-guard (tab z) (ms z) (kept z) _ (inside z _ (e .2 .0 .0)) _ (c .before .before .before .before .before .before .mark .ensures) _ _ (c .before .before .mark-node2 .ensures))
@@ -288,7 +288,7 @@ module _ (t : ℕ) where
   walk-node-same-length-3 c = c .before .before .mark-node4 .ensures .same ∙ c .before .before .before .before .before .before .mark-node3 .ensures .same
 
   walk-node-returns-5 : walk-node-lts.Need-returns-5 walk-node-claims (walk-node-at t) walk-node.Post
-  walk-node-returns-5 c = 
+  walk-node-returns-5 c =
       let z = c .before .before .before .before .before .before .before .before .before .before .before .before .before .before in
       let e = on z _ _ _ _ (c .before .before .before .before .before .before .before .before .before .before .before .before .turn .given .1) (c .before .before .before .before .before .before .before .before .before .side2 .given .1) in
       marked-same (ap (λ (d : Derivation). d .guards) (e .2 .2)) (marked-join (tab z) (ms z) (kept z) _ _ _ _ (c .before .before .before .before .before .before .mark-node3 .ensures) (c .before .before .mark-node4 .ensures))
@@ -297,7 +297,7 @@ module _ (t : ℕ) where
   walk-node-same-length-4 c = c .before .before .mark-node5 .ensures .same
 
   walk-node-returns-6 : walk-node-lts.Need-returns-6 walk-node-claims (walk-node-at t) walk-node.Post
-  walk-node-returns-6 c = 
+  walk-node-returns-6 c =
       let z = c .before .before .before .before .before .before .before in
       let e = step z _ (c .before .before .before .before .before .turn2 .given .1) in
       marked-same (e .2 .guards) (c .before .before .mark-node5 .ensures)
@@ -306,7 +306,7 @@ module _ (t : ℕ) where
   walk-node-same-length-5 c = c .before .before .mark-node6 .ensures .same
 
   walk-node-returns-7 : walk-node-lts.Need-returns-7 walk-node-claims (walk-node-at t) walk-node.Post
-  walk-node-returns-7 c = 
+  walk-node-returns-7 c =
       let z = c .before .before .before .before .before .before .before in
       let e = step z _ (c .before .before .before .before .before .turn3 .given .1) in
       marked-same (e .2 .guards) (c .before .before .mark-node6 .ensures)
@@ -315,7 +315,7 @@ module _ (t : ℕ) where
   walk-node-same-length-6 c = c .before .before .mark-node7 .ensures .same
 
   walk-node-returns-8 : walk-node-lts.Need-returns-8 walk-node-claims (walk-node-at t) walk-node.Post
-  walk-node-returns-8 c = 
+  walk-node-returns-8 c =
       let z = c .before .before .before .before .before .before .before .before in
       let e = step z _ (c .before .before .before .before .before .before .turn4 .given .1) in
       let same = e .2 ∙ ap (λ (x : ℕ). chosen (begin z .args .mode) (nodeProcess (tab z) x) (begin z .args .c)) (sym (c .before .before .before .before .body-at .ensures)) in
