@@ -1,6 +1,6 @@
 -- The derivation that a choice is, of each form of process, from those of its parts.
 -- Assumes nothing.
-use Prim.Native.Nat.{ℕ, zero, suc, _+_, _*_, _-_, _/_, _%_, _<_, _≤_}
+use Prim.Native.Nat.{ℕ, zero, suc, _*_, _-_, _/_, _%_, _<_, _≤_}
 use mathlib.Core.Logic.{⊎-elim}
 use mathlib.Core.Option.{Option, none, some}
 use mathlib.Core.Path.{_≡_, refl, sym, ap, _∙_}
@@ -12,7 +12,7 @@ use Rattle.basis.proofs.Lists.{nth-in}
 use Rattle.term.specs.declared.Mode.{Mode}
 use Rattle.term.specs.declared.Mode.the-variants.{Any, Actions, Ticks}
 use Rattle.term.specs.Terms.{Term, Tick, Idle}
-use Rattle.term.specs.Processes.{Process, idle, tick, act, choice, guarded, call, seq, par, ticks, acts}
+use Rattle.term.specs.Processes.{Process, idle, tick, act, choice, guarded, seq, par, ticks, acts}
 use Rattle.term.specs.Processes.{Derivation, derivation, derivations, keep, under, before, besideRight, besideLeft, join}
 use Rattle.term.specs.Choices.{tickCount, actionCount, count, actionsOf, wanted, choices, mapped, split, pairs, select}
 use Rattle.term.proofs.Lists.{Places, split-left, split-right}

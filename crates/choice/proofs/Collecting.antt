@@ -1,7 +1,7 @@
 -- Marks of the guards that a walk collects, and of the nodes whose only tick it has walked.
 -- Assumes nothing.
-use Prim.Native.Nat.{ℕ, zero, suc, _+_, _<_, _≤_}
-use mathlib.Core.Bool.{Bool, true, false, cond, _||_, _&&_}
+use Prim.Native.Nat.{ℕ, _<_, _≤_}
+use mathlib.Core.Bool.{Bool, true, false, cond, _||_}
 use mathlib.Core.Logic.{⊎-elim}
 use mathlib.Core.Path.{_≡_, refl, sym, ap, subst, _∙_}
 use mathlib.Core.List.{List, [], _∷_, _++_}
@@ -10,12 +10,12 @@ use lib.Dec.{eqb, leb}
 use lib.ListN.{length, getD, set, length-set}
 use borrow.Author.Tests.{leb-true, eqb-true, ne-eqb, eq-eqb}
 use Rattle.basis.proofs.Lists.{getD-set}
-use Rattle.basis.proofs.Tests.{either, not-both, is-false, and-left, and-right, or-left, or-right, or-either}
-use Rattle.table.specs.Tables.{Table, kindAt, firstRoot}
+use Rattle.basis.proofs.Tests.{either, not-both, and-left, or-right, or-either}
+use Rattle.table.specs.Tables.{Table, kindAt}
 use Rattle.table.specs.Nodes.{isProcess, isGuard}
 use Rattle.term.specs.declared.Mode.{Mode}
 use Rattle.term.specs.declared.Mode.the-variants.{Any, Actions, Ticks}
-use Rattle.term.specs.Processes.{Process, idle, Derivation, nodeProcess}
+use Rattle.term.specs.Processes.{Process, nodeProcess}
 use Rattle.term.specs.Choices.{tickCount, count}
 use Rattle.term.proofs.Acceptance.{no-process}
 use Rattle.accept.specs.declared.Counts.{Counts}

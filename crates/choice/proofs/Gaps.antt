@@ -1,15 +1,15 @@
 -- The gap in which a walk writes: the room that each step leaves, and the words that it adds.
 -- Assumes nothing.
 use Prim.Native.Nat.{ℕ, suc, _+_, _-_, _≤_, _<_}
-use mathlib.Core.Path.{_≡_, refl, sym, ap, ap₂, subst, _∙_}
+use mathlib.Core.Path.{_≡_, ap, ap₂, subst, _∙_}
 use mathlib.Core.List.{List, [], _∷_, _++_, append-assoc, append-nil}
 use native.Mathlib.Numerals.{add-one}
 use native.Mathlib.Omega.{arith}
-use lib.ListN.{length, getD, take, drop, set, length-append, length-set}
+use lib.ListN.{length, take, drop, set, length-append, length-set}
 use lib.Seq.{take-suc-set, take-set-le, drop-cons, drop-set-lt, getD-set-same}
 use Rattle.table.specs.Tables.{Table}
 use Rattle.term.specs.declared.Mode.{Mode}
-use Rattle.term.specs.Terms.{Term, Tick, Idle, words, tickWord, idleWord}
+use Rattle.term.specs.Terms.{Tick, Idle, words, tickWord, idleWord}
 use Rattle.term.specs.Processes.{ticks, acts, Derivation, derivation, nodeProcess}
 use Rattle.choice.specs.declared.Gap.{Gap}
 use Rattle.choice.specs.Chosen.{chosen}

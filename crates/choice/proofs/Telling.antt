@@ -1,8 +1,8 @@
 -- The outcome of a derivation, from that of the one that it is made of.
 -- Assumes nothing.
 use Prim.Native.Nat.{ℕ, _+_, _≤_}
-use mathlib.Core.Path.{_≡_, refl, sym, ap, _∙_}
-use mathlib.Core.List.{List, [], _∷_, _++_}
+use mathlib.Core.Path.{_≡_, sym, ap, _∙_}
+use mathlib.Core.List.{List, [], _++_}
 use native.Mathlib.Omega.{arith}
 use lib.ListN.{length, length-append}
 use Rattle.term.specs.Terms.{Term, Tick, Idle, words}
@@ -10,7 +10,7 @@ use Rattle.term.specs.Processes.{ticks, acts, Derivation, derivation}
 use Rattle.choice.specs.declared.Does.the-variants.{Ticking, Acting}
 use Rattle.choice.specs.declared.Outcome.{Outcome}
 use Rattle.choice.specs.Turns.{Around}
-use Rattle.choice.specs.Outcomes.{labelOf, grownBy, Tells}
+use Rattle.choice.specs.Outcomes.{grownBy, Tells}
 
 module _ (d : Derivation) (limit : ℕ) (l : 1 ≤ limit) where
   pub tells-tick : d ≡ derivation ticks [] Idle → Tells d limit (record { does = Ticking; size = 1 })

@@ -4,18 +4,18 @@ use Prim.Native.Nat.{ℕ, zero, suc, _+_, _*_, _-_, _<_, _≤_}
 use mathlib.Core.Bool.{Bool, true, false, not, _&&_, _||_}
 use mathlib.Core.Logic.{⊎-elim}
 use mathlib.Core.Path.{_≡_, refl, sym, ap, ap₂, subst, _∙_}
-use mathlib.Core.List.{List, [], _∷_, _++_, append-nil}
+use mathlib.Core.List.{List, [], _∷_, append-nil}
 use native.Mathlib.Omega.{arith}
-use lib.ListN.{length, getD, List·getD-eq-default}
+use lib.ListN.{length, getD}
 use borrow.Author.Tests.{lt-ltb, le-ltb, ltb-true}
 use Rattle.basis.proofs.Tests.{lt-or-le, not-both, and-left, and-right}
-use Rattle.table.specs.Tables.{Table, kindAt, pAt, qAt, firstRoot, bodyAt}
-use Rattle.table.proofs.Promises.{guarded-operands, call-operands, body-process}
+use Rattle.table.specs.Tables.{Table, kindAt, pAt, qAt, bodyAt}
+use Rattle.table.proofs.Promises.{guarded-operands, body-process}
 use Rattle.term.specs.declared.Mode.{Mode}
 use Rattle.term.specs.declared.Mode.the-variants.{Actions, Ticks}
-use Rattle.term.specs.Terms.{Term, Node, words, seqWord, parWord}
-use Rattle.term.specs.Processes.{Process, idle, tick, act, choice, guarded, call, seq, par, Derivation, before, besideRight, besideLeft, byKind, defined, nodeProcess}
-use Rattle.term.specs.Choices.{tickCount, actionCount, count, actionsOf}
+use Rattle.term.specs.Terms.{Node, words, seqWord, parWord}
+use Rattle.term.specs.Processes.{Process, idle, choice, seq, par, Derivation, before, besideRight, besideLeft, byKind, defined, nodeProcess}
+use Rattle.term.specs.Choices.{tickCount, count, actionsOf}
 use Rattle.term.specs.Exposure.{canTick, callsBelow}
 use Rattle.term.proofs.Counting.{count-choice, count-guarded, can-tick-iff}
 use Rattle.term.proofs.Opened.{sound-lower, process-opened}

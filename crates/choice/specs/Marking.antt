@@ -1,5 +1,5 @@
 -- Marks, a byte for each node: a guard's says that it is collected, a process's that its only tick has been walked.
-use Prim.Native.Nat.{ℕ, _<_, _≤_}
+use Prim.Native.Nat.{ℕ, _≤_}
 use mathlib.Core.Bool.{Bool, true, false, _||_}
 use mathlib.Core.Path.{_≡_}
 use mathlib.Core.List.{List, [], _∷_}
@@ -10,7 +10,6 @@ use Rattle.table.specs.Nodes.{isProcess, isGuard}
 use Rattle.term.specs.declared.Mode.{Mode}
 use Rattle.term.specs.declared.Mode.the-variants.{Any, Actions, Ticks}
 use Rattle.term.specs.Processes.{nodeProcess}
-use Rattle.term.specs.Choices.{tickCount}
 use Rattle.accept.specs.declared.Counts.{Counts}
 use Rattle.choice.specs.Chosen.{chosen}
 

@@ -1,5 +1,5 @@
 -- One step from a node towards its choice.
-use Prim.Native.Nat.{ℕ, _+_, _*_, _-_, _<_, _≤_}
+use Prim.Native.Nat.{ℕ, _-_, _<_, _≤_}
 use mathlib.Core.Bool.{true, cond}
 use mathlib.Core.Path.{_≡_}
 use mathlib.Core.List.{List, [], _∷_, _++_}
@@ -7,13 +7,12 @@ use lib.Dec.{ltb}
 use Rattle.table.specs.Tables.{Table, firstRoot, bodyAt}
 use Rattle.term.specs.declared.Mode.{Mode}
 use Rattle.term.specs.declared.Mode.the-variants.{Actions, Ticks}
-use Rattle.term.specs.Terms.{Term, Tick, Idle, words, parWord}
+use Rattle.term.specs.Terms.{Tick, Idle, words, parWord}
 use Rattle.term.specs.Processes.{ticks, acts, Derivation, derivation, under, join, nodeProcess}
 use Rattle.term.specs.Choices.{count}
 use Rattle.term.specs.Exposure.{callsBelow}
 use Rattle.term.specs.Accepted.{Checked}
 use Rattle.term.proofs.Inside.{GuardNode}
-use Rattle.accept.specs.declared.Counts.{Counts}
 use Rattle.accept.specs.Scratch.{Counted}
 use Rattle.choice.specs.declared.Pick.{Pick}
 use Rattle.choice.specs.declared.Pick.the-variants.{LeftActs, RightActs, LeftTicks, RightTicks}
@@ -22,7 +21,6 @@ use Rattle.choice.specs.declared.Side.the-variants.{Alone, Under, After}
 use Rattle.choice.specs.declared.Turn.{Turn}
 use Rattle.choice.specs.declared.Turn.the-variants.{Ticked, Acted, On, Left, Right, Call}
 use Rattle.choice.specs.Chosen.{chosen}
-use Rattle.choice.specs.Picks.{totalOf}
 
 -- at a sequence or a parallel of nodes p and q, by its operator's word
 abbrev pub pickTurn : ℕ → ℕ → ℕ → Pick → Turn

@@ -1,7 +1,7 @@
 -- The counts of a term at a place, from those of its parts.
 -- Assumes nothing.
 use Prim.Native.Nat.{ℕ, _+_, _≤_, _<_, min}
-use mathlib.Core.Bool.{Bool, true, false, cond, _&&_}
+use mathlib.Core.Bool.{Bool, true, false, _&&_}
 use mathlib.Core.Logic.{⊎-elim}
 use mathlib.Core.Path.{_≡_, refl, sym, ap, ap₂, subst, _∙_}
 use mathlib.Core.List.{List, _++_}
@@ -12,18 +12,18 @@ use borrow.Author.Tests.{ltb-true, lt-ltb, le-ltb, ne-eqb, le-leb, lt-leb}
 use Rattle.basis.proofs.Tests.{lt-or-le, not-both, cond-cases}
 use Rattle.table.specs.Tables.{Table, firstRoot}
 use Rattle.term.specs.Terms.{Term, Seq, Par, Tick, Idle, Node, words, tickWord, idleWord}
-use Rattle.term.specs.Processes.{Process, idle, tick, seq, par, process, few, allFew, nodeProcess}
+use Rattle.term.specs.Processes.{Process, seq, par, process, few, allFew, nodeProcess}
 use Rattle.term.specs.Choices.{actionCount, tickCount}
 use Rattle.term.proofs.Counting.{few-count}
 use Rattle.term.proofs.Words.{Over, words-some}
 use Rattle.accept.specs.declared.Counts.{Counts}
 use Rattle.accept.specs.Counts.{counts, Small, trueCounts, countsOf, seqCounts, parCounts}
 use Rattle.accept.specs.Scratch.{pairAt, Counted}
-use Rattle.accept.proofs.Caps.{counts-small, counts-idle, counts-tick, counts-seq, counts-par}
+use Rattle.accept.proofs.Caps.{counts-idle, counts-tick, counts-seq, counts-par}
 use Rattle.residual.specs.declared.Measured.{Measured}
 use Rattle.residual.specs.Reading.{operatorWord}
 use Rattle.residual.specs.Measures.{leafCounts, operatorCounts, Pairs, Told, Found}
-use Rattle.residual.proofs.Places.{first, term-within, word-is, Parts, seq-parts, par-parts, size-seq, size-par, node-plain}
+use Rattle.residual.proofs.Places.{first, term-within, word-is, seq-parts, par-parts, size-seq, size-par, node-plain}
 
 -- few derivations, by counts that are held at 65,536
 abbrev pub fewCounts : Counts → Bool

@@ -1,7 +1,7 @@
 -- A term at a place among words: its first word, and its parts.
 -- Assumes nothing.
 use Prim.Native.Nat.{ℕ, suc, _+_, _≤_, _<_}
-use mathlib.Core.Bool.{true, false}
+use mathlib.Core.Bool.{false}
 use mathlib.Core.Path.{_≡_, refl, sym, ap, _∙_}
 use mathlib.Core.List.{List, [], _∷_, _++_, append-assoc, head-eq-of-cons-eq, tail-eq-of-cons-eq}
 use native.Mathlib.Numerals.{add-one}
@@ -11,7 +11,7 @@ use lib.Seq.{drop-cons, drop-drop, drop-append-seam}
 use borrow.Author.Tests.{ne-eqb}
 use Rattle.table.specs.Tables.{Table, firstRoot}
 use Rattle.term.specs.Terms.{Term, Seq, Par, Tick, Idle, Node, words, seqWord, parWord, tickWord, idleWord}
-use Rattle.term.proofs.Words.{Over, words-some}
+use Rattle.term.proofs.Words.{words-some}
 use Rattle.residual.specs.Reading.{operatorWord}
 
 abbrev pub first : Term → ℕ

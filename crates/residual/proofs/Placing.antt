@@ -1,26 +1,26 @@
 -- What stands before and after the gap, at each step of the walk that writes what a residual's choice leaves.
 -- Assumes nothing.
-use Prim.Native.Nat.{ℕ, _+_, _-_, _≤_, _<_}
-use mathlib.Core.Path.{_≡_, refl, sym, ap, ap₂, subst, _∙_}
+use Prim.Native.Nat.{ℕ, _+_, _≤_, _<_}
+use mathlib.Core.Path.{_≡_, sym, ap, ap₂, subst, _∙_}
 use mathlib.Core.List.{List, [], _∷_, _++_, append-assoc, append-nil}
 use native.Mathlib.Omega.{arith}
-use lib.ListN.{length, getD, take, drop, set, length-append, length-set, take-append-drop}
+use lib.ListN.{length, take, drop, set, length-append, length-set, take-append-drop}
 use lib.Seq.{drop-set-lt, drop-drop, take-add, take-append-seam}
 use Rattle.table.specs.Tables.{Table}
 use Rattle.term.specs.declared.Mode.{Mode}
 use Rattle.term.specs.declared.Mode.the-variants.{Actions}
 use Rattle.term.specs.Terms.{Term, Tick, Node, words, parWord, idleWord}
-use Rattle.term.specs.Processes.{Derivation, process, nodeProcess}
+use Rattle.term.specs.Processes.{Derivation, nodeProcess}
 use Rattle.choice.specs.declared.Gap.{Gap}
 use Rattle.choice.specs.Chosen.{chosen}
 use Rattle.choice.specs.Writing.{Room, Written}
 use Rattle.choice.specs.Turns.{Ready}
 use Rattle.choice.proofs.Gaps.{take-front, written-same, written-end, leaves-idle}
 use Rattle.residual.specs.Moves.{Moved}
-use Rattle.residual.specs.Steps.{Chosen, going, StepIn, StepJump, StepCopy, StepDrop, Stands}
+use Rattle.residual.specs.Steps.{going, StepIn, StepJump, StepCopy, StepDrop}
 use Rattle.residual.specs.Spots.{Spot}
 use Rattle.residual.proofs.Moving.{moved-before, moved-after, moved-part}
-use Rattle.residual.proofs.Standing.{reached-node, going-tick, same-node, stands-within, stands-here, stands-size, left-stands, right-stands, stands-left, stands-right}
+use Rattle.residual.proofs.Standing.{reached-node, going-tick, same-node, stands-within, stands-here, stands-size, left-stands, right-stands, stands-right}
 
 regroup : (a b x r : List ℕ) → (a ++ b) ++ (x ++ r) ≡ a ++ ((b ++ (x ++ [])) ++ r)
 regroup a b x r = rw (append-nil x) (simp append-assoc)

@@ -1,15 +1,15 @@
 -- The outcome of a residual's choice, from that of the part where the walk goes on.
 -- Assumes nothing.
-use Prim.Native.Nat.{ℕ, _+_, _≤_}
-use mathlib.Core.Path.{_≡_, refl, sym, ap, subst, _∙_}
+use Prim.Native.Nat.{ℕ, _+_}
+use mathlib.Core.Path.{_≡_, ap, subst}
 use mathlib.Core.List.{List, [], _∷_}
 use native.Mathlib.Omega.{arith}
 use lib.ListN.{length}
 use Rattle.table.specs.Tables.{Table}
 use Rattle.term.specs.declared.Mode.{Mode}
-use Rattle.term.specs.declared.Mode.the-variants.{Actions, Ticks}
+use Rattle.term.specs.declared.Mode.the-variants.{Actions}
 use Rattle.term.specs.Terms.{Term, Tick, Node, words}
-use Rattle.term.specs.Processes.{Derivation, nodeProcess, process, join}
+use Rattle.term.specs.Processes.{Derivation, nodeProcess}
 use Rattle.term.proofs.Words.{words-some}
 use Rattle.choice.specs.declared.Does.the-variants.{Ticking}
 use Rattle.choice.specs.declared.Outcome.{Outcome}

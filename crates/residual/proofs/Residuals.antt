@@ -1,35 +1,32 @@
 -- A whole residual in the words that hold it: where it stands, its choices, and what it becomes.
 -- Assumes nothing.
 use Prim.Native.Nat.{ℕ, _+_, _-_, _<_, _≤_}
-use mathlib.Core.Bool.{true}
 use mathlib.Core.Path.{_≡_, refl, sym, ap, ap₂, subst, _∙_}
 use mathlib.Core.List.{List, [], _∷_, _++_, append-nil}
 use native.Mathlib.Nat.{zero-add}
 use native.Mathlib.Omega.{arith}
-use lib.ListN.{length, getD, take, drop, replicate, length-append, length-drop, take-append-drop}
+use lib.ListN.{length, take, drop, replicate, length-append, length-drop, take-append-drop}
 use lib.Seq.{drop-drop, take-add, length-take-le}
 use Rattle.basis.proofs.Lists.{take-rest}
 use Rattle.table.specs.Tables.{Table, firstRoot}
 use Rattle.term.specs.declared.Mode.the-variants.{Any}
-use Rattle.term.specs.Terms.{Term, words, termOf}
-use Rattle.term.specs.Processes.{Derivation, derivations, process, allFew}
+use Rattle.term.specs.Terms.{Term, words}
+use Rattle.term.specs.Processes.{Derivation, process}
 use Rattle.term.specs.Choices.{count}
 use Rattle.term.proofs.Counting.{length-derivations}
 use Rattle.term.proofs.Words.{Over, whole-read}
-use Rattle.accept.specs.Counts.{trueCounts}
 use Rattle.choice.specs.declared.Gap.{Gap}
 use Rattle.choice.specs.Picks.{totalOf}
 use Rattle.choice.specs.Turns.{Ready}
 use Rattle.choice.specs.Writing.{Written}
 use Rattle.choice.proofs.Chosen.{chosen-any}
-use Rattle.residual.specs.declared.Choices.{Choices}
 use Rattle.residual.specs.declared.Measured.{Measured}
 use Rattle.residual.specs.Measures.{Found}
 use Rattle.residual.specs.Moves.{Moved}
 use Rattle.residual.specs.Steps.{Chosen, going, Stands}
 use Rattle.residual.specs.Spots.{Spot}
 use Rattle.residual.specs.Wholes.{Whole, residualTerm, Taking, taken, Offered, Rewritten}
-use Rattle.residual.proofs.Moving.{moved-before, moved-after, moved-part}
+use Rattle.residual.proofs.Moving.{moved-before, moved-part}
 use Rattle.residual.proofs.Stepping.{true-counts}
 
 module _ (t : Table) (s : List ℕ) (ready : Ready t s) (size : ℕ) (ws : List ℕ) (whole : Whole t size ws) where

@@ -1,7 +1,7 @@
 -- Where the parts of a term stand, and what a walk comes to at a node.
 -- Assumes nothing.
 use Prim.Native.Nat.{ℕ, zero, suc, _+_, _<_, _≤_}
-use mathlib.Core.Bool.{Bool, true, false, not, _||_}
+use mathlib.Core.Bool.{true, not, _||_}
 use mathlib.Core.Path.{_≡_, refl, sym, ap, subst, _∙_}
 use mathlib.Core.List.{List, [], _∷_, _++_, append-assoc}
 use native.Mathlib.Omega.{arith}
@@ -18,7 +18,6 @@ use Rattle.term.specs.Terms.{Term, Tick, Idle, Node, words}
 use Rattle.term.specs.Processes.{Process, idle, ticks, derivation, byKind, nodeStep, nodeWith, defined, nodeProcess, process}
 use Rattle.term.specs.Exposure.{canTick, callsBelow}
 use Rattle.term.proofs.Words.{words-some}
-use Rattle.accept.specs.Scratch.{pairAt}
 use Rattle.choice.specs.Turns.{Ready, Reached}
 use Rattle.choice.specs.Chosen.{chosen}
 use Rattle.choice.proofs.Chosen.{chosen-tick}

@@ -1,21 +1,20 @@
 -- Each step from a residual towards its choice is right, and goes on at a part of it.
 -- Assumes nothing.
-use Prim.Native.Nat.{ℕ, _+_, _-_, _<_, _≤_}
-use mathlib.Core.Bool.{Bool, true, false, _&&_}
+use Prim.Native.Nat.{ℕ, _+_, _≤_}
+use mathlib.Core.Bool.{true, false, _&&_}
 use mathlib.Core.Path.{_≡_, refl, sym, ap, ap₂, subst, _∙_}
-use mathlib.Core.List.{List, [], _∷_, _++_, append-nil, append-assoc}
+use mathlib.Core.List.{List, [], _∷_, _++_, append-nil}
 use native.Mathlib.Omega.{arith}
 use lib.ListN.{length, getD, drop}
 use borrow.Author.Tests.{leb-true}
 use Rattle.basis.proofs.Tests.{not-both, and-left, and-right}
 use Rattle.table.specs.Tables.{Table, firstRoot}
 use Rattle.term.specs.declared.Mode.{Mode}
-use Rattle.term.specs.declared.Mode.the-variants.{Actions, Ticks}
-use Rattle.term.specs.Terms.{Term, Seq, Par, Tick, Idle, Node, words, seqWord, parWord, tickWord, idleWord}
-use Rattle.term.specs.Processes.{Process, idle, seq, par, Derivation, before, besideRight, besideLeft, process, few, allFew, derivations}
-use Rattle.term.specs.Choices.{actionCount, tickCount, count, actionsOf}
+use Rattle.term.specs.declared.Mode.the-variants.{Actions}
+use Rattle.term.specs.Terms.{Term, Seq, Par, Tick, Idle, Node, words, seqWord, parWord}
+use Rattle.term.specs.Processes.{Derivation, before, besideRight, besideLeft, process, few, allFew, derivations}
+use Rattle.term.specs.Choices.{actionCount, tickCount, actionsOf}
 use Rattle.term.proofs.Counting.{few-count}
-use Rattle.term.proofs.Words.{Over}
 use Rattle.accept.specs.declared.Counts.{Counts}
 use Rattle.accept.specs.Counts.{trueCounts}
 use Rattle.accept.specs.Scratch.{Counted}
@@ -30,8 +29,8 @@ use Rattle.residual.specs.declared.Measured.{Measured}
 use Rattle.residual.specs.declared.Step.the-variants.{Ticked, Leaf}
 use Rattle.residual.specs.Reading.{operatorWord}
 use Rattle.residual.specs.Measures.{Found, Told}
-use Rattle.residual.specs.Steps.{besideOf, pickStep, Chosen, going, StepIn, StepJump, StepCopy, StepDrop, Stepped, Stands}
-use Rattle.residual.proofs.Places.{first, past, word-is, Parts, seq-parts, par-parts, node-plain}
+use Rattle.residual.specs.Steps.{besideOf, pickStep, Chosen, going, Stepped}
+use Rattle.residual.proofs.Places.{first, word-is, seq-parts, par-parts, node-plain}
 use Rattle.residual.proofs.Measures.{held-true}
 
 module _ (t : Table) where

@@ -1,7 +1,7 @@
 -- The check of whole terms, word by word.
 -- Assumes nothing.
 use Prim.Native.Nat.{ℕ, zero, suc, _+_, _-_, _<_, _≤_}
-use mathlib.Core.Bool.{Bool, true, false, cond, _&&_}
+use mathlib.Core.Bool.{Bool, true, false, cond}
 use mathlib.Core.Path.{_≡_, refl, sym, ap, _∙_}
 use mathlib.Core.List.{List, [], _∷_}
 use native.Mathlib.Numerals.{add-one}
@@ -11,7 +11,7 @@ use lib.ListN.{length, getD, drop, length-drop}
 use lib.Seq.{drop-cons}
 use borrow.Author.Tests.{ltb-true, ltb-false, ne-eqb}
 use Rattle.table.specs.Tables.{Table, firstRoot}
-use Rattle.term.specs.Terms.{areTerms, isOperator, isLeaf}
+use Rattle.term.specs.Terms.{areTerms}
 use Rattle.residual.specs.declared.Cursor.{Cursor}
 use Rattle.residual.specs.declared.Read.{Read}
 use Rattle.residual.specs.declared.Read.the-variants.{Word, End}

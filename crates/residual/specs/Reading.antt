@@ -5,7 +5,6 @@ use mathlib.Core.List.{List}
 use lib.Dec.{eqb, ltb, leb}
 use lib.ListN.{length, getD}
 use Rattle.term.specs.Terms.{seqWord, parWord, tickWord, idleWord}
-use Rattle.residual.specs.declared.Cursor.{Cursor}
 use Rattle.residual.specs.declared.Read.{Read}
 use Rattle.residual.specs.declared.Read.the-variants.{Word, End}
 

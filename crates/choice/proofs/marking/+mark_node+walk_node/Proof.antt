@@ -1,11 +1,11 @@
 -- `mark_node` and `walk_node` meet their contracts. Assumes nothing.
 use mathlib.Core.Bool.{true}
-use mathlib.Core.Path.{_≡_, refl, sym, ap, subst, _∙_}
+use mathlib.Core.Path.{_≡_, sym, ap, subst, _∙_}
 use mathlib.Core.List.{List}
 use native.Mathlib.Omega.{arith}
 use borrow.Author.Tests.{eq-eqb}
 use denote.Ref.{now}
-use lib.ListN.{length, set}
+use lib.ListN.{set}
 use Rattle.table.specs.Tables.{Table, table, kindAt, firstRoot, bodyAt}
 use Rattle.table.specs.Nodes.{isProcess}
 use Rattle.table.specs.Sound.{Shaped}
@@ -19,7 +19,7 @@ use Rattle.choice.specs.Turns.{Reached, Turned}
 use Rattle.choice.specs.Outcomes.{reach}
 use Rattle.choice.specs.Marking.{Marks, Marked}
 use Rattle.choice.proofs.Collecting.{reached-process, only-first, marked-none, mark-guard, marked-guard, marked-join, marked-before, marked-after, marked-same}
-use Prim.Native.Nat.{ℕ, _<_, _≤_, _+_, _*_}
+use Prim.Native.Nat.{ℕ, _<_, _+_, _*_}
 use borrow.Fn.Kinds.{In}
 use borrow.Fn.PlainCycle.{Measures, is, falls, and}
 use Rattle.choice.proofs.marking.mark_node.Reads as mark-node

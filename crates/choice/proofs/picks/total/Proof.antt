@@ -1,3 +1,4 @@
+-- `total` meets its contract. Assumes nothing.
 use mathlib.Core.Path.{sym, ap}
 use native.Mathlib.Omega.{arith}
 use Rattle.term.specs.declared.Mode.{Mode}
@@ -5,8 +6,6 @@ use Rattle.choice.specs.Picks.{totalOf}
 use borrow.Author.Needs.{needs}
 use Rattle.choice.proofs.picks.total.Statement.{statement}
 use Rattle.choice.proofs.picks.total.Tie as tie
-use Rattle.choice.proofs.picks.total.Reads as reads
-use Rattle.choice.proofs.picks.total.Lts as lts
 
 enum-told : tie.Need-enum-told
 enum-told c = search needs

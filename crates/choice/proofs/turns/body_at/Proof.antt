@@ -1,10 +1,7 @@
+-- `body_at` meets its contract. Assumes nothing.
 use borrow.Author.Needs.{needs}
 use Rattle.choice.proofs.turns.body_at.Statement.{statement}
 use Rattle.choice.proofs.turns.body_at.Tie as tie
-use Rattle.choice.proofs.turns.body_at.Reads as reads
-use Rattle.choice.proofs.turns.body_at.Lts as lts
-use Rattle.table.proofs.first_root.Reads as first-root-reads
-use Rattle.table.proofs.p_at.Reads as p-at-reads
 
 first-root-requires : tie.Need-first-root-requires
 first-root-requires c κs = search needs

@@ -1,9 +1,8 @@
+-- `either` meets its contract. Assumes nothing.
 use borrow.Author.Tests.{lt-ltb, le-ltb}
 use Rattle.choice.specs.Turns.{choiceTurn}
 use Rattle.choice.proofs.turns.either.Statement.{statement}
 use Rattle.choice.proofs.turns.either.Tie as tie
-use Rattle.choice.proofs.turns.either.Reads as reads
-use Rattle.choice.proofs.turns.either.Lts as lts
 
 returns : tie.Need-returns
 unfolding choiceTurn

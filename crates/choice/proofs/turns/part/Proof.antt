@@ -1,11 +1,10 @@
+-- `part` meets its contract. Assumes nothing.
 use mathlib.Core.Path.{sym, ap}
 use Rattle.choice.specs.declared.Pick.{Pick}
 use Rattle.choice.specs.Turns.{pickTurn}
 use borrow.Author.Needs.{needs}
 use Rattle.choice.proofs.turns.part.Statement.{statement}
 use Rattle.choice.proofs.turns.part.Tie as tie
-use Rattle.choice.proofs.turns.part.Reads as reads
-use Rattle.choice.proofs.turns.part.Lts as lts
 
 enum-known-pick : tie.Need-enum-known-pick
 enum-known-pick c = search needs

@@ -1,6 +1,6 @@
 -- `turn_at` meets its contract. Assumes nothing.
 use Prim.Native.Nat.{ℕ, _+_, _*_, _<_, _≤_}
-use mathlib.Core.Path.{_≡_, refl, sym, ap, ap₂, subst, _∙_}
+use mathlib.Core.Path.{_≡_, sym, ap, ap₂, subst, _∙_}
 use mathlib.Core.List.{List}
 use native.Mathlib.Omega.{arith}
 use denote.Ref.{now}
@@ -20,14 +20,6 @@ use Rattle.choice.proofs.Turning.{lower-nodes, lower-small, lower-room,
 use borrow.Author.Needs.{needs}
 use Rattle.choice.proofs.turns.turn_at.Statement.{statement}
 use Rattle.choice.proofs.turns.turn_at.Tie as tie
-use Rattle.choice.proofs.turns.turn_at.Reads as reads
-use Rattle.choice.proofs.turns.turn_at.Lts as lts
-use Rattle.accept.proofs.words.pair.Reads as pair-reads
-use Rattle.choice.proofs.picks.acting.Reads as acting-reads
-use Rattle.choice.proofs.picks.pick.Reads as pick-reads
-use Rattle.choice.proofs.picks.total.Reads as total-reads
-use Rattle.choice.proofs.turns.either.Reads as either-reads
-use Rattle.choice.proofs.turns.part.Reads as part-reads
 
 -- both operands have been read
 abbrev At : Type 0

@@ -1,6 +1,6 @@
 -- `write_node` meets its contract. Assumes nothing.
 use mathlib.Core.Path.{_≡_, refl, sym, ap, subst, _∙_}
-use mathlib.Core.List.{List, [], _∷_, append-nil}
+use mathlib.Core.List.{List, [], _∷_}
 use native.Mathlib.Omega.{arith}
 use denote.Ref.{now}
 use lib.ListN.{length, set, length-set}
@@ -13,7 +13,7 @@ use Rattle.choice.specs.declared.Turn.{Turn}
 use Rattle.choice.specs.Chosen.{chosen}
 use Rattle.choice.specs.Turns.{Reached, Around, Turned}
 use Rattle.choice.specs.Outcomes.{reach}
-use Rattle.choice.specs.Writing.{Room, Written}
+use Rattle.choice.specs.Writing.{Room}
 use Rattle.choice.proofs.Turning.{collected-same}
 use Rattle.choice.proofs.Gaps.{room-end, room-same, room-around, room-between, written-same, written-end, written-left, written-right, leaves-idle, leaves-tick}
 use Prim.Native.Nat.{ℕ, _<_, _≤_, _+_, _-_}

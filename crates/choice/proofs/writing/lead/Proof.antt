@@ -1,10 +1,9 @@
+-- `lead` meets its contract. Assumes nothing.
 use lib.ListN.{length-set}
 use native.Mathlib.Omega.{arith}
 use borrow.Author.Needs.{needs}
 use Rattle.choice.proofs.writing.lead.Statement.{statement}
 use Rattle.choice.proofs.writing.lead.Tie as tie
-use Rattle.choice.proofs.writing.lead.Reads as reads
-use Rattle.choice.proofs.writing.lead.Lts as lts
 
 mul-words : tie.Need-mul-words
 mul-words c = search needs

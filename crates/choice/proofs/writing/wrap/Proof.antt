@@ -1,10 +1,9 @@
+-- `wrap` meets its contract. Assumes nothing.
 use lib.ListN.{length-set}
 use native.Mathlib.Omega.{arith}
 use borrow.Author.Needs.{needs}
 use Rattle.choice.proofs.writing.wrap.Statement.{statement}
 use Rattle.choice.proofs.writing.wrap.Tie as tie
-use Rattle.choice.proofs.writing.wrap.Reads as reads
-use Rattle.choice.proofs.writing.wrap.Lts as lts
 
 mul-words : tie.Need-mul-words
 mul-words c = search needs

@@ -7,11 +7,6 @@ use Rattle.residual.proofs.Residuals.{offered}
 use borrow.Author.Needs.{needs}
 use Rattle.residual.proofs.choosing.choices.Statement.{statement}
 use Rattle.residual.proofs.choosing.choices.Tie as tie
-use Rattle.residual.proofs.choosing.choices.Reads as reads
-use Rattle.residual.proofs.choosing.choices.Lts as lts
-use Rattle.choice.proofs.picks.total.Reads as total-reads
-use Rattle.residual.proofs.counting.measure.Reads as measure-reads
-use Rattle.table.proofs.first_root.Reads as first-root-reads
 
 first-root-requires : tie.Need-first-root-requires
 first-root-requires c κs = search needs

@@ -10,9 +10,6 @@ use Rattle.residual.proofs.Residuals.{stands-whole}
 use borrow.Author.Needs.{needs}
 use Rattle.residual.proofs.choosing.collect.Statement.{statement}
 use Rattle.residual.proofs.choosing.collect.Tie as tie
-use Rattle.residual.proofs.choosing.collect.Reads as reads
-use Rattle.residual.proofs.choosing.collect.Lts as lts
-use Rattle.residual.proofs.marking.mark_at.Reads as mark-at-reads
 
 mark-at-requires : tie.Need-mark-at-requires
 mark-at-requires c κs =

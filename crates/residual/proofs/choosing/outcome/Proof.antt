@@ -9,9 +9,6 @@ use Rattle.residual.specs.Wholes.{residualTerm, limitOf}
 use Rattle.residual.proofs.Residuals.{stands-whole}
 use Rattle.residual.proofs.choosing.outcome.Statement.{statement}
 use Rattle.residual.proofs.choosing.outcome.Tie as tie
-use Rattle.residual.proofs.choosing.outcome.Reads as reads
-use Rattle.residual.proofs.choosing.outcome.Lts as lts
-use Rattle.residual.proofs.outcomes.outcome_at.Reads as outcome-at-reads
 
 outcome-at-requires : tie.Need-outcome-at-requires
 outcome-at-requires c κs =

@@ -1,30 +1,20 @@
 -- `rewrite` meets its contract. Assumes nothing.
 use Prim.Native.Nat.{ℕ, _+_, _-_, _≤_}
-use mathlib.Core.Path.{_≡_, refl, sym, ap, subst, _∙_}
+use mathlib.Core.Path.{_≡_, refl, subst}
 use mathlib.Core.List.{List}
 use native.Mathlib.Omega.{arith}
 use denote.Ref.{now}
 use lib.ListN.{length}
 use Rattle.table.specs.Tables.{Table, table}
-use Rattle.term.specs.declared.Mode.the-variants.{Any}
 use Rattle.term.specs.Terms.{Term, words}
 use Rattle.term.specs.Processes.{Derivation, process}
-use Rattle.choice.specs.declared.Gap.{Gap}
 use Rattle.choice.specs.Writing.{Written}
 use Rattle.choice.proofs.Chosen.{chosen-any}
-use Rattle.residual.specs.Steps.{going}
-use Rattle.residual.specs.Spots.{Spot}
 use Rattle.residual.specs.Wholes.{residualTerm, taken}
 use Rattle.residual.proofs.Residuals.{term-size, spot-whole, gap-size, rewritten}
 use borrow.Author.Needs.{needs}
 use Rattle.residual.proofs.choosing.rewrite.Statement.{statement}
 use Rattle.residual.proofs.choosing.rewrite.Tie as tie
-use Rattle.residual.proofs.choosing.rewrite.Reads as reads
-use Rattle.residual.proofs.choosing.rewrite.Lts as lts
-use Rattle.residual.proofs.moves.clear.Reads as clear-reads
-use Rattle.residual.proofs.moves.move_down.Reads as move-down-reads
-use Rattle.residual.proofs.moves.move_up.Reads as move-up-reads
-use Rattle.residual.proofs.writing.place.Reads as place-reads
 
 -- what the choice leaves has been written
 abbrev At : Type 0

@@ -1,8 +1,7 @@
+-- `all_few` meets its contract. Assumes nothing.
 use borrow.Author.Tests.{not-true, not-false}
 use Rattle.residual.proofs.counting.all_few.Statement.{statement}
 use Rattle.residual.proofs.counting.all_few.Tie as tie
-use Rattle.residual.proofs.counting.all_few.Reads as reads
-use Rattle.residual.proofs.counting.all_few.Lts as lts
 
 returns : tie.Need-returns
 returns c = rw (not-true (c .before .args .here) (c .if1 .taken))

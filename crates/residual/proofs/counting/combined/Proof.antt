@@ -1,12 +1,9 @@
+-- `combined` meets its contract. Assumes nothing.
 use borrow.Author.Tests.{eq-eqb, ne-eqb}
 use borrow.Author.Needs.{needs}
 use Rattle.residual.specs.Measures.{operatorCounts}
 use Rattle.residual.proofs.counting.combined.Statement.{statement}
 use Rattle.residual.proofs.counting.combined.Tie as tie
-use Rattle.residual.proofs.counting.combined.Reads as reads
-use Rattle.residual.proofs.counting.combined.Lts as lts
-use Rattle.accept.proofs.sums.parallel.Reads as parallel-reads
-use Rattle.accept.proofs.sums.sequence.Reads as sequence-reads
 
 sequence-requires : tie.Need-sequence-requires
 sequence-requires c κs = search needs

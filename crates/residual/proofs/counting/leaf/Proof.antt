@@ -1,12 +1,9 @@
+-- `leaf` meets its contract. Assumes nothing.
 use borrow.Author.Tests.{eq-eqb, ne-eqb, lt-ltb, le-ltb}
 use borrow.Author.Needs.{needs}
 use Rattle.residual.specs.Measures.{leafCounts}
 use Rattle.residual.proofs.counting.leaf.Statement.{statement}
 use Rattle.residual.proofs.counting.leaf.Tie as tie
-use Rattle.residual.proofs.counting.leaf.Reads as reads
-use Rattle.residual.proofs.counting.leaf.Lts as lts
-use Rattle.accept.proofs.sums.counts.Reads as counts-reads
-use Rattle.accept.proofs.words.pair.Reads as pair-reads
 
 counts-requires : tie.Need-counts-requires
 counts-requires c κs = search needs

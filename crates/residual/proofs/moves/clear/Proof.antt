@@ -7,8 +7,6 @@ use lib.ListN.{length}
 use Rattle.residual.proofs.Moving.{Cleared, cleared-none, cleared-more, cleared-all}
 use Rattle.residual.proofs.moves.clear.Statement.{statement}
 use Rattle.residual.proofs.moves.clear.Tie as tie
-use Rattle.residual.proofs.moves.clear.Reads as reads
-use Rattle.residual.proofs.moves.clear.Lts as lts
 
 abbrev Inv-loop : tie.InvT-loop
 Inv-loop words₀ from i₀ words i = (from ≤ i) × (i ≤ length words₀) × Cleared words₀ from i words

@@ -1,11 +1,10 @@
-use mathlib.Core.Path.{_≡_, _∙_, refl, sym}
-use Prim.Native.Nat.{ℕ, _+_, _-_, _≤_, _<_}
+-- `move_up` meets its contract. Assumes nothing.
+use mathlib.Core.Path.{_≡_}
+use Prim.Native.Nat.{_+_, _≤_}
 use native.Mathlib.Omega.{arith}
-use native.Mathlib.Nat.{add-zero}
-use lib.ListN.{length, length-set}
 use denote.Ref.{now}
 use Rattle.residual.specs.Moves.{Moved}
-use Rattle.residual.proofs.Moving.{moved-none, down-step, up-step}
+use Rattle.residual.proofs.Moving.{moved-none, up-step}
 use Rattle.residual.proofs.moves.move_up.Statement.{statement}
 use Rattle.residual.proofs.moves.move_up.Tie as tie
 

@@ -1,3 +1,4 @@
+-- `whole_term` meets its contract. Assumes nothing.
 use Prim.Native.Nat.{ℕ, _+_, _-_, _≤_, _<_}
 use mathlib.Core.Bool.{Bool, true, false}
 use mathlib.Core.List.{List}
@@ -13,12 +14,6 @@ use Rattle.term.specs.Terms.{areTerms}
 use Rattle.residual.proofs.Whole.{read-word, read-end, are-end, are-none, are-operator, are-leaf, are-bad}
 use Rattle.residual.proofs.reading.whole_term.Statement.{statement}
 use Rattle.residual.proofs.reading.whole_term.Tie as tie
-use Rattle.residual.proofs.reading.whole_term.Reads as reads
-use Rattle.residual.proofs.reading.whole_term.Lts as lts
-use Rattle.residual.proofs.Cursor.read.Reads as read-reads
-use Rattle.residual.proofs.Cursor.start.Reads as start-reads
-use Rattle.residual.proofs.reading.is_leaf.Reads as is-leaf-reads
-use Rattle.residual.proofs.reading.is_operator.Reads as is-operator-reads
 
 -- so many terms are to come in what is left of the words
 abbrev Inv-loop : tie.InvT-loop

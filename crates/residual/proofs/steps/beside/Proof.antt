@@ -1,11 +1,9 @@
+-- `beside` meets its contract. Assumes nothing.
 use borrow.Author.Tests.{eq-eqb, ne-eqb}
 use Rattle.residual.specs.Steps.{besideOf}
 use borrow.Author.Needs.{needs}
 use Rattle.residual.proofs.steps.beside.Statement.{statement}
 use Rattle.residual.proofs.steps.beside.Tie as tie
-use Rattle.residual.proofs.steps.beside.Reads as reads
-use Rattle.residual.proofs.steps.beside.Lts as lts
-use Rattle.choice.proofs.picks.acting.Reads as acting-reads
 
 returns : tie.Need-returns
 unfolding besideOf

@@ -1,11 +1,10 @@
+-- `part` meets its contract. Assumes nothing.
 use mathlib.Core.Path.{sym, ap}
 use Rattle.choice.specs.declared.Pick.{Pick}
 use Rattle.residual.specs.Steps.{pickStep}
 use borrow.Author.Needs.{needs}
 use Rattle.residual.proofs.steps.part.Statement.{statement}
 use Rattle.residual.proofs.steps.part.Tie as tie
-use Rattle.residual.proofs.steps.part.Reads as reads
-use Rattle.residual.proofs.steps.part.Lts as lts
 
 enum-known-pick : tie.Need-enum-known-pick
 enum-known-pick c = search needs

@@ -1,6 +1,6 @@
 -- `step_at` meets its contract. Assumes nothing.
 use Prim.Native.Nat.{ℕ}
-use mathlib.Core.Path.{_≡_, sym, ap, subst, _∙_}
+use mathlib.Core.Path.{sym, ap, subst, _∙_}
 use native.Mathlib.Omega.{arith}
 use denote.Ref.{now}
 use Rattle.choice.specs.Picks.{pickOf}
@@ -9,13 +9,6 @@ use Rattle.residual.proofs.Stepping.{on-operator, on-tick, on-leaf}
 use borrow.Author.Needs.{needs}
 use Rattle.residual.proofs.steps.step_at.Statement.{statement}
 use Rattle.residual.proofs.steps.step_at.Tie as tie
-use Rattle.residual.proofs.steps.step_at.Reads as reads
-use Rattle.residual.proofs.steps.step_at.Lts as lts
-use Rattle.choice.proofs.picks.pick.Reads as pick-reads
-use Rattle.residual.proofs.counting.measure.Reads as measure-reads
-use Rattle.residual.proofs.reading.is_operator.Reads as is-operator-reads
-use Rattle.residual.proofs.steps.beside.Reads as beside-reads
-use Rattle.residual.proofs.steps.part.Reads as part-reads
 
 mul-word : tie.Need-mul-word
 mul-word c = search needs

@@ -1,11 +1,10 @@
 -- `place` meets its contract. Assumes nothing.
-use mathlib.Core.Path.{_≡_, refl, sym, ap, subst, _∙_}
+use mathlib.Core.Path.{_≡_, sym, ap, subst, _∙_}
 use mathlib.Core.List.{List}
 use native.Mathlib.Omega.{arith}
 use denote.Ref.{now}
-use lib.ListN.{length, set, length-set}
+use lib.ListN.{length, length-set}
 use Rattle.table.specs.Tables.{Table, table}
-use Rattle.term.specs.declared.Mode.{Mode}
 use Rattle.term.specs.Terms.{Term}
 use Rattle.choice.specs.Turns.{Ready}
 use Rattle.residual.specs.declared.Step.{Step}
