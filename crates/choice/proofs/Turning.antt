@@ -4,7 +4,7 @@ use Prim.Native.Nat.{ℕ, zero, suc, _+_, _*_, _-_, _<_, _≤_}
 use mathlib.Core.Bool.{Bool, true, false, not, _&&_, _||_}
 use mathlib.Core.Logic.{⊎-elim}
 use mathlib.Core.Path.{_≡_, refl, sym, ap, ap₂, subst, _∙_}
-use mathlib.Core.List.{List, [], _∷_, append-nil}
+use mathlib.Core.List.{List, [], _∷_, _++_, append-nil}
 use native.Mathlib.Omega.{arith}
 use lib.ListN.{length, getD}
 use borrow.Author.Tests.{lt-ltb, le-ltb, ltb-true}
@@ -13,7 +13,7 @@ use Rattle.table.specs.Tables.{Table, kindAt, pAt, qAt, bodyAt}
 use Rattle.table.proofs.Promises.{guarded-operands, body-process}
 use Rattle.term.specs.declared.Mode.{Mode}
 use Rattle.term.specs.declared.Mode.the-variants.{Actions, Ticks}
-use Rattle.term.specs.Terms.{Node, words, seqWord, parWord}
+use Rattle.term.specs.Terms.{Term, Node, words, seqWord, parWord}
 use Rattle.term.specs.Processes.{Process, idle, choice, seq, par, Derivation, before, besideRight, besideLeft, byKind, defined, nodeProcess}
 use Rattle.term.specs.Choices.{tickCount, count, actionsOf}
 use Rattle.term.specs.Exposure.{canTick, callsBelow}
@@ -40,23 +40,34 @@ or-right true b e f = f
 or-right false b e f = absurd (not-both e refl)
 
 -- the ways to stand around a derivation
-module _ (d e : Derivation) (n : ℕ) where
-  around-before : d ≡ before (Node n) e → Around d e (seqWord ∷ []) (n ∷ [])
+module _ (d e : Derivation) (q : Term) where
+  pub around-before : d ≡ before q e → Around d e (seqWord ∷ []) (words q)
   unfolding words
   around-before h = record { label = ap (λ (x : Derivation). x .label) h; guards = ap (λ (x : Derivation). x .guards) h; words = ap (λ (x : Derivation). words (x .leaving)) h }
 
-  around-right : d ≡ besideRight (Node n) e → Around d e (parWord ∷ []) (n ∷ [])
+  pub around-right : d ≡ besideRight q e → Around d e (parWord ∷ []) (words q)
   unfolding words
   around-right h = record { label = ap (λ (x : Derivation). x .label) h; guards = ap (λ (x : Derivation). x .guards) h; words = ap (λ (x : Derivation). words (x .leaving)) h }
 
-  around-left : d ≡ besideLeft (Node n) e → Around d e (parWord ∷ n ∷ []) []
+  pub around-left : d ≡ besideLeft q e → Around d e (parWord ∷ words q) []
   unfolding words
   around-left h =
       record {
         label = ap (λ (x : Derivation). x .label) h;
         guards = ap (λ (x : Derivation). x .guards) h;
-        words = ap (λ (x : Derivation). words (x .leaving)) h ∙ ap (λ (ws : List ℕ). parWord ∷ n ∷ ws) (sym (append-nil (words (e .leaving))));
+        words = ap (λ (x : Derivation). words (x .leaving)) h ∙ ap (λ (ws : List ℕ). parWord ∷ (words q ++ ws)) (sym (append-nil (words (e .leaving))));
       }
+
+-- the words of a node
+one-word : (n : ℕ) → words (Node n) ≡ n ∷ []
+unfolding words
+one-word n = refl
+
+after-node : {d e : Derivation} {w : ℕ} (n : ℕ) → Around d e (w ∷ []) (words (Node n)) → Around d e (w ∷ []) (n ∷ [])
+after-node {d} {e} {w} n a = subst (λ (l : List ℕ). Around d e (w ∷ []) l) (one-word n) a
+
+before-node : {d e : Derivation} {w : ℕ} (n : ℕ) → Around d e (w ∷ words (Node n)) [] → Around d e (w ∷ n ∷ []) []
+before-node {d} {e} {w} n a = subst (λ (l : List ℕ). Around d e (w ∷ l) []) (one-word n) a
 
 module _ (t : Table) (s : List ℕ) (ready : Ready t s) (level : ℕ) (m : Mode) (n c : ℕ) (reached : Reached t level m n c) where
   abbrev p : ℕ
@@ -154,7 +165,7 @@ module _ (t : Table) (s : List ℕ) (ready : Ready t s) (level : ℕ) (m : Mode)
           (and-right (callsBelow level (N p)) (not (canTick (N p)) || callsBelow level (N q)) calls)
 
       by : (y : Pick) → Picked y → Turned t level m n c (chosen m (seq (N p) (N q) (Node q)) c) (pickTurn seqWord p q y)
-      by (LeftActs i) (h, g) = let l = few-nodes in (w .0, reach p Actions i (w .0) h left-calls, around-before _ _ q g, omega arith, omega (arith, w))
+      by (LeftActs i) (h, g) = let l = few-nodes in (w .0, reach p Actions i (w .0) h left-calls, after-node q (around-before _ _ (Node q) g), omega arith, omega (arith, w))
       by (RightActs i) h = absurd h
       by (LeftTicks j i) (h, g, k) = (w .1, reach q m i (w .1) g (right-calls j h), (w .0, reach p Ticks j (w .0) h left-calls, k))
       by (RightTicks j i) h = absurd h
@@ -183,8 +194,8 @@ module _ (t : Table) (s : List ℕ) (ready : Ready t s) (level : ℕ) (m : Mode)
       right-calls = and-right (callsBelow level (N p)) (callsBelow level (N q)) calls
 
       by : (y : Pick) → Picked y → Turned t level m n c (chosen m (par (N p) (Node p) (N q) (Node q)) c) (pickTurn parWord p q y)
-      by (LeftActs i) (h, g) = let l = few-nodes in (w .0, reach p Actions i (w .0) h left-calls, around-right _ _ q g, omega arith, omega (arith, w))
-      by (RightActs i) (h, g) = let l = few-nodes in (w .1, reach q Actions i (w .1) h right-calls, around-left _ _ p g, omega (arith, w))
+      by (LeftActs i) (h, g) = let l = few-nodes in (w .0, reach p Actions i (w .0) h left-calls, after-node q (around-right _ _ (Node q) g), omega arith, omega (arith, w))
+      by (RightActs i) (h, g) = let l = few-nodes in (w .1, reach q Actions i (w .1) h right-calls, before-node p (around-left _ _ (Node p) g), omega (arith, w))
       by (LeftTicks j i) (h, g, k) = (w .1, reach q m i (w .1) g right-calls, (w .0, reach p Ticks j (w .0) h left-calls, k))
       by (RightTicks j i) (h, g, k) = (w .0, reach p m i (w .0) g left-calls, (w .1, reach q Ticks j (w .1) h right-calls, k))
 

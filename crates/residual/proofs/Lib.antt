@@ -1,5 +1,5 @@
-pub mod Whole
 pub mod Places
+pub mod Whole
 pub mod Measures
 pub mod Stepping
 pub mod Standing

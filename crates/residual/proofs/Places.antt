@@ -36,6 +36,11 @@ words-first Tick = refl
 words-first Idle = refl
 words-first (Node n) = refl
 
+-- a list of no length
+pub empty : (l : List ℕ) → length l ≡ 0 → l ≡ []
+empty [] e = refl
+empty (x ∷ l) e = absurd (omega arith)
+
 -- past a part
 pub past : (ws : List ℕ) (at : ℕ) (xs rest : List ℕ) → drop at ws ≡ xs ++ rest → drop (at + length xs) ws ≡ rest
 past ws at xs rest e = sym (drop-drop (length xs) at ws) ∙ rw e (drop-append-seam xs rest)

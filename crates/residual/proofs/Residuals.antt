@@ -1,8 +1,8 @@
 -- A whole residual in the words that hold it: where it stands, its choices, and what it becomes.
 -- Assumes nothing.
 use Prim.Native.Nat.{ℕ, _+_, _-_, _<_, _≤_}
-use mathlib.Core.Path.{_≡_, refl, sym, ap, ap₂, subst, _∙_}
-use mathlib.Core.List.{List, [], _∷_, _++_, append-nil}
+use mathlib.Core.Path.{_≡_, sym, ap, ap₂, subst, _∙_}
+use mathlib.Core.List.{List, _++_, append-nil}
 use native.Mathlib.Nat.{zero-add}
 use native.Mathlib.Omega.{arith}
 use lib.ListN.{length, take, drop, replicate, length-append, length-drop, take-append-drop}
@@ -27,6 +27,7 @@ use Rattle.residual.specs.Steps.{Chosen, going, Stands}
 use Rattle.residual.specs.Spots.{Spot}
 use Rattle.residual.specs.Wholes.{Whole, residualTerm, Taking, taken, Offered, Rewritten}
 use Rattle.residual.proofs.Moving.{moved-before, moved-part}
+use Rattle.residual.proofs.Places.{empty}
 use Rattle.residual.proofs.Stepping.{true-counts}
 
 module _ (t : Table) (s : List ℕ) (ready : Ready t s) (size : ℕ) (ws : List ℕ) (whole : Whole t size ws) where
@@ -83,12 +84,8 @@ module _ (t : Table) (s : List ℕ) (ready : Ready t s) (size : ℕ) (ws : List 
 
 -- the gap that is left is closed, and the rest cleared
 module _ (goal ws vs : List ℕ) (end : ℕ) (gap : Gap) (out : List ℕ) (same : length vs ≡ length ws) (whole : end ≡ length vs) (w : Written vs 0 end goal gap out) where
-  nothing : (l : List ℕ) → length l ≡ 0 → l ≡ []
-  nothing [] e = refl
-  nothing (x ∷ l) e = absurd (omega arith)
-
   parts : take (gap .front) out ++ drop (gap .back) out ≡ goal
-  parts = w .words ∙ rw (nothing (drop end vs) (length-drop end vs ∙ omega arith)) (append-nil goal)
+  parts = w .words ∙ rw (empty (drop end vs) (length-drop end vs ∙ omega arith)) (append-nil goal)
 
   pub gap-size : (gap .front ≤ gap .back) × (gap .back ≤ length ws) × (length out ≡ length ws)
   gap-size = (w .order, omega (arith, w .end), w .same ∙ same)

@@ -3,7 +3,7 @@
 use Prim.Native.Nat.{ℕ, _+_, _≤_}
 use mathlib.Core.Bool.{true, false, _&&_}
 use mathlib.Core.Path.{_≡_, refl, sym, ap, ap₂, subst, _∙_}
-use mathlib.Core.List.{List, [], _∷_, _++_, append-nil}
+use mathlib.Core.List.{List, _++_}
 use native.Mathlib.Omega.{arith}
 use lib.ListN.{length, getD, drop}
 use borrow.Author.Tests.{leb-true}
@@ -12,7 +12,7 @@ use Rattle.table.specs.Tables.{Table, firstRoot}
 use Rattle.term.specs.declared.Mode.{Mode}
 use Rattle.term.specs.declared.Mode.the-variants.{Actions}
 use Rattle.term.specs.Terms.{Term, Seq, Par, Tick, Idle, Node, words, seqWord, parWord}
-use Rattle.term.specs.Processes.{Derivation, before, besideRight, besideLeft, process, few, allFew, derivations}
+use Rattle.term.specs.Processes.{process, few, allFew, derivations}
 use Rattle.term.specs.Choices.{actionCount, tickCount, actionsOf}
 use Rattle.term.proofs.Counting.{few-count}
 use Rattle.accept.specs.declared.Counts.{Counts}
@@ -22,8 +22,8 @@ use Rattle.choice.specs.declared.Pick.{Pick}
 use Rattle.choice.specs.declared.Pick.the-variants.{LeftActs, RightActs, LeftTicks, RightTicks}
 use Rattle.choice.specs.Chosen.{chosen}
 use Rattle.choice.specs.Picks.{actingOf, pickOf}
-use Rattle.choice.specs.Turns.{Around}
 use Rattle.choice.proofs.Chosen.{no-idle}
+use Rattle.choice.proofs.Turning.{around-before, around-right, around-left}
 use Rattle.choice.proofs.Picking.{acting-true, SeqPicked, ParPicked, seq-picked, par-picked}
 use Rattle.residual.specs.declared.Measured.{Measured}
 use Rattle.residual.specs.declared.Step.the-variants.{Ticked, Leaf}
@@ -58,25 +58,6 @@ module _ (t : Table) where
   few-par p q e =
       let f = and-right (few (process t (Par p q))) (allFew t p && allFew t q) e in
       (and-left (allFew t p) (allFew t q) f, and-right (allFew t p) (allFew t q) f)
-
--- the ways to stand around a derivation
-module _ (d e : Derivation) (q : Term) where
-  around-before : d ≡ before q e → Around d e (seqWord ∷ []) (words q)
-  unfolding words
-  around-before h = record { label = ap (λ (x : Derivation). x .label) h; guards = ap (λ (x : Derivation). x .guards) h; words = ap (λ (x : Derivation). words (x .leaving)) h }
-
-  around-right : d ≡ besideRight q e → Around d e (parWord ∷ []) (words q)
-  unfolding words
-  around-right h = record { label = ap (λ (x : Derivation). x .label) h; guards = ap (λ (x : Derivation). x .guards) h; words = ap (λ (x : Derivation). words (x .leaving)) h }
-
-  around-left : d ≡ besideLeft q e → Around d e (parWord ∷ words q) []
-  unfolding words
-  around-left h =
-      record {
-        label = ap (λ (x : Derivation). x .label) h;
-        guards = ap (λ (x : Derivation). x .guards) h;
-        words = ap (λ (x : Derivation). words (x .leaving)) h ∙ ap (λ (ws : List ℕ). parWord ∷ (words q ++ ws)) (sym (append-nil (words (e .leaving))));
-      }
 
 module _ (t : Table) (m : Mode) (c at middle end : ℕ) (p q : Term) (l : middle ≡ at + 1 + length (words p)) (r : end ≡ middle + length (words q)) where
   from-seq : Chosen t m (Seq p q) c → (x : Pick) → x ≡ pickOf m c 0 (trueCounts (process t p)) (trueCounts (process t q)) → Stepped t m (Seq p q) c at (pickStep seqWord at middle end x)

@@ -16,6 +16,7 @@ use Rattle.residual.specs.declared.Cursor.{Cursor}
 use Rattle.residual.specs.declared.Read.{Read}
 use Rattle.residual.specs.declared.Read.the-variants.{Word, End}
 use Rattle.residual.specs.Reading.{readAt, operatorWord, leafWord}
+use Rattle.residual.proofs.Places.{empty}
 
 -- what a reading tells
 module _ (ws : List ℕ) (at : ℕ) where
@@ -37,10 +38,6 @@ module _ (ws : List ℕ) (at : ℕ) where
       by false h f = ltb-false at (length ws) h
 
 module _ (t : Table) (ws : List ℕ) (at : ℕ) where
-  past-nil : (xs : List ℕ) → length xs ≡ 0 → xs ≡ []
-  past-nil [] e = refl
-  past-nil (x ∷ xs) e = absurd (omega arith)
-
   are-nil : (n : ℕ) → areTerms t n [] ≡ eqb n 0
   unfolding areTerms
   are-nil zero = refl
@@ -48,7 +45,7 @@ module _ (t : Table) (ws : List ℕ) (at : ℕ) where
 
   -- no word is left: no term must be left either
   pub are-end : (n : ℕ) → length ws ≤ at → areTerms t n (drop at ws) ≡ eqb n 0
-  are-end n h = rw (past-nil (drop at ws) (length-drop at ws ∙ omega arith)) (are-nil n)
+  are-end n h = rw (empty (drop at ws) (length-drop at ws ∙ omega arith)) (are-nil n)
 
   module _ (h : at < length ws) where
     abbrev w : ℕ
