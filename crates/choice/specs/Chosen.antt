@@ -1,0 +1,11 @@
+-- Derivation c of those of a mode.
+use Prim.Native.Nat.{ℕ}
+use mathlib.Core.List.{[]}
+use lib.ListN.{getD}
+use Rattle.term.specs.declared.Mode.{Mode}
+use Rattle.term.specs.Terms.{Idle}
+use Rattle.term.specs.Processes.{Process, ticks, Derivation, derivation}
+use Rattle.term.specs.Choices.{choices}
+
+unfoldable pub chosen : Mode → Process → ℕ → Derivation
+chosen m P c = getD (choices m P) c (derivation ticks [] Idle)

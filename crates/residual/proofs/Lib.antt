@@ -1,0 +1,9 @@
+pub mod Places
+pub mod Whole
+pub mod Measures
+pub mod Stepping
+pub mod Standing
+pub mod Moving
+pub mod Reporting
+pub mod Placing
+pub mod Residuals

@@ -1,0 +1,96 @@
+-- A term at a place among words: its first word, and its parts.
+-- Assumes nothing.
+use Prim.Native.Nat.{ℕ, suc, _+_, _≤_, _<_}
+use mathlib.Core.Bool.{false}
+use mathlib.Core.Path.{_≡_, refl, sym, ap, _∙_}
+use mathlib.Core.List.{List, [], _∷_, _++_, append-assoc, head-eq-of-cons-eq, tail-eq-of-cons-eq}
+use native.Mathlib.Numerals.{add-one}
+use native.Mathlib.Omega.{arith}
+use lib.ListN.{length, getD, drop, length-append, length-drop}
+use lib.Seq.{drop-cons, drop-drop, drop-append-seam}
+use borrow.Author.Tests.{ne-eqb}
+use Rattle.table.specs.Tables.{Table, firstRoot}
+use Rattle.term.specs.Terms.{Term, Seq, Par, Tick, Idle, Node, words, seqWord, parWord, tickWord, idleWord}
+use Rattle.term.proofs.Words.{words-some}
+use Rattle.residual.specs.Reading.{operatorWord}
+
+abbrev pub first : Term → ℕ
+first (Seq p q) = seqWord
+first (Par p q) = parWord
+first Tick = tickWord
+first Idle = idleWord
+first (Node n) = n
+
+abbrev pub others : Term → List ℕ
+others (Seq p q) = words p ++ words q
+others (Par p q) = words p ++ words q
+others Tick = []
+others Idle = []
+others (Node n) = []
+
+words-first : (T : Term) → words T ≡ first T ∷ others T
+unfolding words
+words-first (Seq p q) = refl
+words-first (Par p q) = refl
+words-first Tick = refl
+words-first Idle = refl
+words-first (Node n) = refl
+
+-- a list of no length
+pub empty : (l : List ℕ) → length l ≡ 0 → l ≡ []
+empty [] e = refl
+empty (x ∷ l) e = absurd (omega arith)
+
+-- past a part
+pub past : (ws : List ℕ) (at : ℕ) (xs rest : List ℕ) → drop at ws ≡ xs ++ rest → drop (at + length xs) ws ≡ rest
+past ws at xs rest e = sym (drop-drop (length xs) at ws) ∙ rw e (drop-append-seam xs rest)
+
+-- where a term begins, its first word stands, and the others after it
+module _ (ws : List ℕ) (at : ℕ) (T : Term) (rest : List ℕ) (e : drop at ws ≡ words T ++ rest) where
+  pub term-within : at + length (words T) ≤ length ws
+  term-within =
+      let f : length (drop at ws) ≡ length (words T) + length rest = ap length e ∙ length-append (words T) rest in
+      let g = length-drop at ws in
+      let h = words-some T in
+      omega arith
+
+  here : at < length ws
+  here = let h = words-some T in let w = term-within in omega arith
+
+  both : getD ws at 0 ∷ drop (suc at) ws ≡ first T ∷ (others T ++ rest)
+  both = sym (drop-cons ws at 0 here) ∙ e ∙ rw (words-first T)
+
+  pub word-is : getD ws at 0 ≡ first T
+  word-is = head-eq-of-cons-eq both
+
+  others-are : drop (at + 1) ws ≡ others T ++ rest
+  others-are = rw add-one (tail-eq-of-cons-eq both)
+
+-- the two parts of an operator's term, whose words begin with w
+pub record Parts (ws : List ℕ) (at : ℕ) (p q : Term) (rest : List ℕ) : Type 0 where
+  pub left : drop (at + 1) ws ≡ words p ++ (words q ++ rest)
+  pub right : drop (at + 1 + length (words p)) ws ≡ words q ++ rest
+
+module _ (ws : List ℕ) (at : ℕ) (p q : Term) (rest : List ℕ) where
+  parted : drop (at + 1) ws ≡ (words p ++ words q) ++ rest → Parts ws at p q rest
+  parted e =
+      let l = e ∙ append-assoc (words p) (words q) rest in
+      record { left = l; right = past ws (at + 1) (words p) (words q ++ rest) l }
+
+  pub seq-parts : drop at ws ≡ words (Seq p q) ++ rest → Parts ws at p q rest
+  seq-parts e = parted (others-are ws at (Seq p q) rest e)
+
+  pub par-parts : drop at ws ≡ words (Par p q) ++ rest → Parts ws at p q rest
+  par-parts e = parted (others-are ws at (Par p q) rest e)
+
+pub size-seq : (p q : Term) → length (words (Seq p q)) ≡ 1 + length (words p) + length (words q)
+unfolding words
+size-seq p q = let e = length-append (words p) (words q) in omega arith
+
+pub size-par : (p q : Term) → length (words (Par p q)) ≡ 1 + length (words p) + length (words q)
+unfolding words
+size-par p q = let e = length-append (words p) (words q) in omega arith
+
+-- a node's number is no other word
+pub node-plain : (t : Table) → firstRoot t ≤ 4096 → (n : ℕ) → n < firstRoot t → operatorWord n ≡ false
+node-plain t r n h = rw (ne-eqb n seqWord (λ e. omega arith), ne-eqb n parWord (λ e. omega arith))

@@ -1,0 +1,107 @@
+-- Where the parts of a term stand, and what a walk comes to at a node.
+-- Assumes nothing.
+use Prim.Native.Nat.{ℕ, zero, suc, _+_, _<_, _≤_}
+use mathlib.Core.Bool.{true, not, _||_}
+use mathlib.Core.Path.{_≡_, refl, sym, ap, subst, _∙_}
+use mathlib.Core.List.{List, [], _∷_, _++_, append-assoc}
+use native.Mathlib.Omega.{arith}
+use lib.ListN.{length, getD, drop, length-append}
+use borrow.Author.Tests.{lt-ltb}
+use Rattle.basis.specs.Below.{below}
+use Rattle.basis.proofs.Below.{below-induct}
+use Rattle.basis.proofs.Tests.{and-both, or-right}
+use Rattle.table.specs.Tables.{Table, kindAt, pAt, qAt, firstRoot}
+use Rattle.table.specs.Sound.{Sound}
+use Rattle.table.proofs.Promises.{call-operands}
+use Rattle.term.specs.declared.Mode.{Mode}
+use Rattle.term.specs.Terms.{Term, Tick, Idle, Node, words}
+use Rattle.term.specs.Processes.{Process, idle, ticks, derivation, byKind, nodeStep, nodeWith, defined, nodeProcess, process}
+use Rattle.term.specs.Exposure.{canTick, callsBelow}
+use Rattle.term.proofs.Words.{words-some}
+use Rattle.choice.specs.Turns.{Ready, Reached}
+use Rattle.choice.specs.Chosen.{chosen}
+use Rattle.choice.proofs.Chosen.{chosen-tick}
+use Rattle.residual.specs.Measures.{Pairs}
+use Rattle.residual.specs.Steps.{Chosen, going, Stands}
+use Rattle.residual.proofs.Places.{past, term-within}
+
+-- the words hold counts below 65,536
+pub pairs-ready : (t : Table) (s : List ℕ) → Ready t s → (roots : ℕ) → roots ≡ firstRoot t → Pairs roots s
+pairs-ready t s r roots e =
+    record {
+      nodes = omega (arith, r .checked .sound .shaped .limits .nodes);
+      room = omega (arith, r .counted .words);
+      small = λ n h. let f = r .counted .few n (omega arith) in record { actions = omega arith; ticks = omega arith };
+    }
+
+-- a node exposes calls of the table's definitions only
+module _ (t : Table) (sound : Sound t) where
+  abbrev D : ℕ
+  D = t .sizes .definitions
+
+  calls-kind : (calls lower : ℕ → Process) → ((k : ℕ) → callsBelow D (lower k) ≡ true) → (n k : ℕ) → kindAt t n ≡ k → callsBelow D (getD (byKind calls lower n (pAt t n) (qAt t n)) k idle) ≡ true
+  unfolding callsBelow
+  calls-kind calls lower l n zero e = refl
+  calls-kind calls lower l n (suc zero) e = refl
+  calls-kind calls lower l n (suc (suc zero)) e = refl
+  calls-kind calls lower l n (suc (suc (suc zero))) e = refl
+  calls-kind calls lower l n (suc (suc (suc (suc zero)))) e = refl
+  calls-kind calls lower l n (suc (suc (suc (suc (suc zero))))) e =
+      and-both (callsBelow D (lower (pAt t n))) (not (canTick (lower (pAt t n))) || callsBelow D (lower (qAt t n))) (l (pAt t n)) (or-right (not (canTick (lower (pAt t n)))) (callsBelow D (lower (qAt t n))) (l (qAt t n)))
+  calls-kind calls lower l n (suc (suc (suc (suc (suc (suc zero)))))) e = and-both (callsBelow D (lower (pAt t n))) (callsBelow D (lower (qAt t n))) (l (pAt t n)) (l (qAt t n))
+  calls-kind calls lower l n (suc (suc (suc (suc (suc (suc (suc zero))))))) e = l (qAt t n)
+  calls-kind calls lower l n (suc (suc (suc (suc (suc (suc (suc (suc zero)))))))) e = and-both (callsBelow D (lower (pAt t n))) (callsBelow D (lower (qAt t n))) (l (pAt t n)) (l (qAt t n))
+  calls-kind calls lower l n (suc (suc (suc (suc (suc (suc (suc (suc (suc zero))))))))) e = lt-ltb (pAt t n) D (call-operands t sound n e .0)
+  calls-kind calls lower l n (suc (suc (suc (suc (suc (suc (suc (suc (suc (suc k)))))))))) e = refl
+
+  node-calls : (n : ℕ) → callsBelow D (nodeProcess t n) ≡ true
+  unfolding nodeProcess nodeWith nodeStep callsBelow
+  node-calls =
+      below-induct (nodeStep t (defined t D)) idle (λ (k : ℕ) (P : Process). callsBelow D P ≡ true) (firstRoot t) (λ k. refl)
+      (λ n h r. calls-kind (defined t D) (below (nodeStep t (defined t D)) idle n) r n (kindAt t n) refl)
+
+  -- a term that is a node
+  pub reached-node : (m : Mode) (n c : ℕ) (T : Term) → T ≡ Node n → Chosen t m T c → Reached t D m n c
+  unfolding process
+  reached-node m n c T e k =
+      let w : Chosen t m (Node n) c = subst (λ (X : Term). Chosen t m X c) e k in
+      record { low = w .over .0; top = omega arith; choice = w .choice; calls = node-calls n }
+
+-- and one that is a tick
+pub going-tick : (t : Table) (m : Mode) (T : Term) (c : ℕ) → T ≡ Tick → Chosen t m T c → going t m T c ≡ derivation ticks [] Idle
+unfolding process
+going-tick t m T c e k =
+    let w : Chosen t m Tick c = subst (λ (X : Term). Chosen t m X c) e k in
+    ap (λ (X : Term). going t m X c) e ∙ chosen-tick m c (w .choice)
+
+pub same-node : (t : Table) (m : Mode) (n c : ℕ) (T : Term) → T ≡ Node n → chosen m (process t T) c ≡ chosen m (nodeProcess t n) c
+unfolding process
+same-node t m n c T e = ap (λ (X : Term). chosen m (process t X) c) e
+
+module _ (t : Table) (m : Mode) (T : Term) (c at : ℕ) (ws : List ℕ) (stands : Stands t m T c at ws) where
+  pub stands-within : at + length (words T) ≤ length ws
+  stands-within = term-within ws at T (drop (at + length (words T)) ws) (stands .begins)
+
+  pub stands-here : at < length ws
+  stands-here = let w = stands-within in let n = words-some T in omega arith
+
+  module _ (w : ℕ) (p q : Term) (term : words T ≡ w ∷ (words p ++ words q)) where
+    pub stands-size : length (words T) ≡ 1 + length (words p) + length (words q)
+    stands-size = ap length term ∙ (let e = length-append (words p) (words q) in omega arith)
+
+    pub left-stands : drop (at + 1) ws ≡ words p ++ (words q ++ drop (at + length (words T)) ws)
+    left-stands =
+        past ws at (w ∷ []) ((words p ++ words q) ++ drop (at + length (words T)) ws) (stands .begins ∙ ap (λ (l : List ℕ). l ++ drop (at + length (words T)) ws) term) ∙
+        append-assoc (words p) (words q) (drop (at + length (words T)) ws)
+
+    pub right-stands : drop (at + 1 + length (words p)) ws ≡ words q ++ drop (at + length (words T)) ws
+    right-stands = past ws (at + 1) (words p) (words q ++ drop (at + length (words T)) ws) left-stands
+
+    pub stands-left : (j : Mode) (i : ℕ) → Chosen t j p i → Stands t j p i (at + 1) ws
+    stands-left j i k = record { chosen = k; begins = left-stands ∙ ap (λ (l : List ℕ). words p ++ l) (sym right-stands) }
+
+    pub stands-right : (j : Mode) (i x : ℕ) → x ≡ at + 1 + length (words p) → Chosen t j q i → Stands t j q i x ws
+    stands-right j i x e k =
+        let z = stands-size in
+        let f : x + length (words q) ≡ at + length (words T) = omega arith in
+        record { chosen = k; begins = rw (f, e) right-stands }

@@ -1,0 +1,100 @@
+// The counts of the term that begins at a place, where it ends, and whether each subterm has few derivations.
+use crate::Measured;
+use crate::reading::is_operator;
+use accept::Counts;
+use accept::sums::parallel;
+use accept::sums::sequence;
+use accept::words::pair;
+ghost use mathlib.Core.Path.{_≡_};
+ghost use mathlib.Core.Bool.{_&&_};
+ghost use Prim.Native.Nat.{_+_, _≤_};
+ghost use lib.Dec.{leb};
+ghost use lib.ListN.{length};
+ghost use Rattle.accept.specs.Counts.{counts as countsFrom, Small};
+ghost use Rattle.residual.specs.Measures.{leafCounts, operatorCounts, Pairs, Found};
+
+fn counts(actions: u64, ticks: u64) -> Counts
+    ensures { λ r. ⌜ r ≡ countsFrom actions ticks ⌝ }
+{
+    Counts { actions, ticks }
+}
+
+// The counts of a word that is a term by itself.
+fn leaf(roots: usize, scratch: &[u32], word: u32) -> Counts
+    requires { ⌜ Pairs roots (now scratch) ⌝ }
+    ensures { λ r. ⌜ r ≡ leafCounts roots (now (scratch .entry)) word ⌝ }
+{
+    if word == 65533 {
+        return counts(0, 1);
+    }
+    let n = word as usize;
+    if n < roots {
+        return pair(scratch, n);
+    }
+    counts(0, 0)
+}
+
+// The counts of an operator's term, from those of its parts.
+fn combined(word: u32, left: Counts, right: Counts) -> Counts
+    requires { ⌜ Small left ⌝ ∗ ⌜ Small right ⌝ }
+    ensures { λ r. ⌜ r ≡ operatorCounts word left right ⌝ }
+{
+    if word == 65535 {
+        return sequence(left, right);
+    }
+    parallel(left, right)
+}
+
+// At most 65,535 derivations.
+fn few(c: Counts) -> bool
+    requires { ⌜ Small c ⌝ }
+    ensures { λ r. ⌜ r ≡ leb (c .actions + c .ticks) 65535 ⌝ }
+{
+    c.actions + c.ticks <= 65535
+}
+
+fn all_few(here: bool, left: bool, right: bool) -> bool
+    ensures { λ r. ⌜ r ≡ (here && (left && right)) ⌝ }
+{
+    if !here {
+        return false;
+    }
+    if !left {
+        return false;
+    }
+    right
+}
+
+pub fn measure(roots: usize, scratch: &[u32], words: &[u32], at: usize) -> Measured
+    requires { ⌜ Pairs roots (now scratch) ⌝ }
+    requires { ⌜ at ≤ length (now words) ⌝ }
+    ensures { λ r. ⌜ Found roots (now (scratch .entry)) (now (words .entry)) at r ⌝ }
+{
+    if at == words.len() {
+        let none = counts(0, 0);
+        return Measured {
+            counts: none,
+            next: at,
+            few: true,
+        };
+    }
+    let word = words[at];
+    if is_operator(word) {
+        let left = measure(roots, scratch, words, at + 1);
+        let right = measure(roots, scratch, words, left.next);
+        let c = combined(word, left.counts, right.counts);
+        let all = all_few(few(c), left.few, right.few);
+        return Measured {
+            counts: c,
+            next: right.next,
+            few: all,
+        };
+    }
+    let c = leaf(roots, scratch, word);
+    let all = few(c);
+    Measured {
+        counts: c,
+        next: at + 1,
+        few: all,
+    }
+}

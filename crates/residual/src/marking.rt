@@ -1,0 +1,125 @@
+// The guards of a residual's choice, as marks: one byte for each node.
+use crate::Step;
+use crate::steps::step_at;
+use choice::marking::mark_node;
+use table::Sizes;
+use table::first_root;
+use term::Mode;
+ghost use Prim.Native.Nat.{_≤_};
+ghost use lib.ListN.{length};
+ghost use Rattle.table.specs.Tables.{table};
+ghost use Rattle.term.specs.Terms.{Term};
+ghost use Rattle.choice.specs.Turns.{Ready};
+ghost use Rattle.choice.specs.Marking.{Marks, Marked};
+ghost use Rattle.residual.specs.Steps.{going, Stands};
+
+// Where a tick of one part joins a derivation of the other, the guards of both.
+pub fn mark_at(
+    sizes: Sizes,
+    kinds: &[u8],
+    operands: &[u8],
+    scratch: &[u32],
+    marks: &mut [u8],
+    words: &[u32],
+    at: usize,
+    mode: Mode,
+    c: u64,
+)
+    requires { ⌜ Ready (table sizes (now kinds) (now operands)) (now scratch) ⌝ }
+    requires { ⌜ length (now words) ≤ 65535 ⌝ }
+    requires { ⌜ ((T : Term) × Stands (table sizes (now kinds) (now operands)) mode T c at (now words)) ⌝ }
+    requires { ⌜ Marks (table sizes (now kinds) (now operands)) (now marks) ⌝ }
+    ensures { λ r. ⌜ ((T : Term) → Stands (table sizes (now (kinds .entry)) (now (operands .entry))) mode T c at (now (words .entry)) → Marked (table sizes (now (kinds .entry)) (now (operands .entry))) (going (table sizes (now (kinds .entry)) (now (operands .entry))) mode T c .guards) (now (marks .entry)) (now (marks .exit))) ⌝ }
+{
+    let step = step_at(first_root(sizes), scratch, words, at, mode, c);
+    match step {
+        Step::Ticked => {}
+        Step::Leaf(n) => {
+            mark_node(
+                sizes,
+                kinds,
+                operands,
+                scratch,
+                marks,
+                sizes.definitions,
+                mode,
+                n,
+                c,
+            );
+        }
+        Step::In(_, i, _) => {
+            mark_at(
+                sizes,
+                kinds,
+                operands,
+                scratch,
+                marks,
+                words,
+                at + 1,
+                Mode::Actions,
+                i,
+            );
+        }
+        Step::Jump(middle, i, j) => {
+            mark_at(
+                sizes,
+                kinds,
+                operands,
+                scratch,
+                marks,
+                words,
+                at + 1,
+                Mode::Ticks,
+                j,
+            );
+            mark_at(
+                sizes,
+                kinds,
+                operands,
+                scratch,
+                marks,
+                words,
+                middle,
+                mode,
+                i,
+            );
+        }
+        Step::Copy(n, i) => {
+            mark_at(
+                sizes,
+                kinds,
+                operands,
+                scratch,
+                marks,
+                words,
+                at + n,
+                Mode::Actions,
+                i,
+            );
+        }
+        Step::Drop(n, _, i, j) => {
+            mark_at(
+                sizes,
+                kinds,
+                operands,
+                scratch,
+                marks,
+                words,
+                at + 1 + n,
+                Mode::Ticks,
+                j,
+            );
+            mark_at(
+                sizes,
+                kinds,
+                operands,
+                scratch,
+                marks,
+                words,
+                at + 1,
+                mode,
+                i,
+            );
+        }
+    }
+}
