@@ -1,1 +1,1 @@
-// Theorems on the definitions: demands 2 and 3, and the rehearsed examples. There is no code here.
+// Theorems on the definitions: demands 2 and 3, and generated cases. There is no code here.
