@@ -1,6 +1,1 @@
-pub mod Acts
-pub mod Offers
-pub mod Steps
-pub mod Runs
 pub mod Answers
-pub mod Examples

@@ -21,8 +21,8 @@ use Rattle.state.specs.declared.Store.the-variants.{Entries}
 use Rattle.state.specs.Layout.{keyLimit, wordOf, stampOf, zpOf}
 use Rattle.state.proofs.Places.{Place, Zp, Mark, Word, Waits, Inside, placeKind, same, same-not}
 use Rattle.state.proofs.Frames.{wordAt, SameAt, put-other}
-use Rattle.machine.specs.Acts.{nextStamp, wordIn, valueFor, storeOf, setKey, acted}
-use Rattle.machine.proofs.Acts.{set-tick, set-value, store-other, entry-word, acted-other}
+use Rattle.steps.specs.Acts.{nextStamp, wordIn, valueFor, storeOf, setKey, acted}
+use Rattle.steps.proofs.Acts.{set-tick, set-value, store-other, entry-word, acted-other}
 use Rattle.theorems.proofs.Views.{Pair, newer, seen, links, pair-same, pick-pair, Shows, shows-same, shows-itself}
 
 -- an act of agent x, seen from key j

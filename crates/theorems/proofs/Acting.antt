@@ -31,10 +31,10 @@ use Rattle.state.proofs.Places.{Place, Zc, Zp, Clock, Mark, Word, Waits, Length
 use Rattle.state.proofs.Places.{placeAgent as ownerOf}
 use Rattle.state.proofs.Frames.{SameAt, set-other, set-here, value-same, term-same, put-length, put-other, put-valueIn, add-length, add-other}
 use Rattle.state.proofs.Formed.{WellFormed}
-use Rattle.machine.specs.Acts.{isAbsent, wordIn, nextStamp, allHold, valueFor, lacksValue, writesEntry, choices, chosen, toConfirm, storeOf, setKey, acted}
-use Rattle.machine.proofs.Leave.{leave-term, leave-other}
-use Rattle.machine.proofs.Steps.{Able}
-use Rattle.machine.proofs.Acts.{action-key, store-attribute, store-environment, set-tick, set-value, set-entry, set-length, acted-length, acted-other}
+use Rattle.steps.specs.Acts.{isAbsent, wordIn, nextStamp, allHold, valueFor, lacksValue, writesEntry, choices, chosen, toConfirm, storeOf, setKey, acted}
+use Rattle.steps.proofs.Leave.{leave-term, leave-other}
+use Rattle.steps.proofs.Steps.{Able}
+use Rattle.steps.proofs.Acts.{action-key, store-attribute, store-environment, set-tick, set-value, set-entry, set-length, acted-length, acted-other}
 use Rattle.labs.specs.Agents.{⟨_⸴_⸴_⸴_⸴_⟩, Agent, Interface, Keys, System, _⟦_≔_⟧, _∪｛_｝, _∪_}
 use Rattle.labs.specs.Expressions.{Expr, E⟦_⟧, exprOf}
 use Rattle.labs.specs.Processes.{Variable, attribute, stigmergy, environment}

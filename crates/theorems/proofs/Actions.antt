@@ -20,7 +20,7 @@ use Rattle.term.proofs.Inside.{ActionNode, GuardNode, Labelled, Inside}
 use Rattle.state.specs.declared.Store.the-variants.{Entries}
 use Rattle.state.specs.Layout.{keyLimit, wordOf, stampOf}
 use Rattle.state.specs.Evaluation.{holds}
-use Rattle.machine.specs.Acts.{allHold, guardsRead, labelReads, toConfirm}
+use Rattle.steps.specs.Acts.{allHold, guardsRead, labelReads, toConfirm}
 use Rattle.labs.specs.Agents.{Entry, Keys}
 use Rattle.labs.specs.Expressions.{exprOf, K⟦_⟧}
 use Rattle.labs.specs.Processes.{Variable, attribute, stigmergy, environment, assign, actionOf}

@@ -13,10 +13,10 @@ use Rattle.term.specs.Exposure.{canTick, callsBelow}
 use Rattle.state.specs.Layout.{valueIn, put, addKey, dropKey}
 use Rattle.state.specs.Evaluation.{valueStep, truthStep, readsStep}
 use Rattle.state.specs.WellFormed.{allZero, pairFormed, pendingFormed, residualFormed, agentFormed, wellFormed, loaded}
-use Rattle.machine.specs.Acts.{leave, setKey, acted}
-use Rattle.machine.specs.Offers.{takeEntry, hears, takes, answers, offer}
-use Rattle.machine.specs.Steps.{outcome, stepIn}
-use Rattle.machine.specs.Runs.{ran, runOf}
+use Rattle.steps.specs.Acts.{leave, setKey, acted}
+use Rattle.steps.specs.Offers.{takeEntry, hears, takes, answers, offer}
+use Rattle.steps.specs.Steps.{outcome, stepIn}
+use Rattle.steps.specs.Runs.{ran, runOf}
 use Rattle.theorems.specs.Rehearsals.{wordsFrom, AllAgree}
 
 pub all-agree : AllAgree

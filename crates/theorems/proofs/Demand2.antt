@@ -22,11 +22,11 @@ use Rattle.state.proofs.Places.{KeySet, Zc, Zp, Waits}
 use Rattle.state.proofs.Frames.{wordAt}
 use Rattle.state.proofs.Formed.{WellFormed, Proper, There}
 use Rattle.state.proofs.Exact.{show-exact}
-use Rattle.machine.specs.Acts.{choices, chosen, acted}
-use Rattle.machine.specs.Steps.{Outcome, done, takenBy, after, ownChecks, stepOf}
-use Rattle.machine.proofs.Steps.{InRange, Done, act-able, state-checks, step-in, done-step, step-done}
-use Rattle.machine.proofs.Proper.{step-checked}
-use Rattle.machine.proofs.Steps.{propagates as may-propagate, confirms as may-confirm}
+use Rattle.steps.specs.Acts.{choices, chosen, acted}
+use Rattle.steps.specs.Steps.{Outcome, done, takenBy, after, ownChecks, stepOf}
+use Rattle.steps.proofs.Steps.{InRange, Done, act-able, state-checks, step-in, done-step, step-done}
+use Rattle.steps.proofs.Proper.{step-checked}
+use Rattle.steps.proofs.Steps.{propagates as may-propagate, confirms as may-confirm}
 use Rattle.labs.specs.Agents.{Agent, Interface, System}
 use Rattle.labs.specs.Expressions.{valueIn as valueOfEntry}
 use Rattle.labs.specs.Reading.{agentOf, systemOf}

@@ -27,8 +27,8 @@ use Rattle.state.specs.Evaluation.{linkHolds}
 use Rattle.state.specs.WellFormed.{loaded}
 use Rattle.state.proofs.Places.{Zp, Word}
 use Rattle.state.proofs.Load.{loaded-zero, loaded-clock, loaded-mark, loaded-set}
-use Rattle.machine.specs.Steps.{Outcome, after}
-use Rattle.machine.proofs.Steps.{Done, load-accepted, accepted-load, done-step, step-done, step-refused}
+use Rattle.steps.specs.Steps.{Outcome, after}
+use Rattle.steps.proofs.Steps.{Done, load-accepted, accepted-load, done-step, step-done, step-refused}
 use Rattle.theorems.specs.Demand3.{Step, Write, outcomeOf, next, stateAfter, ifDone, adds, history, noWrite, Demand-3, Demand-3-holds}
 use Rattle.theorems.proofs.Views.{Pair, absent, stampIn, newer, pairOf, pair-same, seen, links}
 use Rattle.theorems.proofs.Turns.{stepMove, stepAdds, after-shows, quiet-past, step-fresh, step-clock, written, adds-numbered, adds-entries}

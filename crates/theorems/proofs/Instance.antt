@@ -25,9 +25,9 @@ use Rattle.term.specs.Acceptance.{stateWords}
 use Rattle.state.specs.Layout.{valueIn, put, addKey, dropKey}
 use Rattle.state.specs.Evaluation.{valueStep, truthStep, readsStep}
 use Rattle.state.specs.WellFormed.{allZero, pairFormed, pendingFormed, residualFormed, agentFormed, wellFormed, loaded}
-use Rattle.machine.specs.Acts.{leave, setKey, acted}
-use Rattle.machine.specs.Offers.{takeEntry, hears, takes, answers, offer}
-use Rattle.machine.specs.Steps.{Outcome, done, outcome, tableChecks, stepIn, stepOf}
+use Rattle.steps.specs.Acts.{leave, setKey, acted}
+use Rattle.steps.specs.Offers.{takeEntry, hears, takes, answers, offer}
+use Rattle.steps.specs.Steps.{Outcome, done, outcome, tableChecks, stepIn, stepOf}
 use Rattle.labs.specs.Agents.{System}
 use Rattle.labs.specs.Reading.{systemOf}
 use Rattle.theorems.specs.Demand2.{Allowed, Bytes, Ready}

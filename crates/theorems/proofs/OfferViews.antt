@@ -20,8 +20,8 @@ use Rattle.state.specs.declared.Store.the-variants.{Entries}
 use Rattle.state.specs.Layout.{keyLimit, zpOf}
 use Rattle.state.proofs.Places.{Place, Zp, Zc, Mark, Word, Waits, Inside, placeAgent}
 use Rattle.state.proofs.Frames.{SameAt, drop-other, drop-word}
-use Rattle.machine.specs.Offers.{takes as takesEntry, answers as answersEntry, hears, offered, propagated, confirmed}
-use Rattle.machine.proofs.Offers.{offered-length, offered-other, offered-stamp, offered-value, offered-zp}
+use Rattle.steps.specs.Offers.{takes as takesEntry, answers as answersEntry, hears, offered, propagated, confirmed}
+use Rattle.steps.proofs.Offers.{offered-length, offered-other, offered-stamp, offered-value, offered-zp}
 use Rattle.theorems.proofs.Views.{Pair, newer, pairOf, seen, links, pair-same, pick-pair, Shows, shows-same, shows-itself, shows-key}
 
 -- AN OFFER of agent x's entry for key k

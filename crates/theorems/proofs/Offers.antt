@@ -21,8 +21,8 @@ use Rattle.state.specs.Layout.{put as putPair}
 use Rattle.state.specs.Evaluation.{linkHolds}
 use Rattle.state.proofs.Places.{Place, KeySet, Zc, Zp, Clock, Mark, Word, Waits, placeAt, placeKind, Inside, same-not, other-agent}
 use Rattle.state.proofs.Frames.{SameAt, put-length, drop-length, drop-other, value-same}
-use Rattle.machine.specs.Offers.{takeEntry, hears, takes, answers, offer, offered, takers, propagated, confirmed}
-use Rattle.machine.proofs.Offers.{offer-length, offered-length, offered-other, offered-turn}
+use Rattle.steps.specs.Offers.{takeEntry, hears, takes, answers, offer, offered, takers, propagated, confirmed}
+use Rattle.steps.proofs.Offers.{offer-length, offered-length, offered-other, offered-turn}
 use Rattle.labs.specs.Agents.{⟨_⸴_⸴_⸴_⸴_⟩, Agent, Entry, System, _⟦_≔_⟧, _∪｛_｝, _∖｛_｝, Inserted}
 use Rattle.labs.specs.Systems.{Kind, put, qry, Message, message, Sends, PROPAGATE, CONFIRM, Older, Newer, Linked, Hears, PUT, QRY₁, QRY₂, STAY, Passed}
 use Rattle.labs.specs.Reading.{agentOf, systemOf}

@@ -28,9 +28,9 @@ use Rattle.state.specs.WellFormed.{loaded}
 use Rattle.state.proofs.Places.{Zc, Zp}
 use Rattle.state.proofs.Formed.{Proper, well-formed-read, well-formed-test}
 use Rattle.state.proofs.Load.{loaded-clock, loaded-mark, loaded-value, loaded-set, loaded-term}
-use Rattle.machine.specs.Steps.{Outcome, tableChecks, loadOf, stepOf}
-use Rattle.machine.proofs.Proper.{load-proper, proper-passes}
-use Rattle.machine.proofs.Steps.{state-checks, done-step, load-accepted, accepted-load}
+use Rattle.steps.specs.Steps.{Outcome, tableChecks, loadOf, stepOf}
+use Rattle.steps.proofs.Proper.{load-proper, proper-passes}
+use Rattle.steps.proofs.Steps.{state-checks, done-step, load-accepted, accepted-load}
 use Rattle.labs.specs.Agents.{⟨_⸴_⸴_⸴_⸴_⟩, Entry, System}
 use Rattle.labs.specs.Reading.{entryOf, systemOf}
 use Rattle.theorems.specs.Demand2.{Bytes, Words, State, Same, Ready}

@@ -23,12 +23,12 @@ use Rattle.state.specs.Layout.{keyLimit, clockOf, stampOf}
 use Rattle.state.proofs.Places.{Zp, Zc, Clock}
 use Rattle.state.proofs.Frames.{put-other, drop-other}
 use Rattle.state.proofs.Formed.{WellFormed, well-formed-read}
-use Rattle.machine.specs.Acts.{chosen, nextStamp, wordIn, valueFor, storeOf, setKey}
-use Rattle.machine.specs.Offers.{offered}
-use Rattle.machine.specs.Steps.{after}
-use Rattle.machine.proofs.Steps.{Done, act-able}
-use Rattle.machine.proofs.Acts.{chosen-inside, action-key, set-tick, set-value, entry-word, acted-other}
-use Rattle.machine.proofs.Offers.{offered-other}
+use Rattle.steps.specs.Acts.{chosen, nextStamp, wordIn, valueFor, storeOf, setKey}
+use Rattle.steps.specs.Offers.{offered}
+use Rattle.steps.specs.Steps.{after}
+use Rattle.steps.proofs.Steps.{Done, act-able}
+use Rattle.steps.proofs.Acts.{chosen-inside, action-key, set-tick, set-value, entry-word, acted-other}
+use Rattle.steps.proofs.Offers.{offered-other}
 use Rattle.theorems.specs.Demand3.{Write, writeOf}
 use Rattle.theorems.proofs.Views.{Pair, newer, seen, links, Shows}
 use Rattle.theorems.proofs.ActViews.{actMove, act-shows}

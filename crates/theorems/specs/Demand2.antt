@@ -14,7 +14,7 @@ use Rattle.term.specs.Processes.{Derivation, derivations, process, allFew}
 use Rattle.term.specs.Acceptance.{stateWords}
 use Rattle.state.specs.Layout.{residualWords}
 use Rattle.state.specs.WellFormed.{wellFormed}
-use Rattle.machine.specs.Steps.{done, stateChecks, loadOf, stepOf}
+use Rattle.steps.specs.Steps.{done, stateChecks, loadOf, stepOf}
 use Rattle.labs.specs.Agents.{System}
 use Rattle.labs.specs.Processes.{Moves}
 use Rattle.labs.specs.Systems.{Acted, Passed, put, qry}

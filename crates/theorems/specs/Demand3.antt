@@ -14,8 +14,8 @@ use Rattle.state.specs.declared.Store.the-variants.{Entries}
 use Rattle.state.specs.Layout.{wordOf, stampOf, zpOf}
 use Rattle.state.specs.Evaluation.{linkHolds}
 use Rattle.state.specs.WellFormed.{loaded}
-use Rattle.machine.specs.Acts.{chosen, valueFor, wordIn, nextStamp}
-use Rattle.machine.specs.Steps.{Outcome, stepOf, loadOf}
+use Rattle.steps.specs.Acts.{chosen, valueFor, wordIn, nextStamp}
+use Rattle.steps.specs.Steps.{Outcome, stepOf, loadOf}
 
 -- an element of the list: any kind, agent, number and scratch length
 pub record Step : Type 0 where

@@ -8,8 +8,8 @@ use lib.ListN.{replicate}
 use Rattle.table.specs.Checks.{numberOf, placeOf}
 use Rattle.table.specs.Tables.{sizesOf}
 use Rattle.term.specs.Acceptance.{stateWords}
-use Rattle.machine.specs.Steps.{Outcome, loadOf}
-use Rattle.machine.specs.Runs.{Rehearsal, stepsOf, runOf}
+use Rattle.steps.specs.Steps.{Outcome, loadOf}
+use Rattle.steps.specs.Runs.{Rehearsal, stepsOf, runOf}
 use Rattle.theorems.specs.Cases.{Case, cases}
 
 -- the place and the word of each word that is not 0, counted from i

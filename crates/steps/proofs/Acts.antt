@@ -26,8 +26,8 @@ use Rattle.state.specs.declared.Store.the-variants.{Environment, Attributes, En
 use Rattle.state.specs.Layout.{clockAt, zcAt, zpAt, keyLimit, residualWords, zcOf, zpOf, termIn, put, addKey}
 use Rattle.state.proofs.Places.{Place, Zc, Zp, Clock, Mark, Word, Waits, Length, Residual, Inside, storeKind, same}
 use Rattle.state.proofs.Frames.{wordAt, SameAt, set-other, set-here, set-word, put-length, put-other, put-word, add-length, add-other, add-word}
-use Rattle.machine.specs.Acts.{nextStamp, wordIn, choices, chosen, valueFor, toConfirm, storeOf, setKey, acted}
-use Rattle.machine.proofs.Leave.{leave-length, leave-other, leave-term}
+use Rattle.steps.specs.Acts.{nextStamp, wordIn, choices, chosen, valueFor, toConfirm, storeOf, setKey, acted}
+use Rattle.steps.proofs.Leave.{leave-length, leave-other, leave-term}
 
 module _ (t : Table) (was : List ℕ) (x : ℕ) where
   -- what a choice does, asks and leaves is of the table's nodes

@@ -18,7 +18,7 @@ use Rattle.state.specs.WellFormed.{allZero}
 use Rattle.state.proofs.Places.{Place, Mark, Word, Length, Residual, other-agent, Inside, same}
 use Rattle.state.proofs.Frames.{wordAt, Small, SameAt, value-same, term-same, set-small, set-other, set-here}
 use Rattle.state.proofs.Residuals.{residual-front, residual-rest, term-read}
-use Rattle.machine.specs.Acts.{leave}
+use Rattle.steps.specs.Acts.{leave}
 
 module _ (x : ℕ) (ws s : List ℕ) where
   abbrev copy : ℕ → List ℕ → List ℕ

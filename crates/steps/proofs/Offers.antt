@@ -19,7 +19,7 @@ use Rattle.state.specs.declared.Store.the-variants.{Entries}
 use Rattle.state.specs.Layout.{keyLimit, zcAt, zpAt, wordOf, stampOf, zcOf, zpOf, put, addKey, dropKey}
 use Rattle.state.proofs.Places.{Place, Zc, Zp, Mark, Word, Waits, Inside, placeKind, placeAgent, same, else-agent}
 use Rattle.state.proofs.Frames.{wordAt, SameAt, put-length, put-other, put-word, add-length, add-other, add-word, drop-length, drop-other, drop-word}
-use Rattle.machine.specs.Offers.{takeEntry, hears, takes, answers, offer, offered}
+use Rattle.steps.specs.Offers.{takeEntry, hears, takes, answers, offer, offered}
 
 -- place q is not agent y's
 abbrev pub Elsewhere : ℕ → Place → Type 0

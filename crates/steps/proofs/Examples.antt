@@ -13,9 +13,9 @@ use Rattle.term.specs.Exposure.{canTick, callsBelow}
 use Rattle.state.specs.Layout.{valueIn, put, addKey, dropKey}
 use Rattle.state.specs.Evaluation.{valueStep, truthStep}
 use Rattle.state.specs.WellFormed.{allZero, pairFormed, pendingFormed, residualFormed, agentFormed, wellFormed, loaded}
-use Rattle.machine.specs.Offers.{takeEntry, hears, takes, answers, offer}
-use Rattle.machine.specs.Steps.{outcome, tableChecks, stepIn}
-use Rattle.machine.specs.Examples.{example, leftBy, AllGiven}
+use Rattle.steps.specs.Offers.{takeEntry, hears, takes, answers, offer}
+use Rattle.steps.specs.Steps.{outcome, tableChecks, stepIn}
+use Rattle.steps.specs.Examples.{example, leftBy, AllGiven}
 
 -- the table is accepted
 pub example-accepted : firstOf (tableChecks example 4194 52) ≡ passes

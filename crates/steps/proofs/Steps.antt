@@ -20,8 +20,8 @@ use Rattle.term.specs.Accepted.{Accepted}
 use Rattle.term.proofs.Acceptance.{passes-accepted, accepted-passes}
 use Rattle.state.specs.Layout.{residualWords, clockOf, zcOf, zpOf, termIn}
 use Rattle.state.specs.WellFormed.{wellFormed, loaded}
-use Rattle.machine.specs.Acts.{choices, chosen, allHold, lacksValue, writesEntry, actChecks}
-use Rattle.machine.specs.Steps.{Outcome, done, refused, outcome, tableChecks, loadOf, outOfRange, ownChecks, takenBy, after, stepIn, stateChecks, stepOf}
+use Rattle.steps.specs.Acts.{choices, chosen, allHold, lacksValue, writesEntry, actChecks}
+use Rattle.steps.specs.Steps.{Outcome, done, refused, outcome, tableChecks, loadOf, outOfRange, ownChecks, takenBy, after, stepIn, stateChecks, stepOf}
 
 module _ (was : List ℕ) (taken : ℕ) (s : List ℕ) where
   pub outcome-check : (c : Check) → outcome c was taken s .check ≡ c

@@ -22,13 +22,13 @@ use Rattle.state.proofs.Places.{KeySet, Zc, Zp, Waits, placeAt}
 use Rattle.state.proofs.Frames.{wordAt, Small}
 use Rattle.state.proofs.Formed.{Proper, well-formed-read, well-formed-test}
 use Rattle.state.proofs.Load.{loaded-proper}
-use Rattle.machine.specs.Acts.{chosen, actChecks, acted}
-use Rattle.machine.specs.Offers.{offered}
-use Rattle.machine.specs.Runs.{Progress, ran, kindOf, agentOf, numberIn, added}
-use Rattle.machine.specs.Steps.{outcome, outOfRange, ownChecks, after, takenBy, stepIn, tableChecks, stateChecks}
-use Rattle.machine.proofs.Steps.{InRange, in-range, act-able, propagates, confirms, state-checks}
-use Rattle.machine.proofs.Acts.{chosen-inside}
-use Rattle.machine.proofs.Keep.{dropped-proper, acted-proper}
+use Rattle.steps.specs.Acts.{chosen, actChecks, acted}
+use Rattle.steps.specs.Offers.{offered}
+use Rattle.steps.specs.Runs.{Progress, ran, kindOf, agentOf, numberIn, added}
+use Rattle.steps.specs.Steps.{outcome, outOfRange, ownChecks, after, takenBy, stepIn, tableChecks, stateChecks}
+use Rattle.steps.proofs.Steps.{InRange, in-range, act-able, propagates, confirms, state-checks}
+use Rattle.steps.proofs.Acts.{chosen-inside}
+use Rattle.steps.proofs.Keep.{dropped-proper, acted-proper}
 
 -- STEPS
 module _ (t : Table) (sound : Sound t) (bytes : (i : ℕ) → getD (t .operands) i 0 < 256) (was : List ℕ) (proper : Proper t was) where

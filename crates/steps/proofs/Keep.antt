@@ -30,10 +30,10 @@ use Rattle.state.proofs.Frames.{wordAt, SameAt, put-mark, drop-other}
 use Rattle.state.proofs.Evaluation.{SmallValue, valueOf-small}
 use Rattle.state.proofs.Formed.{ResidualFormed, Proper, There, highestIn, keysIn, residual-formed}
 use Rattle.state.proofs.Keep.{Kept, kept-proper, kept-start, kept-later, kept-clock, kept-keys, kept-add, kept-drop, kept-put, pair-kept, set-kept, residual-kept, set-plusAll}
-use Rattle.machine.specs.Acts.{wordIn, nextStamp, leave, valueFor, writesEntry, guardsRead, labelReads, toConfirm, setKey, acted}
-use Rattle.machine.specs.Offers.{newer, takeEntry, hears, takes, answers, offer, offered, confirmed}
-use Rattle.machine.proofs.Acts.{set-attribute, set-entry, set-environment}
-use Rattle.machine.proofs.Leave.{leave-length, leave-small, leave-other, leave-size, leave-word}
+use Rattle.steps.specs.Acts.{wordIn, nextStamp, leave, valueFor, writesEntry, guardsRead, labelReads, toConfirm, setKey, acted}
+use Rattle.steps.specs.Offers.{newer, takeEntry, hears, takes, answers, offer, offered, confirmed}
+use Rattle.steps.proofs.Acts.{set-attribute, set-entry, set-environment}
+use Rattle.steps.proofs.Leave.{leave-length, leave-small, leave-other, leave-size, leave-word}
 
 module _ (t : Table) (limits : Limits (t .sizes)) (was : List ℕ) where
   abbrev agents : ℕ

@@ -10,8 +10,8 @@ use Rattle.table.specs.Tables.{Table, tableOf}
 use Rattle.term.specs.Acceptance.{lengthChecks, contentChecks}
 use Rattle.state.specs.Layout.{zcOf, zpOf}
 use Rattle.state.specs.WellFormed.{wellFormed, loaded}
-use Rattle.machine.specs.Acts.{actChecks, chosen, acted}
-use Rattle.machine.specs.Offers.{takers, propagated, confirmed}
+use Rattle.steps.specs.Acts.{actChecks, chosen, acted}
+use Rattle.steps.specs.Offers.{takers, propagated, confirmed}
 
 -- what a call comes to: its check, the number of agents that took an entry, and the state after
 pub record Outcome : Type 0 where

@@ -8,7 +8,7 @@ use Rattle.basis.specs.Numbers.{forEach}
 use Rattle.basis.specs.Bytes.{u16At}
 use Rattle.table.specs.Checks.{Check, passes, refuses, refuseIf, firstOf, passed, numberOf}
 use Rattle.table.specs.Tables.{Table, tableOf}
-use Rattle.machine.specs.Steps.{Outcome, stateChecks, stepIn}
+use Rattle.steps.specs.Steps.{Outcome, stateChecks, stepIn}
 
 -- a schedule: its size n, n kinds of a byte, n operands (agent, number)
 abbrev pub stepsOf : List ℕ → ℕ

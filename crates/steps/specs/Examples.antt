@@ -15,7 +15,7 @@ use Rattle.state.specs.declared.Store.the-variants.{Attributes, Entries}
 use Rattle.state.specs.Layout.{clockAt, zcAt, zpAt, wordOf, stampOf, zcOf, zpOf, put, addKey}
 use Rattle.state.specs.Evaluation.{holds}
 use Rattle.state.specs.WellFormed.{wellFormed, loaded}
-use Rattle.machine.specs.Steps.{Outcome, stepIn}
+use Rattle.steps.specs.Steps.{Outcome, stepIn}
 
 -- sizes 26, 1, 2, 1, 1, 0. 0 to 5: not (attribute 0 = 1), or true. 6 to 8: tick|tick. 9 to 12: action|tick. 13 to 17: a|b.
 -- 18 calls definition 0; 19 to 21: the sender's attribute 0 = 1. Roots: definition 0 is 12, the link is 21, the agents start as 18 and 8

@@ -14,8 +14,8 @@ use Rattle.state.specs.Evaluation.{linkHolds}
 use Rattle.state.proofs.Places.{Place, Mark, Word, Inside, placeKind, placeAgent, storeKind, storeAgent}
 use Rattle.state.proofs.Frames.{SameAt}
 use Rattle.state.proofs.Evaluation.{SameValues, words-values, link-same}
-use Rattle.machine.proofs.Offers.{offered-other}
-use Rattle.machine.specs.Offers.{hears, takes, answers, offer, offered, takers}
+use Rattle.steps.proofs.Offers.{offered-other}
+use Rattle.steps.specs.Offers.{hears, takes, answers, offer, offered, takers}
 
 -- what the agents below y took changes nothing that y's turn looks at
 module _ (t : Table) (was : List ℕ) (x k : ℕ) (asks : Bool) (key : k < keyLimit) (y : ℕ) where

@@ -1,0 +1,5 @@
+pub mod Acts
+pub mod Offers
+pub mod Steps
+pub mod Runs
+pub mod Examples
