@@ -1,0 +1,9 @@
+// An act is judged before anything is written: refusals 11 to 17.
+use choice::Does;
+
+// What is found of an act: its refusal, or 0; what it does; and the word that it sets, where it sets one.
+pub struct Judgement {
+    pub refusal: u8,
+    pub does: Does,
+    pub value: u32,
+}
