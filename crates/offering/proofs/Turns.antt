@@ -1,11 +1,10 @@
--- What an agent's turn comes to, case by case.
+-- What an agent's turn comes to, case by case, and what one turn more makes of the turns before it.
 -- Assumes nothing.
 use Prim.Native.Nat.{ℕ, _+_, _<_, _≤_}
-use mathlib.Core.Bool.{Bool, true, false, cond, not, _&&_, and-false}
-use mathlib.Core.Path.{_≡_, refl, sym, ap, _∙_}
+use mathlib.Core.Bool.{Bool, true, false, cond, and-false}
+use mathlib.Core.Path.{_≡_, sym, _∙_}
 use mathlib.Core.List.{List}
 use native.Mathlib.Omega.{arith}
-use lib.Dec.{eqb, ltb}
 use borrow.Author.Tests.{eq-eqb, ne-eqb, lt-ltb, le-ltb}
 use Rattle.basis.proofs.Numbers.{howMany-bound}
 use Rattle.table.specs.Tables.{Table}
@@ -31,7 +30,7 @@ module _ (t : Table) (s : List ℕ) (x k y : ℕ) where
 
     pub unheard : hears t s x k y ≡ false → Turn false s
     unfolding offer takes answers
-    unheard e = record { count = rw e; state = rw (e, and-false) }
+    unheard e = record { answer = rw e; state = rw (e, and-false) }
 
     -- where y hears the offer: by the two stamps
     module _ (h : hears t s x k y ≡ true) (mine theirs : ℕ) (m : mine ≡ stampOf s x k) (n : theirs ≡ stampOf s y k) where
@@ -39,29 +38,29 @@ module _ (t : Table) (s : List ℕ) (x k y : ℕ) where
       unfolding offer takes
       taken l value v out e =
           let g = lt-ltb (stampOf s y k) (stampOf s x k) (omega arith) in
-          record { count = rw (h, g); state = rw (h, g, ← v, ← m) e }
+          record { answer = rw (h, g); state = rw (h, g, ← v, ← m) e }
 
       pub answered : asks ≡ true → mine < theirs → (at : ℕ) → at ≡ zpAt y → (out : List ℕ) → out ≡ addKey at k s → Turn false out
       unfolding offer takes answers
       answered a l at z out e =
           let f = le-ltb (stampOf s y k) (stampOf s x k) (omega arith) in
           let g = lt-ltb (stampOf s x k) (stampOf s y k) (omega arith) in
-          record { count = rw (h, f); state = rw (h, f, a, g, ← z) e }
+          record { answer = rw (h, f); state = rw (h, f, a, g, ← z) e }
 
       pub level : mine ≤ theirs → theirs ≤ mine → Turn false s
       unfolding offer takes answers
       level l j =
           let f = le-ltb (stampOf s y k) (stampOf s x k) (omega arith) in
           let g = le-ltb (stampOf s x k) (stampOf s y k) (omega arith) in
-          record { count = rw (h, f); state = rw (h, f, g, and-false) }
+          record { answer = rw (h, f); state = rw (h, f, g, and-false) }
 
       pub unasked : asks ≡ false → mine ≤ theirs → Turn false s
       unfolding offer takes answers
       unasked a l =
           let f = le-ltb (stampOf s y k) (stampOf s x k) (omega arith) in
-          record { count = rw (h, f); state = rw (h, f, a) }
+          record { answer = rw (h, f); state = rw (h, f, a) }
 
--- the number after an answer
+-- the count after a turn
 pub one-more : {r : Bool} (n m : ℕ) → r ≡ true → m ≡ n + 1 → m ≡ n + cond r 1 0
 one-more n m e h = rw e h
 
@@ -71,7 +70,7 @@ no-more n m e h = rw e (omega arith)
 -- the turns of the agents below y
 module _ (t : Table) (was : List ℕ) (x k : ℕ) (asks : Bool) (y n : ℕ) (s : List ℕ) (before : Passed (takers t was x k y) (offered t was x k asks y) n s) where
   pub few-take : n ≤ y
-  few-take = rw (before .count) (howMany-bound (takes t was x k) y)
+  few-take = rw (before .answer) (howMany-bound (takes t was x k) y)
 
   pub turns-all : (agents : ℕ) → y ≡ agents → Passed (takers t was x k agents) (offered t was x k asks agents) n s
   turns-all agents e = rw e at before
@@ -81,6 +80,6 @@ module _ (t : Table) (was : List ℕ) (x k : ℕ) (asks : Bool) (y n : ℕ) (s :
       → Passed (takers t was x k (y + 1)) (offered t was x k asks (y + 1)) m out
   next-turn key r out m turn e =
       record {
-        count = e ∙ rw (before .count, turn .count, before .state) (sym (takers-more t was x k asks key y));
+        answer = e ∙ rw (before .answer, turn .answer, before .state) (sym (takers-more t was x k asks key y));
         state = turn .state ∙ rw (before .state) (sym (offered-more t was x k asks key y));
       }

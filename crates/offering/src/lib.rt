@@ -1,17 +1,17 @@
 // Propagate and confirm: an agent's entry for a key is offered to every other agent.
-mod offers; // offers.rt: one agent's turn, and those of all
+mod entries; // entries.rt: the words of an entry, and taking one
+mod offers; // offers.rt: an entry offered to one agent, and to all
 
 use offers::offer_all;
 use state::drop_key;
 use state::zc_at;
 use state::zp_at;
 use table::Sizes;
-ghost use mathlib.Core.Bool.{true, false};
 ghost use Rattle.table.specs.Tables.{table};
 ghost use Rattle.steps.specs.Offers.{takers, propagated, confirmed};
 ghost use Rattle.offering.specs.Passing.{Passing, Passed};
 
-// The agent passes its entry on and no more has to propagate the key: how many agents took the entry.
+// The agent offers its entry and no more has to propagate the key: how many agents took the entry.
 pub fn propagate(
     sizes: Sizes,
     kinds: &[u8],
@@ -28,7 +28,7 @@ pub fn propagate(
     taken
 }
 
-// The agent asks for newer entries and no more has to confirm the key: how many agents took its entry.
+// The agent offers its entry, asks for a newer one, and no more has to confirm the key: how many agents took the entry.
 pub fn confirm(
     sizes: Sizes,
     kinds: &[u8],

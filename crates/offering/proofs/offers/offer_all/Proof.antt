@@ -27,7 +27,7 @@ whole c = ap length (c .loop .inv .1 .state) ∙ offered-length _ _ _ _ _ _ ∙ 
 
 loop-holds : tie.Need-loop-holds Inv-loop μ-loop
 unfolding forEach howMany
-loop-holds c = (omega arith, record { count = refl; state = refl })
+loop-holds c = (omega arith, record { answer = refl; state = refl })
 
 offer-requires : tie.Need-offer-requires Inv-loop μ-loop
 offer-requires c κs =

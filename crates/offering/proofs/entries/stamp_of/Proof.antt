@@ -1,7 +1,7 @@
 -- `stamp_of` meets its contract. Assumes nothing.
 use borrow.Author.Needs.{needs}
-use Rattle.offering.proofs.offers.stamp_of.Statement.{statement}
-use Rattle.offering.proofs.offers.stamp_of.Tie as tie
+use Rattle.offering.proofs.entries.stamp_of.Statement.{statement}
+use Rattle.offering.proofs.entries.stamp_of.Tie as tie
 
 mark-at-requires : tie.Need-mark-at-requires
 mark-at-requires c κs = search needs

@@ -1,7 +1,7 @@
 -- `word_of` meets its contract. Assumes nothing.
 use borrow.Author.Needs.{needs}
-use Rattle.offering.proofs.offers.word_of.Statement.{statement}
-use Rattle.offering.proofs.offers.word_of.Tie as tie
+use Rattle.offering.proofs.entries.word_of.Statement.{statement}
+use Rattle.offering.proofs.entries.word_of.Tie as tie
 
 value-at-requires : tie.Need-value-at-requires
 value-at-requires c κs = search needs

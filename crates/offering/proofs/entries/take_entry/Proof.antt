@@ -1,8 +1,8 @@
 -- `take_entry` meets its contract. Assumes nothing.
 use Rattle.steps.specs.Offers.{takeEntry}
 use borrow.Author.Needs.{needs}
-use Rattle.offering.proofs.offers.take_entry.Statement.{statement}
-use Rattle.offering.proofs.offers.take_entry.Tie as tie
+use Rattle.offering.proofs.entries.take_entry.Statement.{statement}
+use Rattle.offering.proofs.entries.take_entry.Tie as tie
 
 put-requires : tie.Need-put-requires
 put-requires c κs = search needs
