@@ -9,7 +9,7 @@ use borrow.Author.Tests.{eq-eqb, ne-eqb, lt-ltb, le-ltb}
 use Rattle.basis.proofs.Numbers.{howMany-bound}
 use Rattle.table.specs.Tables.{Table}
 use Rattle.state.specs.declared.Store.the-variants.{Entries}
-use Rattle.state.specs.Layout.{keyLimit, zpAt, wordOf, stampOf, addKey}
+use Rattle.state.specs.Layout.{keyLimit, zpAt, wordOf, stampOf, addKey, dropKey}
 use Rattle.state.specs.Evaluation.{linkHolds}
 use Rattle.steps.specs.Offers.{takeEntry, hears, takes, answers, offer, offered, takers}
 use Rattle.steps.proofs.Turns.{offered-more, takers-more}
@@ -83,3 +83,7 @@ module _ (t : Table) (was : List ℕ) (x k : ℕ) (asks : Bool) (y n : ℕ) (s :
         answer = e ∙ rw (before .answer, turn .answer, before .state) (sym (takers-more t was x k asks key y));
         state = turn .state ∙ rw (before .state) (sym (offered-more t was x k asks key y));
       }
+
+-- after all turns the agent's own set loses the key
+pub key-dropped : {taken n : ℕ} {left s : List ℕ} → Passed taken left n s → (place at k : ℕ) → at ≡ place → (out : List ℕ) → out ≡ dropKey at k s → Passed taken (dropKey place k left) n out
+key-dropped turns place at k e out d = record { answer = turns .answer; state = d ∙ rw (e, turns .state) }
