@@ -1,0 +1,26 @@
+-- `confirm` meets its contract: the offers, and then the set without the key. Assumes nothing.
+use Rattle.offering.proofs.Turns.{key-dropped}
+use borrow.Author.Needs.{needs}
+use Rattle.offering.proofs.confirm.Statement.{statement}
+use Rattle.offering.proofs.confirm.Tie as tie
+
+offer-all-requires : tie.Need-offer-all-requires
+offer-all-requires c κs = search needs
+
+zc-at-requires : tie.Need-zc-at-requires
+zc-at-requires c κs = search needs
+
+drop-key-requires : tie.Need-drop-key-requires
+drop-key-requires c κs = search needs
+
+same-length : tie.Need-same-length
+same-length c = search needs
+
+returns : tie.Need-returns
+returns c =
+    let dropped = c .before .before in
+    key-dropped (dropped .before .before .before .before .before .offer-all .ensures) _ _ _ (dropped .before .zc-at .ensures .is) _ (dropped .drop-key .ensures)
+
+pub confirm-spec : {M : Type 1} → statement M
+confirm-spec =
+    tie.close (tie.spec offer-all-requires zc-at-requires drop-key-requires same-length returns)
