@@ -4,7 +4,7 @@ use mathlib.Core.Bool.{true, not}
 use mathlib.Core.Path.{_≡_}
 use mathlib.Core.List.{List}
 use lib.Dec.{eqb}
-use lib.ListN.{length}
+use lib.ListN.{length, getD}
 use Rattle.value.specs.declared.Value.the-variants.{Present}
 use Rattle.table.specs.Checks.{Check, refuseIf, firstOf}
 use Rattle.table.specs.Tables.{Table, kindAt}
@@ -13,9 +13,15 @@ use Rattle.choice.specs.declared.Does.{Does}
 use Rattle.choice.specs.declared.Does.the-variants.{Acting}
 use Rattle.choice.specs.Marking.{isMarked, isIn}
 use Rattle.choice.specs.Outcomes.{labelOf}
+use Rattle.state.specs.Layout.{zcOf, zpOf, lengthOf, residualOf}
 use Rattle.steps.specs.Acts.{actChecks, chosen, valueFor}
 use Rattle.steps.proofs.Steps.{Able}
 use Rattle.judging.specs.declared.Judgement.{Judgement}
+
+-- there is a byte for each node, and none is marked
+pub record Unmarked (t : Table) (marks : List ℕ) : Type 0 where
+  pub room : t .sizes .nodes ≤ length marks
+  pub zero : (n : ℕ) → getD marks n 0 ≡ 0
 
 -- the marked guards are those of a list, which are guards of the table
 pub record Collected (t : Table) (gs marks : List ℕ) : Type 0 where
@@ -26,6 +32,13 @@ pub record Collected (t : Table) (gs marks : List ℕ) : Type 0 where
 -- a refusal's number, or 0 where nothing refuses
 abbrev pub checkOf : ℕ → Check
 checkOf refusal = refuseIf refusal (not (eqb refusal 0))
+
+-- 11 has passed for agent x, whose residual is so many of these words
+pub record Quiet (was : List ℕ) (x size : ℕ) (ws : List ℕ) : Type 0 where
+  pub confirmed : zcOf was x ≡ 0
+  pub propagated : zpOf was x ≡ 0
+  pub long : size ≡ lengthOf was x
+  pub words : ws ≡ residualOf was x
 
 -- choice c of agent x can be done: what it does, the word that it sets, and its guards
 pub record Decided (t : Table) (was : List ℕ) (x c : ℕ) (marks : List ℕ) (does : Does) (word : ℕ) : Type 0 where

@@ -1,0 +1,2 @@
+-- An act judged in the order of the refusals.
+-- Assumes nothing.
