@@ -1,4 +1,3 @@
 pub mod Judging
 pub mod Guards
 pub mod Outcomes
-pub mod Stub

@@ -1,5 +1,5 @@
 // Refusal 14: whether every marked guard holds.
-use crate::stub::holds;
+use evaluation::holds;
 use table::Sizes;
 use table::is_guard;
 ghost use mathlib.Core.Path.{_≡_};

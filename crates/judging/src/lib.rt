@@ -2,7 +2,6 @@
 mod acts; // acts.rt: 11 to 13, and the order of all
 mod guards; // guards.rt: 14
 mod outcomes; // outcomes.rt: 15 to 17
-mod stub;
 
 pub use acts::judge;
 use choice::Does;

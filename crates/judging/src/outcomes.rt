@@ -1,6 +1,6 @@
 // Refusals 15 to 17: the value that an action sets, the clock, and the length of what is left.
 use crate::Judgement;
-use crate::stub::value_of;
+use evaluation::value_of;
 use choice::Does;
 use choice::Outcome;
 use table::Sizes;
