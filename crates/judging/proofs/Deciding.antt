@@ -1,14 +1,14 @@
 -- An act judged in the order of the refusals.
 -- Assumes nothing.
-use Prim.Native.Nat.{ℕ, _<_, _≤_}
-use mathlib.Core.Bool.{Bool, true, false, not, _&&_}
+use Prim.Native.Nat.{ℕ, _+_, _-_, _<_, _≤_}
+use mathlib.Core.Bool.{Bool, true, false, not, _&&_, _||_}
 use mathlib.Core.Path.{_≡_, refl, sym, ap, ap₂, subst, _∙_}
 use mathlib.Core.List.{List, [], _∷_}
 use native.Mathlib.Omega.{arith}
 use lib.Dec.{eqb, leb, ltb}
-use lib.ListN.{length, take}
-use borrow.Author.Tests.{le-leb, lt-leb, eqb-true}
-use Rattle.basis.proofs.Tests.{and-left, and-right}
+use lib.ListN.{length, getD, take, drop}
+use borrow.Author.Tests.{le-leb, lt-leb, eqb-true, not-false}
+use Rattle.basis.proofs.Tests.{and-left, and-right, not-and}
 use Rattle.table.specs.Checks.{Check, refuseIf, firstOf}
 use Rattle.table.specs.Tables.{Table, firstRoot}
 use Rattle.term.specs.Terms.{Term, words, termOf, areTerms}
@@ -24,15 +24,16 @@ use Rattle.choice.specs.Turns.{Ready}
 use Rattle.choice.proofs.Collecting.{marks-zero}
 use Rattle.residual.specs.declared.Choices.{Choices}
 use Rattle.residual.specs.Wholes.{Whole, Taking, Offered, residualTerm, taken, limitOf}
-use Rattle.state.specs.Layout.{zcOf, zpOf, residualWords, residualOf, lengthOf, termIn}
-use Rattle.state.proofs.Formed.{Proper, ResidualFormed}
+use Rattle.state.specs.Layout.{zcAt, zpAt, lengthAt, residualAt, residualWords, zcOf, zpOf, lengthOf, termIn}
+use Rattle.state.proofs.Formed.{ResidualFormed, Proper}
 use Rattle.state.proofs.Residuals.{residual-length, residual-front}
 use Rattle.steps.specs.Acts.{choices, chosen, allHold, actChecks}
 use Rattle.steps.proofs.Acts.{chosen-inside}
 use Rattle.steps.proofs.Steps.{act-able}
 use Rattle.judging.specs.declared.Judgement.{Judgement}
-use Rattle.judging.specs.Judging.{Unmarked, Collected, Quiet, checkOf, Judges}
+use Rattle.judging.specs.Judging.{Unmarked, Collected, checkOf, Judges}
 use Rattle.judging.specs.Guards.{Asks}
+use Rattle.judging.specs.Residuals.{Posed}
 use Rattle.judging.specs.Outcomes.{refusedBy, lastChecks, Doing, Ends}
 use Rattle.judging.proofs.Asking.{collected}
 use Rattle.judging.proofs.Ending.{test-refuses, test-later}
@@ -54,9 +55,8 @@ module _ (t : Table) (was : List ℕ) (x c : ℕ) where
   judges-refused : (number : ℕ) → 0 < number → checkOf number ≡ firstOf (actChecks t was x c) → (marks : List ℕ) (r : Judgement) → r ≡ refusedBy number → Judges t was x c marks r
   judges-refused number pos e marks r f = rw f (record { check = e; decided = λ z. absurd (omega arith) })
 
-  -- 11
-  pub judges-11 : idle ≡ false → (marks : List ℕ) (r : Judgement) → r ≡ refusedBy 11 → Judges t was x c marks r
-  judges-11 e = judges-refused 11 (omega arith) (sym (test-refuses 11 (not idle) from12 (ap not e)))
+  judges-11 : not idle ≡ true → (marks : List ℕ) (r : Judgement) → r ≡ refusedBy 11 → Judges t was x c marks r
+  judges-11 e = judges-refused 11 (omega arith) (sym (test-refuses 11 (not idle) from12 e))
 
   module _ (confirmed : zcOf was x ≡ 0) (propagated : zpOf was x ≡ 0) where
     past-11 : firstOf (actChecks t was x c) ≡ firstOf from12
@@ -79,7 +79,7 @@ module _ (t : Table) (was : List ℕ) (x c : ℕ) where
         past-13 = past-12 ∙ test-later 13 (leb (length (choices t was x)) c) from14 (lt-leb (length (choices t was x)) c there)
 
         module _ (marks : List ℕ) (guards : Collected t (chosen t was x c .guards) marks) (held : Bool)
-          (asked : (gs : List ℕ) → Collected t gs marks → held ≡ allHold t was x gs) where
+            (asked : (gs : List ℕ) → Collected t gs marks → held ≡ allHold t was x gs) where
           -- 14
           judges-14 : held ≡ false → (r : Judgement) → r ≡ refusedBy 14 → Judges t was x c marks r
           judges-14 e =
@@ -105,31 +105,60 @@ module _ (t : Table) (was : List ℕ) (x c : ℕ) where
                   ends .check ∙ ap₂ (λ (l : Label) (n : ℕ). firstOf (lastChecks t was x l n)) (tells .label) (tells .size)
                   ∙ sym (past-13 ∙ test-later 14 (not (allHold t was x (chosen t was x c .guards))) (lastChecks t was x (chosen t was x c .label) (length (words (chosen t was x c .leaving)))) (ap not (sym (asked (chosen t was x c .guards) guards) ∙ e)))
 
+-- 11, by the places of Zc and Zp
+module _ (t : Table) (was : List ℕ) (x zc zp : ℕ) (confirm : zc ≡ zcAt x) (propagate : zp ≡ zpAt x) where
+  abbrev waits : Bool
+  waits = not (eqb (getD was zc 0) 0) || not (eqb (getD was zp 0) 0)
+
+  waits-is : waits ≡ not (eqb (zcOf was x) 0 && eqb (zpOf was x) 0)
+  waits-is =
+      ap₂ (λ (i j : ℕ). not (eqb (getD was i 0) 0) || not (eqb (getD was j 0) 0)) confirm propagate
+      ∙ sym (not-and (eqb (zcOf was x) 0) (eqb (zpOf was x) 0))
+
+  pub agent-11 : (not (eqb (getD was zc 0) 0) || not (eqb (getD was zp 0) 0)) ≡ true → (c : ℕ) (marks : List ℕ) (r : Judgement) → r ≡ refusedBy 11 → Judges t was x c marks r
+  agent-11 e c = judges-11 t was x c (sym waits-is ∙ e)
+
+  -- the residual's words are lent, and its length read
+  pub agent-posed : (not (eqb (getD was zc 0) 0) || not (eqb (getD was zp 0) 0)) ≡ false → {scratch : List ℕ} → Ready t scratch → Proper t was → x < t .sizes .agents
+      → (place : ℕ) → place ≡ lengthAt x → (at : ℕ) → at ≡ residualAt x → Posed t scratch was x (getD was place 0) (take (at + residualWords - at) (drop at was))
+  agent-posed e ready proper agent place p at q =
+      let idle = not-false (eqb (zcOf was x) 0 && eqb (zpOf was x) 0) (sym waits-is ∙ e) in
+      let n : at + residualWords - at ≡ residualWords = omega arith in
+      record {
+        ready = ready;
+        proper = proper;
+        agent = agent;
+        confirmed = eqb-true (zcOf was x) 0 (and-left (eqb (zcOf was x) 0) (eqb (zpOf was x) 0) idle);
+        propagated = eqb-true (zpOf was x) 0 (and-right (eqb (zcOf was x) 0) (eqb (zpOf was x) 0) idle);
+        long = ap (λ (i : ℕ). getD was i 0) p;
+        words = ap₂ (λ (m i : ℕ). take m (drop i was)) n q;
+      }
+
 -- THE CHOICES of an agent's residual, by the words that hold it
-module _ (t : Table) (scratch : List ℕ) (ready : Ready t scratch) (was : List ℕ) (proper : Proper t was) (x : ℕ) (agent : x < t .sizes .agents) (size : ℕ) (ws : List ℕ) (quiet : Quiet was x size ws) where
+module _ {t : Table} {scratch was : List ℕ} {x size : ℕ} {ws : List ℕ} (posed : Posed t scratch was x size ws) where
   formed : ResidualFormed t was x
-  formed = proper .formed .formed .residuals x agent
+  formed = posed .proper .formed .formed .residuals x (posed .agent)
 
   there : x < 32
-  there = omega (arith, ready .checked .sound .shaped .limits .agents)
+  there = omega (arith, posed .agent, posed .ready .checked .sound .shaped .limits .agents)
 
   abbrev T : Term
   T = termIn was x
 
   term-is : residualTerm size ws ≡ T
-  term-is = ap₂ (λ (n : ℕ) (vs : List ℕ). termOf (take n vs)) (quiet .long) (quiet .words)
+  term-is = ap₂ (λ (n : ℕ) (vs : List ℕ). termOf (take n vs)) (posed .long) (posed .words)
 
   pub whole-residual : Whole t size ws
   whole-residual =
-      let full : length ws ≡ residualWords = ap length (quiet .words) ∙ residual-length was x (proper .whole) there in
+      let full : length ws ≡ residualWords = ap length (posed .words) ∙ residual-length was x (posed .proper .whole) there in
       let n : lengthOf was x ≡ length (words T) = formed .long in
       let short : lengthOf was x ≤ residualWords = formed .short in
       record {
-        fits = omega (arith, quiet .long);
+        fits = omega (arith, posed .long);
         room = omega arith;
-        term = ap₂ (λ (m : ℕ) (vs : List ℕ). areTerms t 1 (take m vs)) (quiet .long ∙ n) (quiet .words)
-            ∙ ap (areTerms t 1) (residual-front was x (proper .whole) there (words T) (omega arith) (formed .reads))
-            ∙ over-whole t (omega (arith, ready .checked .sound .shaped .limits .nodes)) T (formed .over);
+        term = ap₂ (λ (m : ℕ) (vs : List ℕ). areTerms t 1 (take m vs)) (posed .long ∙ n) (posed .words)
+            ∙ ap (areTerms t 1) (residual-front was x (posed .proper .whole) there (words T) (omega arith) (formed .reads))
+            ∙ over-whole t (omega (arith, posed .ready .checked .sound .shaped .limits .nodes)) T (formed .over);
       }
 
   module _ (all : Choices) (offered : Offered t (residualTerm size ws) all) where
@@ -137,7 +166,7 @@ module _ (t : Table) (scratch : List ℕ) (ready : Ready t scratch) (was : List 
     offers = subst (λ (U : Term). Offered t U all) term-is offered
 
     pub residual-12 : (c : ℕ) → all .few ≡ false → (marks : List ℕ) (r : Judgement) → r ≡ refusedBy 12 → Judges t was x c marks r
-    residual-12 c e = judges-12 t was x c (quiet .confirmed) (quiet .propagated) (sym (offers .few) ∙ e)
+    residual-12 c e = judges-12 t was x c (posed .confirmed) (posed .propagated) (sym (offers .few) ∙ e)
 
     module _ (few : all .few ≡ true) where
       all-few : allFew t T ≡ true
@@ -147,7 +176,7 @@ module _ (t : Table) (scratch : List ℕ) (ready : Ready t scratch) (was : List 
       count = offers .count all-few
 
       pub residual-13 : (c : ℕ) → all .count ≤ c → (marks : List ℕ) (r : Judgement) → r ≡ refusedBy 13 → Judges t was x c marks r
-      residual-13 c h = judges-13 t was x c (quiet .confirmed) (quiet .propagated) all-few (omega (arith, count))
+      residual-13 c h = judges-13 t was x c (posed .confirmed) (posed .propagated) all-few (omega (arith, count))
 
       module _ (c : ℕ) (less : c < all .count) where
         choice-there : c < length (choices t was x)
@@ -157,7 +186,7 @@ module _ (t : Table) (scratch : List ℕ) (ready : Ready t scratch) (was : List 
         residual-taking = subst (λ (U : Term). Taking t U c) (sym term-is) (record { few = all-few; choice = choice-there })
 
         inside : Inside t (chosen t was x c)
-        inside = chosen-inside t was x (ready .checked .sound) (formed .over) c choice-there
+        inside = chosen-inside t was x (posed .ready .checked .sound) (formed .over) c choice-there
 
         taken-is : taken t (residualTerm size ws) c ≡ chosen t was x c
         taken-is = ap (λ (U : Term). taken t U c) term-is
@@ -167,23 +196,23 @@ module _ (t : Table) (scratch : List ℕ) (ready : Ready t scratch) (was : List 
           guards = collected t (chosen t was x c .guards) ms out (inside .guards) unmarked (subst (λ (d : Derivation). Marked t (d .guards) ms out) taken-is marked)
 
           pub residual-asks : Asks t was x out
-          residual-asks = record { shaped = ready .checked .sound .shaped; whole = proper .whole; agent = there; room = marked .marks .room }
+          residual-asks = record { shaped = posed .ready .checked .sound .shaped; whole = posed .proper .whole; agent = there; room = marked .marks .room }
 
           module _ (held : Bool) (asked : (gs : List ℕ) → Collected t gs out → held ≡ allHold t was x gs) where
             pub residual-14 : held ≡ false → (r : Judgement) → r ≡ refusedBy 14 → Judges t was x c out r
-            residual-14 = judges-14 t was x c (quiet .confirmed) (quiet .propagated) all-few choice-there out guards held asked
+            residual-14 = judges-14 t was x c (posed .confirmed) (posed .propagated) all-few choice-there out guards held asked
 
             pub residual-last : held ≡ true → (limit : ℕ) (o : Outcome) → Tells (taken t (residualTerm size ws) c) limit o
                 → (r : Judgement) → Ends t was x (labelOf (o .does)) (o .size) r → Judges t was x c out r
             residual-last e limit o tells =
-                judges-last t was x c (quiet .confirmed) (quiet .propagated) all-few choice-there out guards held asked e limit o
+                judges-last t was x c (posed .confirmed) (posed .propagated) all-few choice-there out guards held asked e limit o
                 (subst (λ (d : Derivation). Tells d limit o) taken-is tells)
 
         pub residual-doing : (limit : ℕ) (o : Outcome) → Tells (taken t (residualTerm size ws) c) limit o → Doing t was x (labelOf (o .does))
         residual-doing limit o tells =
             record {
-              shaped = ready .checked .sound .shaped;
-              whole = proper .whole;
+              shaped = posed .ready .checked .sound .shaped;
+              whole = posed .proper .whole;
               agent = there;
               labelled = subst (Labelled t) (sym (tells .label ∙ ap (λ (d : Derivation). d .label) taken-is)) (inside .label);
             }

@@ -13,7 +13,6 @@ use Rattle.choice.specs.declared.Does.{Does}
 use Rattle.choice.specs.declared.Does.the-variants.{Acting}
 use Rattle.choice.specs.Marking.{isMarked, isIn}
 use Rattle.choice.specs.Outcomes.{labelOf}
-use Rattle.state.specs.Layout.{zcOf, zpOf, lengthOf, residualOf}
 use Rattle.steps.specs.Acts.{actChecks, chosen, valueFor}
 use Rattle.steps.proofs.Steps.{Able}
 use Rattle.judging.specs.declared.Judgement.{Judgement}
@@ -32,13 +31,6 @@ pub record Collected (t : Table) (gs marks : List ℕ) : Type 0 where
 -- a refusal's number, or 0 where nothing refuses
 abbrev pub checkOf : ℕ → Check
 checkOf refusal = refuseIf refusal (not (eqb refusal 0))
-
--- 11 has passed for agent x, whose residual is so many of these words
-pub record Quiet (was : List ℕ) (x size : ℕ) (ws : List ℕ) : Type 0 where
-  pub confirmed : zcOf was x ≡ 0
-  pub propagated : zpOf was x ≡ 0
-  pub long : size ≡ lengthOf was x
-  pub words : ws ≡ residualOf was x
 
 -- choice c of agent x can be done: what it does, the word that it sets, and its guards
 pub record Decided (t : Table) (was : List ℕ) (x c : ℕ) (marks : List ℕ) (does : Does) (word : ℕ) : Type 0 where

@@ -15,7 +15,8 @@ ghost use Prim.Native.Nat.{_<_};
 ghost use Rattle.table.specs.Tables.{table};
 ghost use Rattle.choice.specs.Turns.{Ready};
 ghost use Rattle.state.proofs.Formed.{Proper};
-ghost use Rattle.judging.specs.Judging.{Unmarked, Quiet, Judges};
+ghost use Rattle.judging.specs.Judging.{Unmarked, Judges};
+ghost use Rattle.judging.specs.Residuals.{Posed};
 
 // 12 to 17 of choice c, where no key waits; these are the agent's residual words, and how many of them it uses.
 fn judge_choice(
@@ -30,10 +31,7 @@ fn judge_choice(
     agent: usize,
     c: u64,
 ) -> Judgement
-    requires { ⌜ Ready (table sizes (now kinds) (now operands)) (now scratch) ⌝ }
-    requires { ⌜ Proper (table sizes (now kinds) (now operands)) (now state) ⌝ }
-    requires { ⌜ agent < sizes .agents ⌝ }
-    requires { ⌜ Quiet (now state) agent size (now words) ⌝ }
+    requires { ⌜ Posed (table sizes (now kinds) (now operands)) (now scratch) (now state) agent size (now words) ⌝ }
     requires { ⌜ Unmarked (table sizes (now kinds) (now operands)) (now marks) ⌝ }
     ensures { λ r. ⌜ Judges (table sizes (now (kinds .entry)) (now (operands .entry))) (now (state .entry)) agent c (now (marks .exit)) r ⌝ }
 {

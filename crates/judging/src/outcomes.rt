@@ -1,8 +1,8 @@
 // Refusals 15 to 17: the value that an action sets, the clock, and the length of what is left.
 use crate::Judgement;
-use evaluation::value_of;
 use choice::Does;
 use choice::Outcome;
+use evaluation::value_of;
 use table::Sizes;
 use table::q_at;
 use value::Value;

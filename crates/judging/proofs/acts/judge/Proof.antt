@@ -1,96 +1,82 @@
+-- `judging::acts::judge` meets its contract.
+-- Assumes nothing.
+use native.Mathlib.Omega.{arith}
 use borrow.Author.Needs.{needs}
+use denote.Ref.{now}
+use Rattle.table.specs.Tables.{Table, table}
+use Rattle.judging.proofs.Deciding.{agent-11, agent-posed}
 use Rattle.judging.proofs.acts.judge.Statement.{statement}
 use Rattle.judging.proofs.acts.judge.Tie as tie
-use Rattle.judging.proofs.acts.judge.Reads as reads
-use Rattle.judging.proofs.acts.judge.Lts as lts
-use Rattle.judging.proofs.acts.judge_choice.Reads as judge-choice-reads
-use Rattle.judging.proofs.outcomes.refused.Reads as refused-reads
-use Rattle.state.proofs.length_at.Reads as length-at-reads
-use Rattle.state.proofs.residual_at.Reads as residual-at-reads
-use Rattle.state.proofs.zc_at.Reads as zc-at-reads
-use Rattle.state.proofs.zp_at.Reads as zp-at-reads
 
--- src/acts.rt:72:9
+abbrev here : tie.Start → Table
+here a = table (a .args .sizes) (now (a .args .kinds)) (now (a .args .operands))
+
 zc-at-requires : tie.Need-zc-at-requires
 zc-at-requires c κs = search needs
 
--- src/acts.rt:73:9
 zp-at-requires : tie.Need-zp-at-requires
 zp-at-requires c κs = search needs
 
--- src/acts.rt:74:9
 mul-if1 : tie.Need-mul-if1
 mul-if1 c = search needs
 
--- src/acts.rt:74:9
 shared-slice-read-if1 : tie.Need-shared-slice-read-if1
 shared-slice-read-if1 c = search needs
 
--- src/acts.rt:74:28
 mul-if1-2 : tie.Need-mul-if1-2
 mul-if1-2 c = search needs
 
--- src/acts.rt:74:28
 shared-slice-read-if1-2 : tie.Need-shared-slice-read-if1-2
 shared-slice-read-if1-2 c = search needs
 
--- src/acts.rt:75:9
 refused-requires : tie.Need-refused-requires
 refused-requires c κs = search needs
 
--- src/acts.rt:75:9
 returns : tie.Need-returns
-returns c = ?
+returns c =
+    let a = c .before .before .before .before .before .before .before .before .before .before .before in
+    agent-11 (here a) (now (a .args .state)) (a .args .agent) _ _ (c .before .before .before .before .before .zc-at .ensures .is) (c .before .before .before .before .zp-at .ensures .is) (c .before .if1 .taken) (a .args .c) _ (c .refused .result) (c .refused .ensures)
 
--- src/acts.rt:77:9
 length-at-requires : tie.Need-length-at-requires
 length-at-requires c κs = search needs
 
--- src/acts.rt:78:16
 mul-size : tie.Need-mul-size
 mul-size c = search needs
 
--- src/acts.rt:78:16
 shared-slice-read-size : tie.Need-shared-slice-read-size
 shared-slice-read-size c = search needs
 
--- src/acts.rt:78:16
 cast-size : tie.Need-cast-size
-cast-size c = ?
+cast-size c = omega (arith, c .shared-slice-known7 .given (c .before .length-at .result))
 
--- src/acts.rt:79:9
 residual-at-requires : tie.Need-residual-at-requires
 residual-at-requires c κs = search needs
 
--- src/acts.rt:80:15
 add-end : tie.Need-add-end
 add-end c = search needs
 
--- src/acts.rt:87:9
 mul-judge-choice : tie.Need-mul-judge-choice
 mul-judge-choice c = search needs
 
--- src/acts.rt:87:9
 sub-judge-choice : tie.Need-sub-judge-choice
 sub-judge-choice c = search needs
 
--- src/acts.rt:87:9
 part-judge-choice-start : tie.Need-part-judge-choice-start
 part-judge-choice-start c = search needs
 
--- src/acts.rt:87:9
 part-judge-choice-end : tie.Need-part-judge-choice-end
 part-judge-choice-end c = search needs
 
--- src/acts.rt:81:5
 judge-choice-requires : tie.Need-judge-choice-requires
-judge-choice-requires c κs = ?
+judge-choice-requires c κs =
+    let a = c .before .before .before .before .before .before .before .before .before .before .before .before .before .before .before in (
+      agent-posed (here a) (now (a .args .state)) (a .args .agent) _ _ (c .before .before .before .before .before .before .before .before .before .zc-at .ensures .is) (c .before .before .before .before .before .before .before .before .zp-at .ensures .is) (c .before .before .before .before .before .if1 .left) (a .pre .0) (a .pre .1 .0) (a .pre .1 .1 .0) _ (c .before .before .before .before .length-at .ensures .is) _ (c .before .before .residual-at .ensures .is),
+      a .pre .1 .1 .1,
+    )
 
--- src/acts.rt:56:1
 same-length : tie.Need-same-length
 same-length c = search needs
 
--- src/acts.rt:56:1
 returns-2 : tie.Need-returns-2
 returns-2 c = search needs
 

@@ -20,6 +20,9 @@ Inv-loop sizes kinds operands state marks agent n₀ n =
 abbrev μ-loop : tie.MeasureT-loop
 μ-loop sizes kinds operands state marks agent n₀ n = sizes .nodes - n
 
+abbrev here : tie.Start Inv-loop μ-loop → Table
+here a = table (a .args .sizes) (now (a .args .kinds)) (now (a .args .operands))
+
 loop-holds : tie.Need-loop-holds Inv-loop μ-loop
 loop-holds c = (omega arith, λ k h. absurd (omega arith))
 
@@ -27,7 +30,9 @@ fails-at-requires : tie.Need-fails-at-requires Inv-loop μ-loop
 fails-at-requires c κs = search needs
 
 returns : tie.Need-returns Inv-loop μ-loop
-returns c = ?
+returns c gs m =
+    let a = c .before .before .before .before .before .before .before .before .before in
+    sym (some-fails (here a) (now (a .args .state)) (a .args .agent) (now (a .args .marks)) gs m (c .before .before .before .before .loop .n) (sym (c .before .fails-at .ensures) ∙ c .if2 .taken))
 
 add-n : tie.Need-add-n Inv-loop μ-loop
 add-n c = search needs
@@ -36,10 +41,17 @@ loop-less : tie.Need-loop-less Inv-loop μ-loop
 loop-less c = search needs
 
 loop-again : tie.Need-loop-again Inv-loop μ-loop
-loop-again c = ?
+loop-again c =
+    let a = c .before .before .before .before .before .before .before .before .before in
+    let l = c .before .before .before .before .loop in (
+      omega arith,
+      below-more (λ (k : ℕ). failsAt (here a) (now (a .args .state)) (a .args .agent) (now (a .args .marks)) k ≡ false) (l .n) (l .inv .1) (sym (c .before .fails-at .ensures) ∙ c .if2 .left),
+    )
 
 returns-2 : tie.Need-returns-2 Inv-loop μ-loop
-returns-2 c = ?
+returns-2 c gs m =
+    let a = c .before .before .before .before .before .before .before in
+    sym (none-fails (here a) (now (a .args .state)) (a .args .agent) (now (a .args .marks)) gs m (λ k h. c .before .before .loop .inv .1 k (omega arith)))
 
 pub all-hold-spec : {M : Type 1} → statement M
 all-hold-spec =
