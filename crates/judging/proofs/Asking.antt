@@ -1,21 +1,23 @@
 -- The guards of a list all hold where no marked guard fails.
 -- Assumes nothing.
-use Prim.Native.Nat.{ℕ, _<_}
+use Prim.Native.Nat.{ℕ, _<_, _≤_}
 use mathlib.Core.Bool.{Bool, true, false, not, _&&_, _||_}
 use mathlib.Core.Logic.{⊎-elim}
 use mathlib.Core.Path.{_≡_, refl, sym, ap, _∙_}
 use mathlib.Core.List.{List, [], _∷_}
 use native.Mathlib.Omega.{arith}
 use lib.Dec.{eqb}
-use lib.ListN.{getD}
+use lib.ListN.{getD, replicate, length-replicate}
 use borrow.Author.Tests.{eqb-true, eq-eqb, ne-eqb, not-false}
 use Rattle.basis.proofs.Tests.{not-both, and-left, and-right, and-both, or-left, or-right, or-either}
-use Rattle.table.specs.Tables.{Table, kindAt, firstRoot}
+use Rattle.table.specs.Tables.{Table, kindAt}
 use Rattle.table.specs.Nodes.{isGuard}
 use Rattle.term.proofs.Each.{Each}
 use Rattle.term.proofs.Inside.{GuardNode}
 use Rattle.state.specs.Evaluation.{holds}
-use Rattle.choice.specs.Marking.{isMarked, isIn, Marked}
+use Rattle.state.proofs.Load.{zeros-at}
+use Rattle.choice.specs.Marking.{isMarked, isIn, Marks, Marked}
+use Rattle.choice.proofs.Collecting.{marks-zero}
 use Rattle.steps.specs.Acts.{allHold}
 use Rattle.judging.specs.Judging.{Unmarked, Collected}
 use Rattle.judging.specs.Guards.{failsAt}
@@ -27,6 +29,14 @@ is-in-each P [] h b e = absurd (not-both e refl)
 is-in-each P (g ∷ gs) h b e =
     ⊎-elim (λ (f : eqb b g ≡ true). let i : b ≡ g = eqb-true b g f in rw i (h .0))
     (λ (f : isIn b gs ≡ true). is-in-each P gs (h .1) b f) (or-either (eqb b g) (isIn b gs) e)
+
+-- where nothing is marked
+pub unmarked-marks : (t : Table) (ms : List ℕ) → Unmarked t ms → Marks t ms
+unmarked-marks t ms u = marks-zero t ms (u .room) (u .zero)
+
+-- zeros, at least as many as there are nodes
+pub zeros-unmarked : (t : Table) (n : ℕ) → t .sizes .nodes ≤ n → Unmarked t (replicate n 0)
+zeros-unmarked t n h = record { room = rw (length-replicate {A = ℕ} n 0) h; zero = zeros-at n }
 
 -- guards that are marked where nothing was before
 pub collected : (t : Table) (gs ms out : List ℕ) → Each (GuardNode t) gs → Unmarked t ms → Marked t gs ms out → Collected t gs out
@@ -85,9 +95,10 @@ module _ (t : Table) (was : List ℕ) (x : ℕ) where
             by d f = not-false (holds t was x x b) (rw d at f)
 
     -- where one fails, some guard does not hold
-    pub some-fails : (n : ℕ) → failsAt t was x ms n ≡ true → allHold t was x gs ≡ false
+    pub some-fails : (n : ℕ) (r : Bool) → r ≡ failsAt t was x ms n → r ≡ true → allHold t was x gs ≡ false
     unfolding failsAt
-    some-fails n e =
+    some-fails n r f d =
+        let e : failsAt t was x ms n ≡ true = sym f ∙ d in
         let asked = and-left (isGuard (kindAt t n) && isMarked ms n) (not (holds t was x x n)) e in
         let guard = and-left (isGuard (kindAt t n)) (isMarked ms n) asked in
         one-fails gs n (sym (marks .guards n guard) ∙ and-right (isGuard (kindAt t n)) (isMarked ms n) asked)

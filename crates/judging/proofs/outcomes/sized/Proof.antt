@@ -2,11 +2,7 @@
 -- Assumes nothing.
 use borrow.Author.Needs.{needs}
 use borrow.Author.Tests.{lt-ltb, le-ltb}
-use mathlib.Core.Path.{sym, _∙_}
-use lib.Dec.{ltb}
-use Rattle.basis.proofs.Tests.{cond-true, cond-false}
-use Rattle.state.specs.Layout.{residualWords}
-use Rattle.judging.specs.Outcomes.{refusedBy, allowed, sized}
+use Rattle.judging.specs.Outcomes.{sized}
 use Rattle.judging.proofs.outcomes.sized.Statement.{statement}
 use Rattle.judging.proofs.outcomes.sized.Tie as tie
 
