@@ -1,0 +1,43 @@
+// The words that load writes.
+use crate::temp::length_at;
+use crate::temp::residual_at;
+use residual::clear;
+use table::Sizes;
+use table::first_root;
+use table::p_at;
+ghost use mathlib.Core.Path.{_≡_};
+ghost use mathlib.Core.List.{List};
+ghost use Prim.Native.Nat.{ℕ, _<_};
+ghost use lib.ListN.{length};
+ghost use Rattle.basis.specs.Numbers.{forEach};
+ghost use Rattle.table.specs.Tables.{table};
+ghost use Rattle.table.specs.Sound.{Limits, Shaped};
+ghost use Rattle.term.specs.Acceptance.{stateWords};
+ghost use Rattle.state.specs.WellFormed.{started, loaded};
+
+// Each agent's residual becomes the node that its root names.
+fn start(sizes: Sizes, kinds: &[u8], operands: &[u8], state: &mut [u32])
+    requires { ⌜ (Shaped (table sizes (now kinds) (now operands))) × (length (now state) ≡ stateWords) ⌝ }
+    ensures { λ _. ⌜ now (state .exit) ≡ forEach (started (table sizes (now (kinds .entry)) (now (operands .entry)))) (sizes .agents) (now (state .entry)) ⌝ }
+{
+    let first = first_root(sizes) + sizes.definitions + sizes.stigmergy;
+    let mut agent: usize = 0;
+    while agent < sizes.agents {
+        let node = p_at(operands, first + agent);
+        let size = length_at(agent);
+        let word = residual_at(agent);
+        state[size] = 1;
+        state[word] = node as u32;
+        agent += 1;
+    }
+}
+
+// The state becomes what load leaves: A, each agent with the node that its root names, and 0.
+pub fn write_loaded(sizes: Sizes, kinds: &[u8], operands: &[u8], state: &mut [u32])
+    requires { ⌜ (Shaped (table sizes (now kinds) (now operands))) × (length (now state) ≡ stateWords) ⌝ }
+    ensures { λ _. ⌜ now (state .exit) ≡ loaded (table sizes (now (kinds .entry)) (now (operands .entry))) ⌝ }
+{
+    clear(state, 0);
+    start(sizes, kinds, operands, state);
+    state[1] = sizes.agents as u32;
+}

@@ -1,0 +1,32 @@
+// Residuals: one whole term, and 0 after it.
+use crate::temp::length_at;
+use crate::temp::residual_at;
+use crate::zeros::all_zero;
+use residual::reading::whole_term;
+use table::Sizes;
+ghost use mathlib.Core.Path.{_≡_};
+ghost use mathlib.Core.List.{List};
+ghost use Prim.Native.Nat.{ℕ, _<_};
+ghost use lib.ListN.{length};
+ghost use Rattle.table.specs.Tables.{table};
+ghost use Rattle.table.specs.Sound.{Limits};
+ghost use Rattle.term.specs.Acceptance.{stateWords};
+ghost use Rattle.state.specs.WellFormed.{residualFormed};
+
+pub fn residual_formed(sizes: Sizes, kinds: &[u8], state: &[u32], agent: usize) -> bool
+    requires { ⌜ (Limits sizes) × (length (now kinds) ≡ sizes .nodes) × (length (now state) ≡ stateWords) × (agent < 32) ⌝ }
+    ensures { λ r. ⌜ ((operands : List ℕ) → r ≡ residualFormed (table sizes (now (kinds .entry)) operands) (now (state .entry)) agent) ⌝ }
+{
+    let at = length_at(agent);
+    let start = residual_at(agent);
+    let size = state[at] as usize;
+    if 63 < size {
+        return false;
+    }
+    let end = start + size;
+    if !whole_term(sizes, kinds, &state[start..end]) {
+        return false;
+    }
+    let last = start + 63;
+    all_zero(&state[end..last])
+}
