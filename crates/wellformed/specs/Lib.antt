@@ -1,1 +1,1 @@
-pub mod Temp
+pub mod Given

@@ -2,22 +2,20 @@
 use crate::pairs::store_formed;
 use crate::pending::all_pending_formed;
 use crate::residuals::residual_formed;
-use crate::temp::zc_at;
-use crate::temp::zp_at;
 use state::Store;
+use state::zc_at;
+use state::zp_at;
 use table::Sizes;
 ghost use mathlib.Core.Path.{_≡_};
 ghost use mathlib.Core.List.{List};
 ghost use Prim.Native.Nat.{ℕ, _<_};
-ghost use lib.ListN.{length};
 ghost use Rattle.basis.specs.Numbers.{every};
 ghost use Rattle.table.specs.Tables.{table};
-ghost use Rattle.table.specs.Sound.{Limits};
-ghost use Rattle.term.specs.Acceptance.{stateWords};
 ghost use Rattle.state.specs.WellFormed.{agentFormed};
+ghost use Rattle.wellformed.specs.Given.{Given};
 
 fn agent_formed(sizes: Sizes, kinds: &[u8], state: &[u32], agent: usize) -> bool
-    requires { ⌜ (Limits sizes) × (length (now kinds) ≡ sizes .nodes) × (length (now state) ≡ stateWords) × (agent < 32) ⌝ }
+    requires { ⌜ (Given sizes (now kinds) (now state)) × (agent < 32) ⌝ }
     ensures { λ r. ⌜ ((operands : List ℕ) → r ≡ agentFormed (table sizes (now (kinds .entry)) operands) (now (state .entry)) agent) ⌝ }
 {
     if !store_formed(state, Store::Attributes(agent), 1, sizes.attributes) {
@@ -41,7 +39,7 @@ fn agent_formed(sizes: Sizes, kinds: &[u8], state: &[u32], agent: usize) -> bool
 }
 
 pub fn agents_formed(sizes: Sizes, kinds: &[u8], state: &[u32]) -> bool
-    requires { ⌜ (Limits sizes) × (length (now kinds) ≡ sizes .nodes) × (length (now state) ≡ stateWords) ⌝ }
+    requires { ⌜ Given sizes (now kinds) (now state) ⌝ }
     ensures { λ r. ⌜ ((operands : List ℕ) → r ≡ every (agentFormed (table sizes (now (kinds .entry)) operands) (now (state .entry))) (sizes .agents)) ⌝ }
 {
     let mut agent: usize = 0;

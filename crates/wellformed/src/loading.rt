@@ -1,7 +1,7 @@
 // The words that load writes.
-use crate::temp::length_at;
-use crate::temp::residual_at;
 use residual::clear;
+use state::length_at;
+use state::residual_at;
 use table::Sizes;
 use table::first_root;
 use table::p_at;

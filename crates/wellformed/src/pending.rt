@@ -1,9 +1,9 @@
 // Pending keys: each has an entry.
-use crate::temp::mark_at;
-use crate::temp::zc_at;
-use crate::temp::zp_at;
 use basis::has;
 use state::Store;
+use state::mark_at;
+use state::zc_at;
+use state::zp_at;
 ghost use mathlib.Core.Path.{_≡_};
 ghost use Prim.Native.Nat.{_<_};
 ghost use lib.ListN.{length};

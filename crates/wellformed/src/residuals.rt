@@ -1,20 +1,18 @@
 // Residuals: one whole term, and 0 after it.
-use crate::temp::length_at;
-use crate::temp::residual_at;
 use crate::zeros::all_zero;
 use residual::reading::whole_term;
+use state::length_at;
+use state::residual_at;
 use table::Sizes;
 ghost use mathlib.Core.Path.{_≡_};
 ghost use mathlib.Core.List.{List};
 ghost use Prim.Native.Nat.{ℕ, _<_};
-ghost use lib.ListN.{length};
 ghost use Rattle.table.specs.Tables.{table};
-ghost use Rattle.table.specs.Sound.{Limits};
-ghost use Rattle.term.specs.Acceptance.{stateWords};
 ghost use Rattle.state.specs.WellFormed.{residualFormed};
+ghost use Rattle.wellformed.specs.Given.{Given};
 
 pub fn residual_formed(sizes: Sizes, kinds: &[u8], state: &[u32], agent: usize) -> bool
-    requires { ⌜ (Limits sizes) × (length (now kinds) ≡ sizes .nodes) × (length (now state) ≡ stateWords) × (agent < 32) ⌝ }
+    requires { ⌜ (Given sizes (now kinds) (now state)) × (agent < 32) ⌝ }
     ensures { λ r. ⌜ ((operands : List ℕ) → r ≡ residualFormed (table sizes (now (kinds .entry)) operands) (now (state .entry)) agent) ⌝ }
 {
     let at = length_at(agent);

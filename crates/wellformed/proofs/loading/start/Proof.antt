@@ -2,10 +2,10 @@ use Rattle.wellformed.proofs.loading.start.Statement.{statement}
 use Rattle.wellformed.proofs.loading.start.Tie as tie
 use Rattle.wellformed.proofs.loading.start.Reads as reads
 use Rattle.wellformed.proofs.loading.start.Lts as lts
+use Rattle.state.proofs.length_at.Reads as length-at-reads
+use Rattle.state.proofs.residual_at.Reads as residual-at-reads
 use Rattle.table.proofs.first_root.Reads as first-root-reads
 use Rattle.table.proofs.p_at.Reads as p-at-reads
-use Rattle.wellformed.proofs.temp.length_at.Reads as length-at-reads
-use Rattle.wellformed.proofs.temp.residual_at.Reads as residual-at-reads
 
 abbrev Inv-loop : tie.InvT-loop
 Inv-loop sizes kinds operands state₀ first agent₀ state agent = ?
