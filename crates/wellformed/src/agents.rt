@@ -42,8 +42,9 @@ pub fn agents_formed(sizes: Sizes, kinds: &[u8], state: &[u32]) -> bool
     requires { ⌜ Given sizes (now kinds) (now state) ⌝ }
     ensures { λ r. ⌜ ((operands : List ℕ) → r ≡ every (agentFormed (table sizes (now (kinds .entry)) operands) (now (state .entry))) (sizes .agents)) ⌝ }
 {
+    let agents = sizes.agents;
     let mut agent: usize = 0;
-    while agent < sizes.agents {
+    while agent < agents {
         if !agent_formed(sizes, kinds, state, agent) {
             return false;
         }

@@ -21,8 +21,9 @@ fn start(sizes: Sizes, kinds: &[u8], operands: &[u8], state: &mut [u32])
     ensures { λ _. ⌜ now (state .exit) ≡ forEach (started (table sizes (now (kinds .entry)) (now (operands .entry)))) (sizes .agents) (now (state .entry)) ⌝ }
 {
     let first = first_root(sizes) + sizes.definitions + sizes.stigmergy;
+    let agents = sizes.agents;
     let mut agent: usize = 0;
-    while agent < sizes.agents {
+    while agent < agents {
         let node = p_at(operands, first + agent);
         let size = length_at(agent);
         let word = residual_at(agent);

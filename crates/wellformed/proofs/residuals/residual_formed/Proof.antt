@@ -1,92 +1,81 @@
+-- `residual_formed` meets its contract. Assumes nothing.
+use mathlib.Core.Path.{sym, _∙_}
+use native.Mathlib.Omega.{arith}
+use borrow.Author.Tests.{not-true, not-false}
+use Rattle.wellformed.proofs.Blocks.{residual-long, residual-broken, residual-rest}
 use borrow.Author.Needs.{needs}
 use Rattle.wellformed.proofs.residuals.residual_formed.Statement.{statement}
 use Rattle.wellformed.proofs.residuals.residual_formed.Tie as tie
-use Rattle.wellformed.proofs.residuals.residual_formed.Reads as reads
-use Rattle.wellformed.proofs.residuals.residual_formed.Lts as lts
-use Rattle.residual.proofs.reading.whole_term.Reads as whole-term-reads
-use Rattle.state.proofs.length_at.Reads as length-at-reads
-use Rattle.state.proofs.residual_at.Reads as residual-at-reads
-use Rattle.wellformed.proofs.zeros.all_zero.Reads as all-zero-reads
 
--- src/residuals.rt:18:9
 length-at-requires : tie.Need-length-at-requires
 length-at-requires c κs = search needs
 
--- src/residuals.rt:19:9
 residual-at-requires : tie.Need-residual-at-requires
 residual-at-requires c κs = search needs
 
--- src/residuals.rt:20:16
 mul-size : tie.Need-mul-size
 mul-size c = search needs
 
--- src/residuals.rt:20:16
 shared-slice-read-size : tie.Need-shared-slice-read-size
 shared-slice-read-size c = search needs
 
--- src/residuals.rt:20:16
 cast-size : tie.Need-cast-size
-cast-size c = ?
+cast-size c = omega (arith, c .shared-slice-known3 .given (c .before .before .length-at .result))
 
--- src/residuals.rt:22:9
 returns : tie.Need-returns
-returns c = ?
+returns c operands =
+    let r = c .before .before in
+    residual-long _ _ _ _ _ (r .before .length-at .ensures .is) (r .residual-at .ensures .is) (c .if1 .taken)
 
--- src/residuals.rt:24:15
 add-end : tie.Need-add-end
 add-end c = search needs
 
--- src/residuals.rt:25:34
 mul-whole-term : tie.Need-mul-whole-term
 mul-whole-term c = search needs
 
--- src/residuals.rt:25:34
 sub-whole-term : tie.Need-sub-whole-term
 sub-whole-term c = search needs
 
--- src/residuals.rt:25:34
 part-whole-term-start : tie.Need-part-whole-term-start
 part-whole-term-start c = search needs
 
--- src/residuals.rt:25:34
 part-whole-term-end : tie.Need-part-whole-term-end
 part-whole-term-end c = search needs
 
--- src/residuals.rt:25:9
 whole-term-requires : tie.Need-whole-term-requires
 whole-term-requires c κs = search needs
 
--- src/residuals.rt:26:9
 returns-2 : tie.Need-returns-2
-returns-2 c = ?
+returns-2 c operands =
+    let w = c .before in
+    let e = w .before .before in
+    let r = e .before .before in
+    residual-broken _ _ _ _ _ (r .before .length-at .ensures .is) (r .residual-at .ensures .is) (e .if1 .left) (sym (w .whole-term .ensures operands) ∙ not-true _ (c .if2 .taken))
 
--- src/residuals.rt:28:16
 add-last : tie.Need-add-last
 add-last c = search needs
 
--- src/residuals.rt:29:14
 mul-all-zero : tie.Need-mul-all-zero
 mul-all-zero c = search needs
 
--- src/residuals.rt:29:14
 sub-all-zero : tie.Need-sub-all-zero
 sub-all-zero c = search needs
 
--- src/residuals.rt:29:14
 part-all-zero-start : tie.Need-part-all-zero-start
 part-all-zero-start c = search needs
 
--- src/residuals.rt:29:14
 part-all-zero-end : tie.Need-part-all-zero-end
 part-all-zero-end c = search needs
 
--- src/residuals.rt:29:5
 all-zero-requires : tie.Need-all-zero-requires
 all-zero-requires c κs = search needs
 
--- src/residuals.rt:14:1
 returns-3 : tie.Need-returns-3
-returns-3 c = ?
+returns-3 c operands =
+    let w = c .before .before .before in
+    let e = w .before .before in
+    let r = e .before .before in
+    c .all-zero .ensures ∙ residual-rest _ _ _ _ _ (r .before .length-at .ensures .is) (r .residual-at .ensures .is) (e .if1 .left) (sym (w .whole-term .ensures operands) ∙ not-false _ (c .before .before .if2 .left))
 
 pub residual-formed-spec : {M : Type 1} → statement M
 residual-formed-spec =
