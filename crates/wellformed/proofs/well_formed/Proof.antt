@@ -1,76 +1,118 @@
+-- `well_formed` meets its contract: each test is passed or fails as in the definition.
+-- Assumes nothing.
+use Prim.Native.Nat.{ℕ}
+use mathlib.Core.Bool.{true}
+use mathlib.Core.List.{List}
+use mathlib.Core.Path.{_≡_, sym, ap, _∙_}
+use native.Mathlib.Omega.{arith}
+use borrow.Author.Tests.{not-true, not-false, eq-eqb, ne-eqb, lt-leb, le-leb}
+use denote.Ref.{now}
+use lib.Dec.{eqb, leb}
+use lib.ListN.{getD, drop}
+use Rattle.basis.specs.Numbers.{every}
+use Rattle.basis.proofs.Lists.{take-rest}
+use Rattle.table.specs.Tables.{Table, table}
+use Rattle.state.specs.declared.Store.the-variants.{Environment}
+use Rattle.state.specs.Layout.{agentsAt, keyLimit, clockOf}
+use Rattle.state.specs.WellFormed.{allZero, pairFormed, agentFormed, wellFormed}
 use borrow.Author.Needs.{needs}
 use Rattle.wellformed.proofs.well_formed.Statement.{statement}
 use Rattle.wellformed.proofs.well_formed.Tie as tie
-use Rattle.wellformed.proofs.well_formed.Reads as reads
-use Rattle.wellformed.proofs.well_formed.Lts as lts
-use Rattle.state.proofs.block_at.Reads as block-at-reads
-use Rattle.wellformed.proofs.agents.agents_formed.Reads as agents-formed-reads
-use Rattle.wellformed.proofs.pairs.store_formed.Reads as store-formed-reads
-use Rattle.wellformed.proofs.zeros.all_zero.Reads as all-zero-reads
 
--- src/lib.rt:28:8
+abbrev whole : tie.Start → List ℕ → Table
+whole c operands = table (c .args .sizes) (now (c .args .kinds)) operands
+
+abbrev start1 : tie.Else1 → tie.Start
+start1 c = c .before .before .before .before .before
+
+abbrev start2 : tie.Else2 → tie.Start
+start2 c = start1 (c .before .before)
+
+abbrev start3 : tie.Else3 → tie.Start
+start3 c = start2 (c .before .before)
+
+abbrev start4 : tie.Else4 → tie.Start
+start4 c = start3 (c .before .before)
+
+-- what has been passed
+agents : (c : tie.Else1) → eqb (getD (now (start1 c .args .state)) agentsAt 0) (start1 c .args .sizes .agents) ≡ true
+agents c = eq-eqb _ _ (c .if1 .left)
+
+clock : (c : tie.Else2) → leb (clockOf (now (start2 c .args .state))) 65535 ≡ true
+clock c = le-leb _ _ (c .if2 .left)
+
+environment : (c : tie.Else3) (operands : List ℕ)
+    → every (pairFormed (whole (start3 c) operands) (now (start3 c .args .state)) Environment 1 (start3 c .args .sizes .environment)) keyLimit ≡ true
+environment c operands = sym (c .before .store-formed .ensures (whole (start3 c) operands)) ∙ not-false _ (c .if3 .left)
+
+blocks : (c : tie.Else4) (operands : List ℕ)
+    → every (agentFormed (whole (start4 c) operands) (now (start4 c .args .state))) (start4 c .args .sizes .agents) ≡ true
+blocks c operands = sym (c .before .agents-formed .ensures operands) ∙ not-false _ (c .if4 .left)
+
 shared-slice-read-if1 : tie.Need-shared-slice-read-if1
 shared-slice-read-if1 c = search needs
 
--- src/lib.rt:28:8
 cast-if1 : tie.Need-cast-if1
-cast-if1 c = ?
+cast-if1 c = omega (arith, c .shared-slice-known3 .given agentsAt)
 
--- src/lib.rt:29:9
 returns : tie.Need-returns
-returns c = ?
+unfolding wellFormed
+returns c operands = rw (ne-eqb _ _ (c .if1 .taken))
 
--- src/lib.rt:31:16
 shared-slice-read-if2 : tie.Need-shared-slice-read-if2
 shared-slice-read-if2 c = search needs
 
--- src/lib.rt:32:9
 returns-2 : tie.Need-returns-2
-returns-2 c = ?
+unfolding wellFormed
+returns-2 c operands = rw (agents (c .before .before), lt-leb _ _ (c .if2 .taken))
 
--- src/lib.rt:34:9
 store-formed-requires : tie.Need-store-formed-requires
 store-formed-requires c κs = search needs
 
--- src/lib.rt:35:9
 returns-3 : tie.Need-returns-3
-returns-3 c = ?
+unfolding wellFormed
+returns-3 c operands =
+    let q = c .before .before in
+    rw (agents (q .before .before), clock q, sym (c .before .store-formed .ensures (whole (start2 q) operands)) ∙ not-true _ (c .if3 .taken))
 
--- src/lib.rt:37:9
 agents-formed-requires : tie.Need-agents-formed-requires
 agents-formed-requires c κs = search needs
 
--- src/lib.rt:38:9
 returns-4 : tie.Need-returns-4
-returns-4 c = ?
+unfolding wellFormed
+returns-4 c operands =
+    let r = c .before .before in
+    let q = r .before .before in
+    rw (agents (q .before .before), clock q, environment r operands, sym (c .before .agents-formed .ensures operands) ∙ not-true _ (c .if4 .taken))
 
--- src/lib.rt:40:9
 block-at-requires : tie.Need-block-at-requires
 block-at-requires c κs = search needs
 
--- src/lib.rt:41:14
 mul-all-zero : tie.Need-mul-all-zero
 mul-all-zero c = search needs
 
--- src/lib.rt:41:14
 sub-all-zero : tie.Need-sub-all-zero
 sub-all-zero c = search needs
 
--- src/lib.rt:41:14
 part-all-zero-start : tie.Need-part-all-zero-start
 part-all-zero-start c = search needs
 
--- src/lib.rt:41:14
 part-all-zero-end : tie.Need-part-all-zero-end
 part-all-zero-end c = search needs
 
--- src/lib.rt:41:5
 all-zero-requires : tie.Need-all-zero-requires
 all-zero-requires c κs = search needs
 
--- src/lib.rt:24:1
 returns-5 : tie.Need-returns-5
-returns-5 c = ?
+unfolding wellFormed
+returns-5 c operands =
+    let u = c .before .before .before in
+    let r = u .before .before in
+    let q = r .before .before in
+    let s = now (start4 u .args .state) in
+    let end = c .before .before .block-at in
+    rw (agents (q .before .before), clock q, environment r operands, blocks u operands)
+    (c .all-zero .ensures ∙ ap allZero (take-rest s (end .result)) ∙ ap (λ (i : ℕ). allZero (drop i s)) (end .ensures .is))
 
 pub well-formed-spec : {M : Type 1} → statement M
 well-formed-spec =

@@ -42,7 +42,7 @@ loop-again c =
     (omega arith, λ operands. every-more _ _ ∙ and-both _ _ (c .before .before .before .loop .inv .1 operands) (sym (c .before .agent-formed .ensures operands) ∙ not-false _ (c .if1 .left)))
 
 returns-2 : tie.Need-returns-2 Inv-loop μ-loop
-returns-2 c operands = let done : c .before .loop .agent ≡ c .before .before .args .sizes .agents = omega arith in sym (rw done at (c .before .loop .inv .1 operands))
+returns-2 c operands = let done : c .before .loop .agent ≡ c .before .before .before .before .args .sizes .agents = omega arith in sym (rw done at (c .before .loop .inv .1 operands))
 
 pub agents-formed-spec : {M : Type 1} → statement M
 agents-formed-spec =

@@ -1,89 +1,90 @@
+-- `start` meets its contract. Assumes nothing.
+use Prim.Native.Nat.{ℕ, _-_, _≤_}
+use mathlib.Core.Path.{_≡_, refl, sym, _∙_}
+use native.Mathlib.Omega.{arith}
+use borrow.Author.Needs.{needs}
+use denote.Ref.{now}
+use lib.ListN.{length, length-set}
+use Rattle.basis.specs.Numbers.{forEach}
+use Rattle.table.specs.Tables.{Table, table, firstAgentRoot}
+use Rattle.state.specs.WellFormed.{started}
+use Rattle.wellformed.proofs.Starting.{started-more}
 use Rattle.wellformed.proofs.loading.start.Statement.{statement}
 use Rattle.wellformed.proofs.loading.start.Tie as tie
-use Rattle.wellformed.proofs.loading.start.Reads as reads
-use Rattle.wellformed.proofs.loading.start.Lts as lts
-use Rattle.state.proofs.length_at.Reads as length-at-reads
-use Rattle.state.proofs.residual_at.Reads as residual-at-reads
-use Rattle.table.proofs.first_root.Reads as first-root-reads
-use Rattle.table.proofs.p_at.Reads as p-at-reads
 
 abbrev Inv-loop : tie.InvT-loop
-Inv-loop kinds operands state₀ first agents agent₀ state agent = ?
+Inv-loop kinds operands state₀ first agents agent₀ state agent =
+    (agent ≤ agents) × (length state ≡ length state₀) ×
+    ((t : Table) → firstAgentRoot t ≡ first → t .operands ≡ operands → state ≡ forEach (started t) agent state₀)
 
 abbrev μ-loop : tie.MeasureT-loop
-μ-loop kinds operands state₀ first agents agent₀ state agent = ?
+μ-loop kinds operands state₀ first agents agent₀ state agent = agents - agent
 
--- src/loading.rt:23:17
 first-root-requires : tie.Need-first-root-requires Inv-loop μ-loop
-first-root-requires c κs = ?
+first-root-requires c κs = search needs
 
--- src/loading.rt:23:17
 add-first : tie.Need-add-first Inv-loop μ-loop
-add-first c = ?
+add-first c = search needs
 
--- src/loading.rt:23:17
 add-first-2 : tie.Need-add-first-2 Inv-loop μ-loop
-add-first-2 c = ?
+add-first-2 c = search needs
 
--- src/loading.rt:26:5
 loop-holds : tie.Need-loop-holds Inv-loop μ-loop
-loop-holds c = ?
+unfolding forEach
+loop-holds c = (omega arith, refl, λ t e f. refl)
 
--- src/loading.rt:27:35
 add-p-at : tie.Need-add-p-at Inv-loop μ-loop
-add-p-at c = ?
+add-p-at c = search needs
 
--- src/loading.rt:27:13
 p-at-requires : tie.Need-p-at-requires Inv-loop μ-loop
-p-at-requires c κs = ?
+p-at-requires c κs = search needs
 
--- src/loading.rt:28:13
 length-at-requires : tie.Need-length-at-requires Inv-loop μ-loop
-length-at-requires c κs = ?
+length-at-requires c κs = search needs
 
--- src/loading.rt:29:13
 residual-at-requires : tie.Need-residual-at-requires Inv-loop μ-loop
-residual-at-requires c κs = ?
+residual-at-requires c κs = search needs
 
--- src/loading.rt:30:9
 mul-state : tie.Need-mul-state Inv-loop μ-loop
-mul-state c = ?
+mul-state c = search needs
 
--- src/loading.rt:30:9
 slice-write-state : tie.Need-slice-write-state Inv-loop μ-loop
-slice-write-state c = ?
+slice-write-state c = search needs
 
--- src/loading.rt:31:23
 cast-state : tie.Need-cast-state Inv-loop μ-loop
-cast-state c = ?
+cast-state c = search needs
 
--- src/loading.rt:31:9
 mul-state-2 : tie.Need-mul-state-2 Inv-loop μ-loop
-mul-state-2 c = ?
+mul-state-2 c = search needs
 
--- src/loading.rt:31:9
 slice-write-state-2 : tie.Need-slice-write-state-2 Inv-loop μ-loop
-slice-write-state-2 c = ?
+slice-write-state-2 c = search needs
 
--- src/loading.rt:32:9
 add-agent : tie.Need-add-agent Inv-loop μ-loop
-add-agent c = ?
+add-agent c = search needs
 
--- src/loading.rt:26:5
 loop-less : tie.Need-loop-less Inv-loop μ-loop
-loop-less c = ?
+loop-less c = search needs
 
--- src/loading.rt:26:5
 loop-again : tie.Need-loop-again Inv-loop μ-loop
-loop-again c = ?
+loop-again c =
+    let l = c .before .before .before .before .loop in
+    (
+      omega arith,
+      simp length-set (l .inv .1),
+      λ t e f. started-more t _ _ _ _ _ _ (c .before .length-at .ensures .is) (c .residual-at .ensures .is) (rw (e, f) (c .before .before .p-at .ensures .is)) (l .inv .2 t e f),
+    )
 
--- src/loading.rt:19:1
 same-length : tie.Need-same-length Inv-loop μ-loop
-same-length c = ?
+same-length c = c .before .loop .inv .1
 
--- src/loading.rt:19:1
 returns : tie.Need-returns Inv-loop μ-loop
-returns c = ?
+returns c =
+    let a = c .before .before .before .before .before .before .before .before .args in
+    let t = table (a .sizes) (now (a .kinds)) (now (a .operands)) in
+    let f = c .before .before .before .before .first-root .ensures in
+    let done : c .before .loop .agent ≡ a .sizes .agents = omega arith in
+    rw done at (c .before .loop .inv .2 t (omega arith) refl)
 
 pub start-spec : {M : Type 1} → statement M
 start-spec =
