@@ -58,7 +58,7 @@ mul-state-2 : tie.Need-mul-state-2 Inv-loop μ-loop
 mul-state-2 c = search needs
 
 slice-write-state-2 : tie.Need-slice-write-state-2 Inv-loop μ-loop
-slice-write-state-2 c = search needs
+slice-write-state-2 c = simp length-set (omega (arith, c .before .before .before .before .loop .inv .1, c .residual-at .ensures .fits))
 
 add-agent : tie.Need-add-agent Inv-loop μ-loop
 add-agent c = search needs

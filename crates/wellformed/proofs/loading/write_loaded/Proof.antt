@@ -1,34 +1,37 @@
+-- `write_loaded` meets its contract. Assumes nothing.
+use mathlib.Core.Path.{_∙_}
+use denote.Ref.{now}
+use lib.ListN.{length-set}
+use Rattle.state.specs.WellFormed.{loaded}
+use Rattle.wellformed.proofs.Starting.{cleared-whole}
 use borrow.Author.Needs.{needs}
 use Rattle.wellformed.proofs.loading.write_loaded.Statement.{statement}
 use Rattle.wellformed.proofs.loading.write_loaded.Tie as tie
-use Rattle.wellformed.proofs.loading.write_loaded.Reads as reads
-use Rattle.wellformed.proofs.loading.write_loaded.Lts as lts
-use Rattle.residual.proofs.clear.Reads as clear-reads
-use Rattle.wellformed.proofs.loading.start.Reads as start-reads
 
--- src/loading.rt:41:5
 clear-requires : tie.Need-clear-requires
 clear-requires c κs = search needs
 
--- src/loading.rt:42:5
 start-requires : tie.Need-start-requires
 start-requires c κs = search needs
 
--- src/loading.rt:43:16
 cast-state : tie.Need-cast-state
 cast-state c = search needs
 
--- src/loading.rt:43:5
 slice-write-state : tie.Need-slice-write-state
 slice-write-state c = search needs
 
--- src/loading.rt:37:1
 same-length : tie.Need-same-length
-same-length c = ?
+same-length c =
+    let u = c .before .before .before in
+    simp length-set (u .start .kept .1 .1 .1 .0 ∙ u .before .before .before .before .clear .kept .0)
 
--- src/loading.rt:37:1
 returns : tie.Need-returns
-returns c = ?
+unfolding loaded
+returns c =
+    let u = c .before .before .before in
+    let v = u .before .before .before .before in
+    let a = v .before .before .before .before .before in
+    rw (u .start .ensures, cleared-whole (now (a .args .state)) (v .clear .last .0) (a .pre .1) (v .clear .ensures))
 
 pub write-loaded-spec : {M : Type 1} → statement M
 write-loaded-spec =
