@@ -8,9 +8,8 @@ mod writing; // writing.rt: what a residual's choice leaves, written between a f
 pub mod choosing; // choosing.rt: what is asked of a whole residual
 mod moves; // moves.rt: words moved and cleared
 
-pub use moves::clear;
-
 use accept::Counts;
+pub use moves::clear;
 
 // A place among words.
 pub struct Cursor {

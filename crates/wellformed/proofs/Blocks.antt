@@ -1,25 +1,19 @@
 -- The tests of an agent's block: its sets of pending keys, and its residual.
 -- Assumes nothing.
-use Prim.Native.Nat.{ℕ, zero, suc, _+_, _-_, _^_, _<_, _≤_}
-use mathlib.Core.Bool.{Bool, true, false}
-use mathlib.Core.Path.{_≡_, refl, sym, ap, _∙_}
-use mathlib.Core.List.{List, [], _∷_}
-use native.Mathlib.Nat.{sub-zero, le-of-suc-le-suc, not-suc-le-zero}
+use Prim.Native.Nat.{ℕ, _+_, _-_, _^_, _<_, _≤_}
+use mathlib.Core.Bool.{true, false}
+use mathlib.Core.Path.{_≡_, sym, ap, _∙_}
+use mathlib.Core.List.{List}
 use native.Mathlib.Omega.{arith}
 use lib.Dec.{ltb}
 use lib.ListN.{getD, take, drop}
-use lib.Seq.{take-nil, take-take, drop-drop}
+use lib.Seq.{take-take, drop-drop}
 use borrow.Author.Tests.{lt-ltb, le-ltb, lt-leb, le-leb}
+use Rattle.basis.proofs.Lists.{drop-take}
 use Rattle.table.specs.Tables.{Table}
 use Rattle.term.specs.Terms.{areTerms}
 use Rattle.state.specs.Layout.{keyLimit, lengthAt, residualAt, residualWords, lengthOf, residualOf}
 use Rattle.state.specs.WellFormed.{allZero, residualFormed}
-
-pub drop-take : {A : Type 0} (n m : ℕ) (l : List A) → n ≤ m → drop n (take m l) ≡ take (m - n) (drop n l)
-drop-take zero m l h = rw (sub-zero m)
-drop-take (suc n) zero l h = absurd (not-suc-le-zero h)
-drop-take (suc n) (suc m) [] h = sym (take-nil (suc m - suc n))
-drop-take (suc n) (suc m) (x ∷ l) h = let e : suc m - suc n ≡ m - n = omega arith in rw e (drop-take n m l (le-of-suc-le-suc h))
 
 -- the word at a place, read there as a set of keys
 module _ (s : List ℕ) (at place : ℕ) (is : at ≡ place) where

@@ -1,24 +1,18 @@
 -- The tests of one key: a pair of a store, and a pending key. `mark` is the word that stands at the pair's mark.
 -- Assumes nothing.
 use Prim.Native.Nat.{ℕ, _<_, _≤_}
-use mathlib.Core.Bool.{Bool, true, false, not, _||_}
-use mathlib.Core.Path.{_≡_, refl}
+use mathlib.Core.Bool.{Bool, false, not, _||_}
+use mathlib.Core.Path.{_≡_}
 use mathlib.Core.List.{List}
 use lib.Dec.{eqb, ltb}
 use lib.ListN.{getD}
 use borrow.Author.Tests.{eq-eqb, ne-eqb, lt-leb, le-leb}
 use Rattle.basis.specs.KeySets.{has}
-use Rattle.basis.specs.Numbers.{every}
-use Rattle.basis.proofs.Numbers.{every-at}
-use Rattle.basis.proofs.Tests.{is-false, not-both}
 use Rattle.table.specs.Tables.{Table}
 use Rattle.state.specs.declared.Store.{Store}
 use Rattle.state.specs.declared.Store.the-variants.{Entries}
 use Rattle.state.specs.Layout.{markOf, wordOf, markAt, zcAt, zpAt}
 use Rattle.state.specs.WellFormed.{pairFormed, pendingFormed}
-
-pub every-fails : (test : ℕ → Bool) (n k : ℕ) → k < n → test k ≡ false → every test n ≡ false
-every-fails test n k l f = is-false (every test n) (λ e. not-both (every-at test n e k l) f)
 
 module _ (t : Table) (s : List ℕ) (store : Store) (highest keys k mark : ℕ) (is : mark ≡ markOf s store k) where
   pub pair-high : highest < mark → false ≡ pairFormed t s store highest keys k

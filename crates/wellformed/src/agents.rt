@@ -2,6 +2,7 @@
 use crate::pairs::store_formed;
 use crate::pending::all_pending_formed;
 use crate::residuals::residual_formed;
+use state::CLOCK;
 use state::Store;
 use state::zc_at;
 use state::zp_at;
@@ -12,16 +13,16 @@ ghost use Prim.Native.Nat.{ℕ, _<_};
 ghost use Rattle.basis.specs.Numbers.{every};
 ghost use Rattle.table.specs.Tables.{table};
 ghost use Rattle.state.specs.WellFormed.{agentFormed};
-ghost use Rattle.wellformed.specs.Given.{Given};
+ghost use Rattle.wellformed.specs.Given.{CheckGiven};
 
 fn agent_formed(sizes: Sizes, kinds: &[u8], state: &[u32], agent: usize) -> bool
-    requires { ⌜ (Given sizes (now kinds) (now state)) × (agent < 32) ⌝ }
+    requires { ⌜ (CheckGiven sizes (now kinds) (now state)) × (agent < 32) ⌝ }
     ensures { λ r. ⌜ ((operands : List ℕ) → r ≡ agentFormed (table sizes (now (kinds .entry)) operands) (now (state .entry)) agent) ⌝ }
 {
     if !store_formed(state, Store::Attributes(agent), 1, sizes.attributes) {
         return false;
     }
-    if !store_formed(state, Store::Entries(agent), state[0], sizes.stigmergy) {
+    if !store_formed(state, Store::Entries(agent), state[CLOCK], sizes.stigmergy) {
         return false;
     }
     let zc = zc_at(agent);
@@ -39,7 +40,7 @@ fn agent_formed(sizes: Sizes, kinds: &[u8], state: &[u32], agent: usize) -> bool
 }
 
 pub fn agents_formed(sizes: Sizes, kinds: &[u8], state: &[u32]) -> bool
-    requires { ⌜ Given sizes (now kinds) (now state) ⌝ }
+    requires { ⌜ CheckGiven sizes (now kinds) (now state) ⌝ }
     ensures { λ r. ⌜ ((operands : List ℕ) → r ≡ every (agentFormed (table sizes (now (kinds .entry)) operands) (now (state .entry))) (sizes .agents)) ⌝ }
 {
     let agents = sizes.agents;

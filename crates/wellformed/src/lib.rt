@@ -6,9 +6,11 @@ mod pending; // pending.rt: pending keys
 mod residuals; // residuals.rt: residuals
 mod zeros; // zeros.rt: words that are all 0
 
-pub use loading::write_loaded;
 use agents::agents_formed;
+pub use loading::write_loaded;
 use pairs::store_formed;
+use state::AGENTS;
+use state::CLOCK;
 use state::Store;
 use state::block_at;
 use table::Sizes;
@@ -18,17 +20,17 @@ ghost use mathlib.Core.List.{List};
 ghost use Prim.Native.Nat.{ℕ};
 ghost use Rattle.table.specs.Tables.{table};
 ghost use Rattle.state.specs.WellFormed.{wellFormed};
-ghost use Rattle.wellformed.specs.Given.{Given};
+ghost use Rattle.wellformed.specs.Given.{CheckGiven};
 
 // Refusal 9: whether the state is well formed for the table.
 pub fn well_formed(sizes: Sizes, kinds: &[u8], state: &[u32]) -> bool
-    requires { ⌜ Given sizes (now kinds) (now state) ⌝ }
+    requires { ⌜ CheckGiven sizes (now kinds) (now state) ⌝ }
     ensures { λ r. ⌜ ((operands : List ℕ) → r ≡ wellFormed (table sizes (now (kinds .entry)) operands) (now (state .entry))) ⌝ }
 {
-    if state[1] as usize != sizes.agents {
+    if state[AGENTS] as usize != sizes.agents {
         return false;
     }
-    if 65535 < state[0] {
+    if 65535 < state[CLOCK] {
         return false;
     }
     if !store_formed(state, Store::Environment, 1, sizes.environment) {

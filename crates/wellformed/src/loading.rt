@@ -1,5 +1,6 @@
 // The words that load writes.
 use residual::clear;
+use state::AGENTS;
 use state::length_at;
 use state::residual_at;
 use table::Sizes;
@@ -7,18 +8,16 @@ use table::first_root;
 use table::p_at;
 ghost use mathlib.Core.Path.{_≡_};
 ghost use mathlib.Core.List.{List};
-ghost use Prim.Native.Nat.{ℕ, _<_};
-ghost use lib.ListN.{length};
+ghost use Prim.Native.Nat.{ℕ};
 ghost use Rattle.basis.specs.Numbers.{forEach};
 ghost use Rattle.table.specs.Tables.{table};
-ghost use Rattle.table.specs.Sound.{Limits, Shaped};
-ghost use Rattle.term.specs.Acceptance.{stateWords};
 ghost use Rattle.state.specs.WellFormed.{started, loaded};
+ghost use Rattle.wellformed.specs.Given.{LoadGiven};
 
 // Each agent's residual becomes the node that its root names.
-fn start(sizes: Sizes, kinds: &[u8], operands: &[u8], state: &mut [u32])
-    requires { ⌜ (Shaped (table sizes (now kinds) (now operands))) × (length (now state) ≡ stateWords) ⌝ }
-    ensures { λ _. ⌜ now (state .exit) ≡ forEach (started (table sizes (now (kinds .entry)) (now (operands .entry)))) (sizes .agents) (now (state .entry)) ⌝ }
+fn start(sizes: Sizes, operands: &[u8], state: &mut [u32])
+    requires { ⌜ LoadGiven sizes (now operands) (now state) ⌝ }
+    ensures { λ _. ⌜ ((kinds : List ℕ) → now (state .exit) ≡ forEach (started (table sizes kinds (now (operands .entry)))) (sizes .agents) (now (state .entry))) ⌝ }
 {
     let first = first_root(sizes) + sizes.definitions + sizes.stigmergy;
     let agents = sizes.agents;
@@ -34,11 +33,11 @@ fn start(sizes: Sizes, kinds: &[u8], operands: &[u8], state: &mut [u32])
 }
 
 // The state becomes what load leaves: A, each agent with the node that its root names, and 0.
-pub fn write_loaded(sizes: Sizes, kinds: &[u8], operands: &[u8], state: &mut [u32])
-    requires { ⌜ (Shaped (table sizes (now kinds) (now operands))) × (length (now state) ≡ stateWords) ⌝ }
-    ensures { λ _. ⌜ now (state .exit) ≡ loaded (table sizes (now (kinds .entry)) (now (operands .entry))) ⌝ }
+pub fn write_loaded(sizes: Sizes, operands: &[u8], state: &mut [u32])
+    requires { ⌜ LoadGiven sizes (now operands) (now state) ⌝ }
+    ensures { λ _. ⌜ ((kinds : List ℕ) → now (state .exit) ≡ loaded (table sizes kinds (now (operands .entry)))) ⌝ }
 {
     clear(state, 0);
-    start(sizes, kinds, operands, state);
-    state[1] = sizes.agents as u32;
+    start(sizes, operands, state);
+    state[AGENTS] = sizes.agents as u32;
 }

@@ -1,4 +1,5 @@
 // The pairs of a store, of whichever kind.
+use state::KEYS;
 use state::Store;
 use state::mark_at;
 use state::value_at;
@@ -35,7 +36,7 @@ pub fn store_formed(state: &[u32], store: Store, highest: u32, keys: usize) -> b
     ensures { λ r. ⌜ ((t : Table) → r ≡ every (pairFormed t (now (state .entry)) store highest keys) keyLimit) ⌝ }
 {
     let mut key: usize = 0;
-    while key < 16 {
+    while key < KEYS {
         if !pair_formed(state, store, highest, keys, key) {
             return false;
         }

@@ -1,5 +1,6 @@
 // Pending keys: each has an entry.
 use basis::has;
+use state::KEYS;
 use state::Store;
 use state::mark_at;
 use state::zc_at;
@@ -31,7 +32,7 @@ pub fn all_pending_formed(state: &[u32], agent: usize) -> bool
     ensures { λ r. ⌜ ((t : Table) → r ≡ every (pendingFormed t (now (state .entry)) agent) keyLimit) ⌝ }
 {
     let mut key: usize = 0;
-    while key < 16 {
+    while key < KEYS {
         if !pending_formed(state, agent, key) {
             return false;
         }

@@ -7,11 +7,10 @@ use native.Mathlib.Omega.{arith}
 use borrow.Author.Needs.{needs}
 use borrow.Author.Tests.{not-true, not-false}
 use Rattle.basis.specs.Numbers.{every}
-use Rattle.basis.proofs.Numbers.{every-more}
+use Rattle.basis.proofs.Numbers.{every-more, every-fails}
 use Rattle.basis.proofs.Tests.{and-both}
 use Rattle.table.specs.Tables.{table}
 use Rattle.state.specs.WellFormed.{agentFormed}
-use Rattle.wellformed.proofs.Keys.{every-fails}
 use Rattle.wellformed.proofs.agents.agents_formed.Statement.{statement}
 use Rattle.wellformed.proofs.agents.agents_formed.Tie as tie
 

@@ -13,12 +13,12 @@ use Rattle.wellformed.proofs.loading.start.Statement.{statement}
 use Rattle.wellformed.proofs.loading.start.Tie as tie
 
 abbrev Inv-loop : tie.InvT-loop
-Inv-loop kinds operands state₀ first agents agent₀ state agent =
+Inv-loop operands state₀ first agents agent₀ state agent =
     (agent ≤ agents) × (length state ≡ length state₀) ×
     ((t : Table) → firstAgentRoot t ≡ first → t .operands ≡ operands → state ≡ forEach (started t) agent state₀)
 
 abbrev μ-loop : tie.MeasureT-loop
-μ-loop kinds operands state₀ first agents agent₀ state agent = agents - agent
+μ-loop operands state₀ first agents agent₀ state agent = agents - agent
 
 first-root-requires : tie.Need-first-root-requires Inv-loop μ-loop
 first-root-requires c κs = search needs
@@ -68,8 +68,7 @@ loop-less c = search needs
 
 loop-again : tie.Need-loop-again Inv-loop μ-loop
 loop-again c =
-    let l = c .before .before .before .before .loop in
-    (
+    let l = c .before .before .before .before .loop in (
       omega arith,
       simp length-set (l .inv .1),
       λ t e f. started-more t _ _ _ _ _ _ (c .before .length-at .ensures .is) (c .residual-at .ensures .is) (rw (e, f) (c .before .before .p-at .ensures .is)) (l .inv .2 t e f),
@@ -79,9 +78,9 @@ same-length : tie.Need-same-length Inv-loop μ-loop
 same-length c = c .before .loop .inv .1
 
 returns : tie.Need-returns Inv-loop μ-loop
-returns c =
-    let a = c .before .before .before .before .before .before .before .before .args in
-    let t = table (a .sizes) (now (a .kinds)) (now (a .operands)) in
+returns c kinds =
+    let a = c .before .before .before .before .before .before .before .args in
+    let t = table (a .sizes) kinds (now (a .operands)) in
     let f = c .before .before .before .before .first-root .ensures in
     let done : c .before .loop .agent ≡ a .sizes .agents = omega arith in
     rw done at (c .before .loop .inv .2 t (omega arith) refl)

@@ -23,15 +23,15 @@ slice-write-state c = search needs
 same-length : tie.Need-same-length
 same-length c =
     let u = c .before .before .before in
-    simp length-set (u .start .kept .1 .1 .1 .0 ∙ u .before .before .before .before .clear .kept .0)
+    simp length-set (u .start .kept .1 .1 .0 ∙ u .before .before .before .before .clear .kept .0)
 
 returns : tie.Need-returns
 unfolding loaded
-returns c =
+returns c kinds =
     let u = c .before .before .before in
     let v = u .before .before .before .before in
-    let a = v .before .before .before .before .before in
-    rw (u .start .ensures, cleared-whole (now (a .args .state)) (v .clear .last .0) (a .pre .1) (v .clear .ensures))
+    let a = v .before .before .before .before in
+    rw (u .start .ensures kinds, cleared-whole (now (a .args .state)) (v .clear .last .0) (a .pre .whole) (v .clear .ensures))
 
 pub write-loaded-spec : {M : Type 1} → statement M
 write-loaded-spec =
