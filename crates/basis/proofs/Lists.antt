@@ -10,7 +10,7 @@ use native.Mathlib.Nat.{suc-sub-suc, sub-zero, le-of-suc-le-suc, not-suc-le-zero
 use native.Mathlib.Omega.{arith}
 use lib.Dec.{eqb}
 use lib.ListN.{length, getD, getElem?, set, take, drop, length-drop}
-use lib.Seq.{getD-set-same, getD-set-other, getD-take, getD-drop, take-all}
+use lib.Seq.{getD-set-same, getD-set-other, getD-take, getD-drop, take-all, take-nil}
 use borrow.Author.Tests.{eq-eqb, ne-eqb}
 use Rattle.basis.proofs.Tests.{same-or-other, lt-or-le}
 
@@ -27,6 +27,12 @@ module _ {A : Type 0} where
 
   pub take-rest : (l : List A) (a : ℕ) → take (length l - a) (drop a l) ≡ drop a l
   take-rest l a = take-all (length l - a) (drop a l) (omega (arith, length-drop a l))
+
+  pub drop-take : (n m : ℕ) (l : List A) → n ≤ m → drop n (take m l) ≡ take (m - n) (drop n l)
+  drop-take zero m l h = rw (sub-zero m)
+  drop-take (suc n) zero l h = absurd (not-suc-le-zero h)
+  drop-take (suc n) (suc m) [] h = sym (take-nil (suc m - suc n))
+  drop-take (suc n) (suc m) (x ∷ l) h = rw (suc-sub-suc m n) (drop-take n m l (le-of-suc-le-suc h))
 
   -- what stands at a place of two lists in a row, and past the end
   pub nth-left : (xs ys : List A) (n : ℕ) → n < length xs → getElem? (xs ++ ys) n ≡ getElem? xs n

@@ -52,6 +52,9 @@ module _ (test : ℕ → Bool) where
   every-at (suc n) e k h =
       ⊎-elim (λ (l : k < n). every-at n (and-left (every test n) (test n) e) k l) (λ (l : k ≡ n). rw l (and-right (every test n) (test n) e)) (below-or-last k n h)
 
+  pub every-fails : (n k : ℕ) → k < n → test k ≡ false → every test n ≡ false
+  every-fails n k h e = is-false (every test n) (λ f. not-both (every-at n f k h) e)
+
   pub every-all : (n : ℕ) → ((k : ℕ) → k < n → test k ≡ true) → every test n ≡ true
   unfolding every
   every-all zero f = refl

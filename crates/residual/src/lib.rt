@@ -9,6 +9,7 @@ pub mod choosing; // choosing.rt: what is asked of a whole residual
 mod moves; // moves.rt: words moved and cleared
 
 use accept::Counts;
+pub use moves::clear;
 
 // A place among words.
 pub struct Cursor {

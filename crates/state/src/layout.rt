@@ -4,6 +4,16 @@ ghost use Rattle.state.specs.Layout.{residualWords, blockAt, zcAt, zpAt,
 ghost use Rattle.state.specs.Standing.{Pair, Standing};
 use super::Store;
 
+// The clock, and A.
+pub const CLOCK: usize = 0;
+
+pub const AGENTS: usize = 1;
+
+// Keys of a store, and words of a residual.
+pub const KEYS: usize = 16;
+
+pub const RESIDUAL_WORDS: usize = 63;
+
 // The first word of an agent's block; after the last agent's, the end.
 pub fn block_at(agent: usize) -> usize
     requires { ⌜ agent ≤ 32 ⌝ }

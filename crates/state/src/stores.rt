@@ -6,6 +6,7 @@ ghost use Rattle.term.specs.Acceptance.{stateWords};
 ghost use Rattle.state.specs.Layout.{valueIn, put as putIn, addKey, dropKey};
 ghost use Rattle.state.specs.Standing.{storeAgent, Pair};
 use super::Store;
+use super::layout::KEYS;
 use super::layout::mark_at;
 use super::layout::value_at;
 use value::Value;
@@ -15,7 +16,7 @@ pub fn value_in(state: &[u32], store: Store, key: usize) -> Value
     requires { ⌜ (length (now state) ≡ stateWords) × (storeAgent store < 32) ⌝ }
     ensures { λ r. ⌜ r ≡ valueIn (now (state .entry)) store key ⌝ }
 {
-    if 16 <= key {
+    if KEYS <= key {
         return Value::Absent;
     }
     let mark = mark_at(store, key);

@@ -1,0 +1,61 @@
+-- `pending_formed` meets its contract. Assumes nothing.
+use Rattle.wellformed.proofs.Keys.{pending-is}
+use borrow.Author.Needs.{needs}
+use Rattle.wellformed.proofs.pending.pending_formed.Statement.{statement}
+use Rattle.wellformed.proofs.pending.pending_formed.Tie as tie
+
+zc-at-requires : tie.Need-zc-at-requires
+zc-at-requires c κs = search needs
+
+zp-at-requires : tie.Need-zp-at-requires
+zp-at-requires c κs = search needs
+
+mul-has : tie.Need-mul-has
+mul-has c = search needs
+
+shared-slice-read-has : tie.Need-shared-slice-read-has
+shared-slice-read-has c = search needs
+
+has-requires : tie.Need-has-requires
+has-requires c κs = search needs
+
+mul-has-2 : tie.Need-mul-has-2
+mul-has-2 c = search needs
+
+shared-slice-read-has-2 : tie.Need-shared-slice-read-has-2
+shared-slice-read-has-2 c = search needs
+
+has-requires-2 : tie.Need-has-requires-2
+has-requires-2 c κs = search needs
+
+mark-at-requires : tie.Need-mark-at-requires
+mark-at-requires c κs = search needs
+
+mul-result : tie.Need-mul-result
+mul-result c = search needs
+
+shared-slice-read-result : tie.Need-shared-slice-read-result
+shared-slice-read-result c = search needs
+
+returns : tie.Need-returns
+returns c t =
+    let h = c .before .before in
+    let p = h .before .before .before .before in
+    pending-is t _ _ _ _ _ _ (p .before .zc-at .ensures .is) (p .zp-at .ensures .is) (c .before .mark-at .ensures .is) _ _ (h .before .before .has .ensures) (h .has2 .ensures)
+
+pub pending-formed-spec : {M : Type 1} → statement M
+pending-formed-spec =
+    tie.close
+    (tie.spec
+    zc-at-requires
+    zp-at-requires
+    mul-has
+    shared-slice-read-has
+    has-requires
+    mul-has-2
+    shared-slice-read-has-2
+    has-requires-2
+    mark-at-requires
+    mul-result
+    shared-slice-read-result
+    returns)

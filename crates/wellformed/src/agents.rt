@@ -1,0 +1,55 @@
+// An agent's block, and those of all agents.
+use crate::pairs::store_formed;
+use crate::pending::all_pending_formed;
+use crate::residuals::residual_formed;
+use state::CLOCK;
+use state::Store;
+use state::zc_at;
+use state::zp_at;
+use table::Sizes;
+ghost use mathlib.Core.Path.{_≡_};
+ghost use mathlib.Core.List.{List};
+ghost use Prim.Native.Nat.{ℕ, _<_};
+ghost use Rattle.basis.specs.Numbers.{every};
+ghost use Rattle.table.specs.Tables.{table};
+ghost use Rattle.state.specs.WellFormed.{agentFormed};
+ghost use Rattle.wellformed.specs.Given.{CheckGiven};
+
+fn agent_formed(sizes: Sizes, kinds: &[u8], state: &[u32], agent: usize) -> bool
+    requires { ⌜ (CheckGiven sizes (now kinds) (now state)) × (agent < 32) ⌝ }
+    ensures { λ r. ⌜ ((operands : List ℕ) → r ≡ agentFormed (table sizes (now (kinds .entry)) operands) (now (state .entry)) agent) ⌝ }
+{
+    if !store_formed(state, Store::Attributes(agent), 1, sizes.attributes) {
+        return false;
+    }
+    if !store_formed(state, Store::Entries(agent), state[CLOCK], sizes.stigmergy) {
+        return false;
+    }
+    let zc = zc_at(agent);
+    if 65535 < state[zc] {
+        return false;
+    }
+    let zp = zp_at(agent);
+    if 65535 < state[zp] {
+        return false;
+    }
+    if !all_pending_formed(state, agent) {
+        return false;
+    }
+    residual_formed(sizes, kinds, state, agent)
+}
+
+pub fn agents_formed(sizes: Sizes, kinds: &[u8], state: &[u32]) -> bool
+    requires { ⌜ CheckGiven sizes (now kinds) (now state) ⌝ }
+    ensures { λ r. ⌜ ((operands : List ℕ) → r ≡ every (agentFormed (table sizes (now (kinds .entry)) operands) (now (state .entry))) (sizes .agents)) ⌝ }
+{
+    let agents = sizes.agents;
+    let mut agent: usize = 0;
+    while agent < agents {
+        if !agent_formed(sizes, kinds, state, agent) {
+            return false;
+        }
+        agent += 1;
+    }
+    true
+}
