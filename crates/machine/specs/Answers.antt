@@ -1,10 +1,15 @@
--- The paper's number, place and counts for each case of an answer.
+-- What load, step and run answer: the paper's number, place and counts for each case, and that they are those of the definitions.
 use Prim.Native.Nat.{ℕ}
+use mathlib.Core.Path.{_≡_}
+use mathlib.Core.List.{List}
 use Rattle.table.specs.Checks.{Check, passes, refuses}
+use Rattle.steps.specs.Steps.{Outcome}
+use Rattle.steps.specs.Runs.{Progress, Rehearsal}
 use Rattle.machine.specs.declared.Loaded.{Loaded}
 use Rattle.machine.specs.declared.Loaded.the-variants.{Done as LoadDone, Refused as LoadRefused}
 use Rattle.machine.specs.declared.Stepped.{Stepped}
 use Rattle.machine.specs.declared.Stepped.the-variants.{Done as StepDone, Refused as StepRefused}
+use Rattle.machine.specs.declared.Totals.{Totals}
 use Rattle.machine.specs.declared.Ran.{Ran}
 use Rattle.machine.specs.declared.Ran.the-variants.{Done as RunDone, Refused as RunRefused}
 
@@ -23,18 +28,34 @@ stepTaken (StepDone taken) = taken
 stepTaken (StepRefused number place) = 0
 
 -- run: done, refused and taken
-pub record Totals : Type 0 where
-  pub done : ℕ
-  pub refused : ℕ
-  pub taken : ℕ
-
 abbrev pub totals : ℕ → ℕ → ℕ → Totals
-totals d r t = record { done = d; refused = r; taken = t }
+totals done refused taken = record { done = done; refused = refused; taken = taken }
 
 abbrev pub runCheck : Ran → Check
-runCheck (RunDone d r t) = passes
+runCheck (RunDone counts) = passes
 runCheck (RunRefused number place) = refuses number place
 
 abbrev pub runTotals : Ran → Totals
-runTotals (RunDone d r t) = totals d r t
+runTotals (RunDone counts) = counts
 runTotals (RunRefused number place) = totals 0 0 0
+
+-- the answer r and the state after are those of an outcome, of load and of a step
+pub record Loads (o : Outcome) (r : Loaded) (after : List ℕ) : Type 0 where
+  pub check : loadCheck r ≡ o .check
+  pub state : after ≡ o .state
+
+pub record Steps (o : Outcome) (r : Stepped) (after : List ℕ) : Type 0 where
+  pub check : stepCheck r ≡ o .check
+  pub taken : stepTaken r ≡ o .taken
+  pub state : after ≡ o .state
+
+-- the totals, the state and the answer bytes are those of a run so far
+pub record Goes (p : Progress) (counts : Totals) (after bytes : List ℕ) : Type 0 where
+  pub totals : counts ≡ totals (p .done) (p .refused) (p .taken)
+  pub state : after ≡ p .state
+  pub answers : bytes ≡ p .answers
+
+-- and of a whole run
+pub record Runs (o : Rehearsal) (r : Ran) (after bytes : List ℕ) : Type 0 where
+  pub check : runCheck r ≡ o .check
+  pub goes : Goes (o .progress) (runTotals r) after bytes

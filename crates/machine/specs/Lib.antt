@@ -1,1 +1,4 @@
 pub mod Answers
+pub mod Opening
+pub mod Stepping
+pub mod Running

@@ -1,4 +1,18 @@
-// Load, step and run.
+// Load, step and run, for any bytes as table, state and schedule.
+mod opening; // opening.rt: refusals 1 to 9
+mod stepping; // stepping.rt: a step of an accepted table and a well-formed state
+mod running; // running.rt: the steps of a schedule
+
+use accept::Acceptance;
+use opening::open;
+use running::judge_schedule;
+use running::run_steps;
+use stepping::step_in;
+use wellformed::write_loaded;
+ghost use lib.ListN.{length};
+ghost use Rattle.steps.specs.Steps.{loadOf, stepOf};
+ghost use Rattle.steps.specs.Runs.{runOf};
+ghost use Rattle.machine.specs.Answers.{Loads, Steps, Runs};
 
 // What load answers.
 pub enum Loaded {
@@ -12,8 +26,93 @@ pub enum Stepped {
     Refused(u8, usize),
 }
 
+// How many steps of a run were done and refused, and how often an agent took an entry.
+pub struct Totals {
+    pub done: usize,
+    pub refused: usize,
+    pub taken: usize,
+}
+
 // What a run answers: its totals, or the refusal and its place.
 pub enum Ran {
-    Done(usize, usize, usize),
+    Done(Totals),
     Refused(u8, usize),
+}
+
+// The state becomes that of a fleet which has not stepped yet. Scratch is at least two words for each node.
+pub fn load(table: &[u8], state: &mut [u32], scratch: &mut [u32]) -> Loaded
+    ensures { λ r. ⌜ Loads (loadOf (now (table .entry)) (now (state .entry)) (length (now (scratch .entry)))) r (now (state .exit)) ⌝ }
+{
+    let answer = accept::accept(table, state.len(), scratch);
+    match answer {
+        Acceptance::Accepted(sizes) => {
+            let operands = 12 + sizes.nodes;
+            write_loaded(sizes, &table[operands..], state);
+            Loaded::Done
+        }
+        Acceptance::Refused(number, place) => Loaded::Refused(number, place),
+    }
+}
+
+// One step: act (kind 0; number is a choice), propagate (1) or confirm (2; number is a key).
+pub fn step(
+    table: &[u8],
+    state: &mut [u32],
+    scratch: &mut [u32],
+    kind: u8,
+    agent: u16,
+    number: u16,
+) -> Stepped
+    ensures { λ r. ⌜ Steps (stepOf (now (table .entry)) (now (state .entry)) (length (now (scratch .entry))) kind agent number) r (now (state .exit)) ⌝ }
+{
+    let opened = open(table, state, scratch);
+    match opened {
+        Acceptance::Accepted(sizes) => {
+            let operands = 12 + sizes.nodes;
+            step_in(
+                sizes,
+                &table[12..operands],
+                &table[operands..],
+                scratch,
+                state,
+                kind,
+                agent as usize,
+                number as usize,
+            )
+        }
+        Acceptance::Refused(number, place) => Stepped::Refused(number, place),
+    }
+}
+
+// The steps of a schedule, each in turn, with an answer byte for each: 0, or its refusal.
+pub fn run(
+    table: &[u8],
+    state: &mut [u32],
+    scratch: &mut [u32],
+    schedule: &[u8],
+    answers: &mut [u8],
+) -> Ran
+    ensures { λ r. ⌜ Runs (runOf (now (table .entry)) (now (state .entry)) (length (now (scratch .entry))) (now (schedule .entry)) (now (answers .entry))) r (now (state .exit)) (now (answers .exit)) ⌝ }
+{
+    let opened = open(table, state, scratch);
+    match opened {
+        Acceptance::Accepted(sizes) => {
+            let refusal = judge_schedule(schedule, answers);
+            if refusal != 0 {
+                return Ran::Refused(refusal, 0);
+            }
+            let operands = 12 + sizes.nodes;
+            let totals = run_steps(
+                sizes,
+                &table[12..operands],
+                &table[operands..],
+                scratch,
+                state,
+                schedule,
+                answers,
+            );
+            Ran::Done(totals)
+        }
+        Acceptance::Refused(number, place) => Ran::Refused(number, place),
+    }
 }

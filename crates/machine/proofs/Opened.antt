@@ -1,0 +1,95 @@
+-- A step and a run of what checks 1 to 9 leave.
+-- Assumes nothing.
+use Prim.Native.Nat.{ℕ, _+_, _-_, _≤_}
+use mathlib.Core.Bool.{not}
+use mathlib.Core.Path.{_≡_, refl, sym, ap, subst, _∙_}
+use mathlib.Core.List.{List, _++_}
+use lib.ListN.{length, take, drop}
+use borrow.Author.Tests.{ne-eqb}
+use Rattle.table.specs.declared.Sizes.{Sizes}
+use Rattle.table.specs.Checks.{Check, passes, refuses, firstOf}
+use Rattle.table.specs.Tables.{Table, table, tableOf}
+use Rattle.table.proofs.Checks.{append-refuses, append-later, refuseIf-true}
+use Rattle.accept.specs.declared.Acceptance.{Acceptance}
+use Rattle.accept.specs.declared.Acceptance.the-variants.{Accepted, Refused}
+use Rattle.accept.specs.Answers.{checkOf}
+use Rattle.accept.proofs.Answering.{lent-table}
+use Rattle.choice.specs.Turns.{Ready}
+use Rattle.state.proofs.Formed.{Proper}
+use Rattle.judging.specs.Judging.{checkOf as refusalCheck}
+use Rattle.steps.specs.Steps.{Outcome, stateChecks, stepIn, stepOf}
+use Rattle.steps.specs.Runs.{stepsOf, scheduleChecks, begun, ran, Progress, runOf}
+use Rattle.steps.proofs.Steps.{step-in}
+use Rattle.machine.specs.declared.Stepped.{Stepped}
+use Rattle.machine.specs.declared.Stepped.the-variants.{Refused as StepRefused}
+use Rattle.machine.specs.declared.Totals.{Totals}
+use Rattle.machine.specs.declared.Ran.the-variants.{Done as RunDone, Refused as RunRefused}
+use Rattle.machine.specs.Answers.{totals, Steps, Goes, Runs}
+use Rattle.machine.specs.Opening.{Open, Opens}
+
+-- the parts of a table as code lends them
+abbrev pub parts : List ℕ → Sizes → Table
+parts bytes n = table n (take (12 + n .nodes - 12) (drop 12 bytes)) (take (length bytes - (12 + n .nodes)) (drop (12 + n .nodes) bytes))
+
+module _ {bytes was scratch : List ℕ} {n : Sizes} (o : Open bytes was scratch n) where
+  parts-table : parts bytes n ≡ tableOf bytes
+  parts-table = lent-table bytes n (o .sizes)
+
+  pub opened-nodes : n .nodes ≤ 4096
+  opened-nodes = subst (λ (t : Table). t .sizes .nodes ≤ 4096) (sym parts-table) (o .ready .checked .sound .shaped .limits .nodes)
+
+  pub opened-ready : Ready (parts bytes n) scratch
+  opened-ready = subst (λ (t : Table). Ready t scratch) (sym parts-table) (o .ready)
+
+  pub opened-proper : Proper (parts bytes n) was
+  opened-proper = subst (λ (t : Table). Proper t was) (sym parts-table) (o .proper)
+
+module _ {bytes was before after : List ℕ} {r : Acceptance} (a : Opens bytes was before after r) where
+  opens-is : (x : Acceptance) → r ≡ x → firstOf (stateChecks bytes was (length before)) ≡ checkOf x
+  opens-is x e = sym (a .check) ∙ ap (λ (y : Acceptance). checkOf y) e
+
+  -- STEP
+  module _ (kind x number : ℕ) where
+    pub step-refused : {n place : ℕ} → r ≡ Refused n place → Steps (stepOf bytes was (length before) kind x number) (StepRefused n place) was
+    unfolding stepOf
+    step-refused {n} {place} e = let f = opens-is (Refused n place) e in record { check = rw (stepOf, f); taken = rw (stepOf, f); state = rw (stepOf, f) }
+
+    pub step-opened : {n : Sizes} → r ≡ Accepted n → {s : Stepped} {left : List ℕ} → Steps (stepIn (parts bytes n) was kind x number) s left
+        → Steps (stepOf bytes was (length before) kind x number) s left
+    step-opened {n} e {s} {left} h =
+        subst (λ (o : Outcome). Steps o s left)
+        (ap (λ (t : Table). stepIn t was kind x number) (parts-table (a .opened n e)) ∙ sym (step-in bytes was (length before) kind x number (opens-is (Accepted n) e))) h
+
+  -- RUN
+  module _ (schedule answers : List ℕ) where
+    abbrev whole : Check
+    whole = firstOf (stateChecks bytes was (length before) ++ scheduleChecks schedule answers)
+
+    run-passes : whole ≡ passes → runOf bytes was (length before) schedule answers .progress ≡ ran (tableOf bytes) schedule (stepsOf schedule) (begun was answers)
+    unfolding runOf
+    run-passes e = rw (runOf, e)
+
+    refused-run : {number place : ℕ} → whole ≡ refuses number place → Runs (runOf bytes was (length before) schedule answers) (RunRefused number place) was answers
+    unfolding runOf
+    refused-run e = record { check = sym e; goes = record { totals = rw (runOf, e); state = rw (runOf, e); answers = rw (runOf, e) } }
+
+    pub run-refused : {number place : ℕ} → r ≡ Refused number place → Runs (runOf bytes was (length before) schedule answers) (RunRefused number place) was answers
+    run-refused {number} {place} e = refused-run (append-refuses (stateChecks bytes was (length before)) (scheduleChecks schedule answers) (opens-is (Refused number place) e))
+
+    module _ {n : Sizes} (e : r ≡ Accepted n) where
+      later : whole ≡ firstOf (scheduleChecks schedule answers)
+      later = append-later (stateChecks bytes was (length before)) (scheduleChecks schedule answers) (opens-is (Accepted n) e)
+
+      pub run-unscheduled : {refusal : ℕ} → refusalCheck refusal ≡ firstOf (scheduleChecks schedule answers) → (refusal ≡ 0 → ⊥)
+          → Runs (runOf bytes was (length before) schedule answers) (RunRefused refusal 0) was answers
+      run-unscheduled {refusal} f d = refused-run (later ∙ sym f ∙ refuseIf-true refusal _ (ap not (ne-eqb refusal 0 d)))
+
+      pub run-opened : {c : Totals} {left out : List ℕ} → firstOf (scheduleChecks schedule answers) ≡ passes
+          → Goes (ran (parts bytes n) schedule (stepsOf schedule) (begun was answers)) c left out → Runs (runOf bytes was (length before) schedule answers) (RunDone c) left out
+      unfolding runOf
+      run-opened {c} {left} {out} f g =
+          record {
+            check = sym (later ∙ f);
+            goes = subst (λ (p : Progress). Goes p c left out)
+                (ap (λ (t : Table). ran t schedule (stepsOf schedule) (begun was answers)) (parts-table (a .opened n e)) ∙ sym (run-passes (later ∙ f))) g;
+          }

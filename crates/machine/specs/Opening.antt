@@ -1,0 +1,26 @@
+-- What is known of a table and a state where checks 1 to 9 have passed.
+use Prim.Native.Nat.{ℕ, _+_, _*_}
+use mathlib.Core.Path.{_≡_}
+use mathlib.Core.List.{List}
+use lib.ListN.{length}
+use Rattle.table.specs.declared.Sizes.{Sizes}
+use Rattle.table.specs.Checks.{firstOf}
+use Rattle.table.specs.Tables.{sizesOf, tableOf}
+use Rattle.accept.specs.declared.Acceptance.{Acceptance}
+use Rattle.accept.specs.declared.Acceptance.the-variants.{Accepted}
+use Rattle.accept.specs.Answers.{checkOf}
+use Rattle.choice.specs.Turns.{Ready}
+use Rattle.state.proofs.Formed.{Proper}
+use Rattle.steps.specs.Steps.{stateChecks}
+
+-- a table, a state, and the words that hold the counts of its nodes
+pub record Open (bytes was scratch : List ℕ) (n : Sizes) : Type 0 where
+  pub sizes : n ≡ sizesOf bytes
+  pub size : length bytes ≡ 12 + 5 * n .nodes
+  pub ready : Ready (tableOf bytes) scratch
+  pub proper : Proper (tableOf bytes) was
+
+-- the answer r by checks 1 to 9; the words before and after
+pub record Opens (bytes was before after : List ℕ) (r : Acceptance) : Type 0 where
+  pub check : checkOf r ≡ firstOf (stateChecks bytes was (length before))
+  pub opened : (n : Sizes) → r ≡ Accepted n → Open bytes was after n

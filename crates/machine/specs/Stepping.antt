@@ -1,0 +1,15 @@
+-- A step of one kind.
+use Prim.Native.Nat.{ℕ}
+use mathlib.Core.Bool.{Bool, cond}
+use mathlib.Core.List.{List}
+use Rattle.table.specs.Checks.{firstOf}
+use Rattle.table.specs.Tables.{Table}
+use Rattle.steps.specs.Steps.{Outcome, outcome, ownChecks, takenBy, after}
+
+-- what a step that is in range comes to
+abbrev pub ownStep : Table → List ℕ → ℕ → ℕ → ℕ → Outcome
+ownStep t was kind x number = outcome (firstOf (ownChecks t was kind x number)) was (takenBy t was kind x number) (after t was kind x number)
+
+-- an offer that asks is a confirm, one that does not is a propagate
+abbrev pub offerKind : Bool → ℕ
+offerKind asks = cond asks 2 1

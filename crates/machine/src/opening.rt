@@ -1,0 +1,21 @@
+// Refusals 1 to 9: a table that is accepted, and a state of it that is well formed.
+use accept::Acceptance;
+use wellformed::well_formed;
+ghost use Rattle.machine.specs.Opening.{Opens};
+
+pub fn open(table: &[u8], state: &[u32], scratch: &mut [u32]) -> Acceptance
+    ensures { λ r. ⌜ Opens (now (table .entry)) (now (state .entry)) (now (scratch .entry)) (now (scratch .exit)) r ⌝ }
+{
+    let answer = accept::accept(table, state.len(), scratch);
+    match answer {
+        Acceptance::Accepted(sizes) => {
+            let operands = 12 + sizes.nodes;
+            if well_formed(sizes, &table[12..operands], state) {
+                Acceptance::Accepted(sizes)
+            } else {
+                Acceptance::Refused(9, 0)
+            }
+        }
+        Acceptance::Refused(number, place) => Acceptance::Refused(number, place),
+    }
+}

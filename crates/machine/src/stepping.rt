@@ -1,0 +1,116 @@
+// A step of an accepted table and a well-formed state: refusals 10 and 18, and what its kind does.
+use crate::Stepped;
+use acting::act;
+use offering::confirm;
+use offering::propagate;
+use state::zc_at;
+use state::zp_at;
+use table::Sizes;
+ghost use mathlib.Core.Path.{_≡_};
+ghost use mathlib.Core.Bool.{cond};
+ghost use mathlib.Core.List.{List};
+ghost use Prim.Native.Nat.{ℕ, _<_};
+ghost use lib.ListN.{length};
+ghost use Rattle.table.specs.Tables.{table};
+ghost use Rattle.term.specs.Acceptance.{stateWords};
+ghost use Rattle.choice.specs.Turns.{Ready};
+ghost use Rattle.state.specs.Layout.{zcOf, zpOf};
+ghost use Rattle.state.proofs.Formed.{Proper};
+ghost use Rattle.steps.specs.Steps.{outOfRange, stepIn};
+ghost use Rattle.offering.specs.Passing.{Passing};
+ghost use Rattle.machine.specs.Answers.{Steps};
+ghost use Rattle.machine.specs.Stepping.{ownStep, offerKind};
+
+// 10: the kind, the agent or the key is out of range.
+fn out_of_range(sizes: Sizes, kind: u8, agent: usize, number: usize) -> bool
+    ensures { λ r. ⌜ ((kinds operands was : List ℕ) → r ≡ outOfRange (table sizes kinds operands) was kind agent number) ⌝ }
+{
+    if 3 <= kind {
+        return true;
+    }
+    if sizes.agents <= agent {
+        return true;
+    }
+    if kind == 0 {
+        return false;
+    }
+    sizes.stigmergy <= number
+}
+
+fn act_step(
+    sizes: Sizes,
+    kinds: &[u8],
+    operands: &[u8],
+    scratch: &[u32],
+    state: &mut [u32],
+    agent: usize,
+    choice: usize,
+) -> Stepped
+    requires { ⌜ Ready (table sizes (now kinds) (now operands)) (now scratch) ⌝ }
+    requires { ⌜ Proper (table sizes (now kinds) (now operands)) (now state) ⌝ }
+    requires { ⌜ agent < sizes .agents ⌝ }
+    ensures { λ r. ⌜ Steps (ownStep (table sizes (now (kinds .entry)) (now (operands .entry))) (now (state .entry)) 0 agent choice) r (now (state .exit)) ⌝ }
+{
+    let refusal = act(sizes, kinds, operands, scratch, state, agent, choice as u64);
+    if refusal == 0 {
+        return Stepped::Done(0);
+    }
+    Stepped::Refused(refusal, 0)
+}
+
+// The set that an offer takes its key from: Zc where it asks, else Zp.
+fn pending(state: &[u32], agent: usize, asks: bool) -> u32
+    requires { ⌜ (length (now state) ≡ stateWords) × (agent < 32) ⌝ }
+    ensures { λ r. ⌜ r ≡ cond asks (zcOf (now (state .entry)) agent) (zpOf (now (state .entry)) agent) ⌝ }
+{
+    if asks {
+        return state[zc_at(agent)];
+    }
+    state[zp_at(agent)]
+}
+
+// Propagate, or confirm where it asks.
+fn offer_step(
+    sizes: Sizes,
+    kinds: &[u8],
+    operands: &[u8],
+    state: &mut [u32],
+    agent: usize,
+    key: usize,
+    asks: bool,
+) -> Stepped
+    requires { ⌜ Passing (table sizes (now kinds) (now operands)) (now state) agent key ⌝ }
+    ensures { λ r. ⌜ Steps (ownStep (table sizes (now (kinds .entry)) (now (operands .entry))) (now (state .entry)) (offerKind asks) agent key) r (now (state .exit)) ⌝ }
+{
+    let keys = pending(state, agent, asks);
+    if !basis::has(keys, key) {
+        return Stepped::Refused(18, 0);
+    }
+    if asks {
+        return Stepped::Done(confirm(sizes, kinds, operands, state, agent, key));
+    }
+    Stepped::Done(propagate(sizes, kinds, operands, state, agent, key))
+}
+
+pub fn step_in(
+    sizes: Sizes,
+    kinds: &[u8],
+    operands: &[u8],
+    scratch: &[u32],
+    state: &mut [u32],
+    kind: u8,
+    agent: usize,
+    number: usize,
+) -> Stepped
+    requires { ⌜ Ready (table sizes (now kinds) (now operands)) (now scratch) ⌝ }
+    requires { ⌜ Proper (table sizes (now kinds) (now operands)) (now state) ⌝ }
+    ensures { λ r. ⌜ Steps (stepIn (table sizes (now (kinds .entry)) (now (operands .entry))) (now (state .entry)) kind agent number) r (now (state .exit)) ⌝ }
+{
+    if out_of_range(sizes, kind, agent, number) {
+        return Stepped::Refused(10, 0);
+    }
+    if kind == 0 {
+        return act_step(sizes, kinds, operands, scratch, state, agent, number);
+    }
+    offer_step(sizes, kinds, operands, state, agent, number, kind == 2)
+}
