@@ -1,4 +1,5 @@
 pub mod Places
+pub mod Standing
 pub mod Frames
 pub mod Residuals
 pub mod Formed

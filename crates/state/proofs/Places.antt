@@ -14,6 +14,7 @@ use Rattle.basis.proofs.Tests.{is-false, and-left, and-right, lt-or-le, same-te
 use Rattle.term.specs.Acceptance.{stateWords}
 use Rattle.state.specs.declared.Store.{Store}
 use Rattle.state.specs.declared.Store.the-variants.{Environment, Attributes, Entries}
+pub use Rattle.state.specs.Standing.{storeAgent}
 use Rattle.state.specs.Layout.{clockAt, agentsAt, blockAt, zcAt, zpAt, lengthAt, residualAt, residualWords, keyLimit, markAt, valueAt}
 
 -- an agent's sets of keys: Zc and Zp
@@ -53,11 +54,6 @@ abbrev pub storeKind : Store → ℕ
 storeKind Environment = 0
 storeKind (Attributes a) = 1
 storeKind (Entries a) = 2
-
-abbrev pub storeAgent : Store → ℕ
-storeAgent Environment = 0
-storeAgent (Attributes a) = a
-storeAgent (Entries a) = a
 
 abbrev pub placeKind : Place → ℕ
 placeKind Clock = 0

@@ -1,3 +1,4 @@
 pub mod Layout
+pub mod Standing
 pub mod Evaluation
 pub mod WellFormed

@@ -1,4 +1,18 @@
 // The state's words: layout, stores, evaluation, well-formedness.
+mod layout; // layout.rt: where things stand
+mod stores; // stores.rt: values of keys, and changes of pairs and of sets of keys
+
+pub use layout::block_at;
+pub use layout::length_at;
+pub use layout::mark_at;
+pub use layout::residual_at;
+pub use layout::value_at;
+pub use layout::zc_at;
+pub use layout::zp_at;
+pub use stores::add_key;
+pub use stores::drop_key;
+pub use stores::put;
+pub use stores::value_in;
 
 // A store of 16 pairs: the environment's, or an agent's attributes or stigmergy entries.
 pub enum Store {
