@@ -1,0 +1,3 @@
+// An agent's act: judged first, and written only where nothing refuses it.
+mod leaving; // leaving.rt: the residual
+mod setting; // setting.rt: the key that an action sets
