@@ -1,0 +1,3 @@
+pub mod Situated
+pub mod Parties
+pub mod Reading
