@@ -1,0 +1,148 @@
+-- The keys that an act's guards and expression read, and those of them that Zc gains.
+-- Assumes nothing.
+use Prim.Native.Nat.{ℕ, _+_, _^_, _<_, _≤_}
+use mathlib.Core.Bool.{Bool, true, false, cond, _&&_, _||_}
+use mathlib.Core.Logic.{⊎-elim}
+use mathlib.Core.Path.{_≡_, refl, sym, ap, ap₂, _∙_}
+use mathlib.Core.List.{List, [], _∷_}
+use native.Mathlib.Omega.{arith}
+use lib.Dec.{eqb, ltb}
+use lib.ListN.{getD}
+use borrow.Author.Tests.{eqb-true, eq-eqb}
+use Rattle.basis.specs.Numbers.{some, forEach}
+use Rattle.basis.specs.KeySets.{has, plus, plusAll}
+use Rattle.basis.proofs.Numbers.{some-at, some-witness, some-more, forEach-more, forEach-ext}
+use Rattle.basis.proofs.KeySets.{has-nothing}
+use Rattle.basis.proofs.Tests.{not-both, or-either, or-left, or-right, and-left, and-right, and-both, same-test}
+use Rattle.table.specs.Tables.{Table, kindAt}
+use Rattle.table.specs.Nodes.{isGuard}
+use Rattle.choice.specs.Marking.{isMarked, isIn}
+use Rattle.choice.specs.declared.Does.{Does}
+use Rattle.choice.specs.Outcomes.{labelOf}
+use Rattle.term.specs.Processes.{Derivation}
+use Rattle.state.specs.declared.Store.the-variants.{Entries}
+use Rattle.state.specs.Layout.{keyLimit, markAt, stampOf}
+use Rattle.state.specs.Evaluation.{reads}
+use Rattle.evaluation.specs.Reading.{Adds}
+use Rattle.steps.specs.Acts.{guardsRead, labelReads, toConfirm}
+use Rattle.judging.specs.Judging.{Collected}
+use Rattle.acting.specs.Gaining.{hasEntry, markedReads, Gains}
+
+-- the set with each key that passes: no key, one key more, and tests that agree
+pub plusAll-zero : (test : ℕ → Bool) (w : ℕ) → plusAll test 0 w ≡ w
+unfolding plusAll forEach
+plusAll-zero test w = refl
+
+pub plusAll-more : (test : ℕ → Bool) (n w : ℕ) → plusAll test (n + 1) w ≡ cond (test n) (plus (plusAll test n w) n) (plusAll test n w)
+unfolding plusAll
+plusAll-more test n w = forEach-more (λ k v. cond (test k) (plus v k) v) n w
+
+pub plusAll-ext : (f g : ℕ → Bool) (n w : ℕ) → ((k : ℕ) → k < n → f k ≡ g k) → plusAll f n w ≡ plusAll g n w
+unfolding plusAll
+plusAll-ext f g n w h =
+    forEach-ext (λ k v. cond (f k) (plus v k) v) (λ k v. cond (g k) (plus v k) v) n w
+    (λ k l. ap (λ b. cond b (plus (plusAll f k w) k) (plusAll f k w)) (h k l))
+
+-- one key more of those that have an entry
+pub entry-more : (s : List ℕ) (x keys key found at : ℕ) (h b : Bool) (next : ℕ) → h ≡ has keys key → at ≡ markAt (Entries x) key → found ≡ plusAll (hasEntry s x keys) key 0
+    → (h && ltb 0 (getD s at 0)) ≡ b → next ≡ cond b (plus found key) found → next ≡ plusAll (hasEntry s x keys) (key + 1) 0
+entry-more s x keys key found at h b next e f g i j =
+    j ∙ rw (← i, e, f, g) (sym (plusAll-more (hasEntry s x keys) key 0))
+
+-- nothing is added, then one test's keys, then another's
+pub adds-none : (test : ℕ → Bool) (w : ℕ) → ((k : ℕ) → test k ≡ false) → Adds test w w
+adds-none test w h = record { keys = λ k l. by k (has w k); small = λ i. i }
+  where
+    by : (k : ℕ) (b : Bool) → b ≡ (b || test k)
+    by k true = refl
+    by k false = sym (h k)
+
+pub adds-both : (f g : ℕ → Bool) (w v r : ℕ) → Adds f w v → Adds g v r → Adds (λ (k : ℕ). f k || g k) w r
+adds-both f g w v r a b =
+    record {
+      keys = λ k l. b .keys k l ∙ ap (λ e. e || g k) (a .keys k l) ∙ by (has w k) (f k) (g k);
+      small = λ h. b .small (a .small h);
+    }
+  where
+    by : (a b c : Bool) → ((a || b) || c) ≡ (a || (b || c))
+    by true b c = refl
+    by false b c = refl
+
+pub adds-same : (f g : ℕ → Bool) (w r : ℕ) → Adds f w r → ((k : ℕ) → f k ≡ g k) → Adds g w r
+adds-same f g w r a h = record { keys = λ k l. a .keys k l ∙ ap (λ b. has w k || b) (h k); small = a .small }
+
+-- one node more, which is a marked guard or is not
+module _ (t : Table) (marks : List ℕ) (n w v r : ℕ) (a : Adds (markedReads t marks n) w v) where
+  abbrev counts : Bool
+  counts = isGuard (kindAt t n) && isMarked marks n
+
+  more : (k : ℕ) (b : Bool) → counts ≡ b → markedReads t marks (n + 1) k ≡ (markedReads t marks n k || (b && reads t n k))
+  more k b e = some-more (λ (b : ℕ). (isGuard (kindAt t b) && isMarked marks b) && reads t b k) n ∙ rw e
+
+  pub marked-more : counts ≡ true → Adds (reads t n) v r → Adds (markedReads t marks (n + 1)) w r
+  marked-more e b =
+      adds-same (λ (k : ℕ). markedReads t marks n k || reads t n k) (markedReads t marks (n + 1)) w r
+      (adds-both (markedReads t marks n) (reads t n) w v r a b) (λ k. sym (more k true e))
+
+  pub marked-same : counts ≡ false → v ≡ r → Adds (markedReads t marks (n + 1)) w r
+  marked-same e d =
+      adds-same (markedReads t marks n) (markedReads t marks (n + 1)) w r (rw d at a) (λ k. sym (more k false e ∙ by (markedReads t marks n k)))
+    where
+      by : (b : Bool) → (b || false) ≡ b
+      by true = refl
+      by false = refl
+
+-- THE MARKED GUARDS are those of a list
+module _ (t : Table) (was : List ℕ) (x : ℕ) where
+  read-in : (gs : List ℕ) (b k : ℕ) → isIn b gs ≡ true → reads t b k ≡ true → guardsRead t was x gs k ≡ true
+  unfolding isIn
+  read-in [] b k e f = e
+  read-in (g ∷ gs) b k e f =
+      ⊎-elim (λ (d : eqb b g ≡ true). or-left (reads t g k) (guardsRead t was x gs k) (rw (eqb-true b g d) at f))
+      (λ (d : isIn b gs ≡ true). or-right (reads t g k) (guardsRead t was x gs k) (read-in gs b k d f)) (or-either (eqb b g) (isIn b gs) e)
+
+  in-read : (gs : List ℕ) (k : ℕ) → guardsRead t was x gs k ≡ true → (b : ℕ) × (isIn b gs ≡ true) × (reads t b k ≡ true)
+  unfolding isIn
+  in-read [] k e = absurd (not-both e refl)
+  in-read (g ∷ gs) k e =
+      ⊎-elim (λ (d : reads t g k ≡ true). (g, or-left (eqb g g) (isIn g gs) (eq-eqb g g refl), d))
+      (λ (d : guardsRead t was x gs k ≡ true). let w = in-read gs k d in (w .0, or-right (eqb (w .0) g) (isIn (w .0) gs) (w .1), w .2))
+      (or-either (reads t g k) (guardsRead t was x gs k) e)
+
+  pub guards-marked : (gs marks : List ℕ) → Collected t gs marks → (k : ℕ) → markedReads t marks (t .sizes .nodes) k ≡ guardsRead t was x gs k
+  guards-marked gs marks c k = same-test (markedReads t marks N k) (guardsRead t was x gs k) there back
+    where
+      N : ℕ
+      N = t .sizes .nodes
+
+      test : ℕ → ℕ → Bool
+      test k b = (isGuard (kindAt t b) && isMarked marks b) && reads t b k
+
+      there : markedReads t marks N k ≡ true → guardsRead t was x gs k ≡ true
+      there e =
+          let w = some-witness (test k) N e in
+          let b = w .0 in
+          let g = and-left (isGuard (kindAt t b) && isMarked marks b) (reads t b k) (w .2) in
+          let i = sym (c .guards b (and-left (isGuard (kindAt t b)) (isMarked marks b) g)) ∙ and-right (isGuard (kindAt t b)) (isMarked marks b) g in
+          read-in gs b k i (and-right (isGuard (kindAt t b) && isMarked marks b) (reads t b k) (w .2))
+
+      back : guardsRead t was x gs k ≡ true → markedReads t marks N k ≡ true
+      back e =
+          let w = in-read gs k e in
+          let b = w .0 in
+          let n = c .nodes b (w .1) in
+          some-at (test k) N b (n .0)
+          (and-both (isGuard (kindAt t b) && isMarked marks b) (reads t b k) (and-both (isGuard (kindAt t b)) (isMarked marks b) (n .1) (c .guards b (n .1) ∙ w .1)) (w .2))
+
+-- WHAT ZC GAINS
+pub gains : (t : Table) (was : List ℕ) (x : ℕ) (marks : List ℕ) (does : Does) (v r : ℕ)
+    → Adds (markedReads t marks (t .sizes .nodes)) 0 v → Adds (labelReads t was x (labelOf does)) v r
+    → Gains t was x marks does (plusAll (hasEntry was x r) keyLimit 0)
+gains t was x marks does v r a b d e c =
+    plusAll-ext (hasEntry was x r) (toConfirm t was x d) keyLimit 0 (λ k l. ap (λ f. f && ltb 0 (stampOf was x k)) (read k l))
+  where
+    read : (k : ℕ) → k < keyLimit → has r k ≡ (guardsRead t was x (d .guards) k || labelReads t was x (d .label) k)
+    read k l =
+        b .keys k l
+        ∙ ap₂ (λ p q. p || q) (a .keys k l ∙ ap (λ f. f || markedReads t marks (t .sizes .nodes) k) (has-nothing k) ∙ guards-marked t was x (d .guards) marks c k)
+        (ap (λ m. labelReads t was x m k) e)
