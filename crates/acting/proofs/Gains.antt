@@ -14,10 +14,11 @@ use Rattle.basis.specs.KeySets.{has, plus, plusAll}
 use Rattle.basis.proofs.Numbers.{some-at, some-witness, some-more, forEach-more, forEach-ext}
 use Rattle.basis.proofs.KeySets.{has-nothing}
 use Rattle.basis.proofs.Tests.{not-both, or-either, or-left, or-right, and-left, and-right, and-both, same-test}
-use Rattle.table.specs.Tables.{Table, kindAt}
+use Rattle.table.specs.Tables.{Table, kindAt, qAt}
 use Rattle.table.specs.Nodes.{isGuard}
 use Rattle.choice.specs.Marking.{isMarked, isIn}
 use Rattle.choice.specs.declared.Does.{Does}
+use Rattle.choice.specs.declared.Does.the-variants.{Ticking, Acting}
 use Rattle.choice.specs.Outcomes.{labelOf}
 use Rattle.term.specs.Processes.{Derivation}
 use Rattle.state.specs.declared.Store.the-variants.{Entries}
@@ -26,7 +27,7 @@ use Rattle.state.specs.Evaluation.{reads}
 use Rattle.evaluation.specs.Reading.{Adds}
 use Rattle.steps.specs.Acts.{guardsRead, labelReads, toConfirm}
 use Rattle.judging.specs.Judging.{Collected}
-use Rattle.acting.specs.Gaining.{hasEntry, markedReads, Gains}
+use Rattle.acting.specs.Gaining.{hasEntry, markedReadsAt, markedReads, Gains}
 
 -- the set with each key that passes: no key, one key more, and tests that agree
 pub plusAll-zero : (test : ℕ → Bool) (w : ℕ) → plusAll test 0 w ≡ w
@@ -71,26 +72,26 @@ adds-both f g w v r a b =
 pub adds-same : (f g : ℕ → Bool) (w r : ℕ) → Adds f w r → ((k : ℕ) → f k ≡ g k) → Adds g w r
 adds-same f g w r a h = record { keys = λ k l. a .keys k l ∙ ap (λ b. has w k || b) (h k); small = a .small }
 
--- one node more, which is a marked guard or is not
-module _ (t : Table) (marks : List ℕ) (n w v r : ℕ) (a : Adds (markedReads t marks n) w v) where
-  abbrev counts : Bool
-  counts = isGuard (kindAt t n) && isMarked marks n
+-- a node that is a marked guard, or is not
+module _ (t : Table) (marks : List ℕ) (n w : ℕ) (guard : Bool) (is : guard ≡ isGuard (kindAt t n)) where
+  counts : (b : Bool) → (guard && isMarked marks n) ≡ b → (isGuard (kindAt t n) && isMarked marks n) ≡ b
+  counts b e = ap (λ g. g && isMarked marks n) (sym is) ∙ e
 
-  more : (k : ℕ) (b : Bool) → counts ≡ b → markedReads t marks (n + 1) k ≡ (markedReads t marks n k || (b && reads t n k))
-  more k b e = some-more (λ (b : ℕ). (isGuard (kindAt t b) && isMarked marks b) && reads t b k) n ∙ rw e
+  pub node-marked : (guard && isMarked marks n) ≡ true → (r : ℕ) → Adds (reads t n) w r → Adds (markedReadsAt t marks n) w r
+  node-marked e r a = adds-same (reads t n) (markedReadsAt t marks n) w r a (λ k. sym (ap (λ b. b && reads t n k) (counts true e)))
 
-  pub marked-more : counts ≡ true → Adds (reads t n) v r → Adds (markedReads t marks (n + 1)) w r
-  marked-more e b =
-      adds-same (λ (k : ℕ). markedReads t marks n k || reads t n k) (markedReads t marks (n + 1)) w r
-      (adds-both (markedReads t marks n) (reads t n) w v r a b) (λ k. sym (more k true e))
+  pub node-other : (guard && isMarked marks n) ≡ false → Adds (markedReadsAt t marks n) w w
+  node-other e = adds-none (markedReadsAt t marks n) w (λ k. ap (λ b. b && reads t n k) (counts false e))
 
-  pub marked-same : counts ≡ false → v ≡ r → Adds (markedReads t marks (n + 1)) w r
-  marked-same e d =
-      adds-same (markedReads t marks n) (markedReads t marks (n + 1)) w r (rw d at a) (λ k. sym (more k false e ∙ by (markedReads t marks n k)))
-    where
-      by : (b : Bool) → (b || false) ≡ b
-      by true = refl
-      by false = refl
+-- one node more
+pub nodes-none : (t : Table) (marks : List ℕ) (w : ℕ) → Adds (markedReads t marks 0) w w
+unfolding some
+nodes-none t marks w = adds-none (markedReads t marks 0) w (λ k. refl)
+
+pub nodes-more : (t : Table) (marks : List ℕ) (n w v r : ℕ) → Adds (markedReads t marks n) w v → Adds (markedReadsAt t marks n) v r → Adds (markedReads t marks (n + 1)) w r
+nodes-more t marks n w v r a b =
+    adds-same (λ (k : ℕ). markedReads t marks n k || markedReadsAt t marks n k) (markedReads t marks (n + 1)) w r
+    (adds-both (markedReads t marks n) (markedReadsAt t marks n) w v r a b) (λ k. sym (some-more (λ (b : ℕ). markedReadsAt t marks b k) n))
 
 -- THE MARKED GUARDS are those of a list
 module _ (t : Table) (was : List ℕ) (x : ℕ) where
@@ -115,12 +116,9 @@ module _ (t : Table) (was : List ℕ) (x : ℕ) where
       N : ℕ
       N = t .sizes .nodes
 
-      test : ℕ → ℕ → Bool
-      test k b = (isGuard (kindAt t b) && isMarked marks b) && reads t b k
-
       there : markedReads t marks N k ≡ true → guardsRead t was x gs k ≡ true
       there e =
-          let w = some-witness (test k) N e in
+          let w = some-witness (λ (b : ℕ). markedReadsAt t marks b k) N e in
           let b = w .0 in
           let g = and-left (isGuard (kindAt t b) && isMarked marks b) (reads t b k) (w .2) in
           let i = sym (c .guards b (and-left (isGuard (kindAt t b)) (isMarked marks b) g)) ∙ and-right (isGuard (kindAt t b)) (isMarked marks b) g in
@@ -131,8 +129,17 @@ module _ (t : Table) (was : List ℕ) (x : ℕ) where
           let w = in-read gs k e in
           let b = w .0 in
           let n = c .nodes b (w .1) in
-          some-at (test k) N b (n .0)
+          some-at (λ (b : ℕ). markedReadsAt t marks b k) N b (n .0)
           (and-both (isGuard (kindAt t b) && isMarked marks b) (reads t b k) (and-both (isGuard (kindAt t b)) (isMarked marks b) (n .1) (c .guards b (n .1) ∙ w .1)) (w .2))
+
+-- WHAT AN ACTION'S EXPRESSION READS
+module _ (t : Table) (was : List ℕ) (x : ℕ) (does : Does) where
+  pub label-none : does ≡ Ticking → (w : ℕ) → Adds (labelReads t was x (labelOf does)) w w
+  label-none e w = adds-none (labelReads t was x (labelOf does)) w (λ k. ap (λ (d : Does). labelReads t was x (labelOf d) k) e)
+
+  pub label-expression : {n : ℕ} → does ≡ Acting n → (q : ℕ) → q ≡ qAt t n → (w r : ℕ) → Adds (reads t q) w r → Adds (labelReads t was x (labelOf does)) w r
+  label-expression e q f w r a =
+      adds-same (reads t q) (labelReads t was x (labelOf does)) w r a (λ k. ap (λ (m : ℕ). reads t m k) f ∙ sym (ap (λ (d : Does). labelReads t was x (labelOf d) k) e))
 
 -- WHAT ZC GAINS
 pub gains : (t : Table) (was : List ℕ) (x : ℕ) (marks : List ℕ) (does : Does) (v r : ℕ)
