@@ -9,10 +9,12 @@ mod wrong;
 
 pub use bad::lowest_bad;
 pub use header::measure;
+pub use kinds::fields_here;
 pub use kinds::first_root;
 pub use kinds::is_expression;
 pub use kinds::is_guard;
 pub use kinds::is_process;
+pub use nodes::is_node;
 pub use reading::constant_at;
 pub use reading::p_at;
 pub use reading::q_at;

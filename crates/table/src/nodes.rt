@@ -50,7 +50,7 @@ fn suits(sizes: Sizes, kinds: &[u8], node: usize, field: Field, x: usize) -> boo
 }
 
 // Whether a field names a node.
-fn is_node(field: Field) -> bool
+pub fn is_node(field: Field) -> bool
     ensures { λ r. ⌜ r ≡ isNode field ⌝ }
 {
     match field {

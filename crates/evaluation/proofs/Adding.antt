@@ -1,0 +1,84 @@
+-- Sets to which keys are added, and what a node reads.
+-- Assumes nothing.
+use Prim.Native.Nat.{ℕ, _<_, _≤_}
+use mathlib.Core.Bool.{Bool, true, false, cond, _&&_, _||_, and-false, or-false, or-assoc, or-comm}
+use mathlib.Core.Path.{_≡_, refl, sym, ap, _∙_}
+use native.Mathlib.Omega.{arith}
+use lib.Dec.{eqb}
+use borrow.Author.Tests.{ne-eqb}
+use Rattle.basis.specs.KeySets.{has, plus}
+use Rattle.basis.proofs.Below.{below-out, below-at}
+use Rattle.basis.proofs.KeySets.{has-plus, plus-small}
+use Rattle.table.specs.Tables.{Table, kindAt, pAt, qAt}
+use Rattle.table.specs.Nodes.{leftNode, rightNode}
+use Rattle.state.specs.Layout.{keyLimit}
+use Rattle.state.specs.Evaluation.{readsStep}
+use Rattle.evaluation.specs.declared.Parts.{Parts}
+use Rattle.evaluation.specs.Reading.{Adds, readsBelow, isKey, Named}
+
+-- nothing is added
+adds-none : {test : ℕ → Bool} {w : ℕ} → ((k : ℕ) → k < keyLimit → test k ≡ false) → Adds test w w
+adds-none {test} {w} f = record { keys = λ k l. rw (f k l) (sym (or-false (has w k))); small = λ h. h }
+
+-- one key is added
+adds-one : (w p : ℕ) → p < keyLimit → Adds (eqb p) w (plus w p)
+adds-one w p l = record { keys = λ k i. has-plus w p k ∙ or-comm (eqb p k) (has w k); small = λ h. plus-small keyLimit w p l h }
+
+-- the same test
+adds-same : {f g : ℕ → Bool} {w r : ℕ} → ((k : ℕ) → g k ≡ f k) → Adds f w r → Adds g w r
+adds-same e a = record { keys = λ k l. rw (e k) (a .keys k l); small = a .small }
+
+-- one after the other
+adds-both : {f g : ℕ → Bool} {w u r : ℕ} → Adds f w u → Adds g u r → Adds (λ (k : ℕ). f k || g k) w r
+adds-both {f} {g} {w} a b =
+    record {
+      keys = λ k l. b .keys k l ∙ ap (λ (z : Bool). z || g k) (a .keys k l) ∙ or-assoc (has w k) (f k) (g k);
+      small = λ h. b .small (a .small h);
+    }
+
+module _ (t : Table) where
+  -- THE KEY that a node is
+  module _ (n w : ℕ) where
+    pub key-none : (kindAt t n ≡ 34 → ⊥) → Adds (isKey t n) w w
+    key-none d = adds-none (λ k l. rw (ne-eqb (kindAt t n) 34 d))
+
+    pub key-past : keyLimit ≤ pAt t n → Adds (isKey t n) w w
+    key-past h = adds-none (λ k l. rw (ne-eqb (pAt t n) k (λ e. omega arith)) (and-false (eqb (kindAt t n) 34)))
+
+    pub key-there : kindAt t n ≡ 34 → pAt t n < keyLimit → Adds (isKey t n) w (plus w (pAt t n))
+    key-there e l = adds-same (λ k. rw e) (adds-one w (pAt t n) l)
+
+  -- WHAT IT READS
+  reads-out : (limit n k : ℕ) → limit ≤ n → readsBelow t limit n k ≡ false
+  reads-out limit n k h = ap (λ (f : ℕ → Bool). f k) (below-out (readsStep t) (λ (j : ℕ). false) limit n h)
+
+  -- a walk that is not made finds nothing
+  if-made : (on : Bool) (n p k : ℕ) → readsBelow t (cond on n 0) p k ≡ (on && readsBelow t n p k)
+  if-made true n p k = refl
+  if-made false n p k = reads-out 0 p k (omega arith)
+
+  pub reads-none : (limit n w : ℕ) → limit ≤ n → Adds (readsBelow t limit n) w w
+  reads-none limit n w h = adds-none (λ k l. reads-out limit n k h)
+
+  -- a walk's limit falls
+  low : (on : Bool) (n l : ℕ) → l ≡ cond on n 0 → l ≤ n
+  low true n l e = omega arith
+  low false n l e = omega arith
+
+  module _ (n : ℕ) (r : Parts) (named : Named t n r) where
+    pub left-low : r .left ≤ n
+    left-low = low (leftNode t n) n (r .left) (named .left)
+
+    pub right-low : r .right ≤ n
+    right-low = low (rightNode t n) n (r .right) (named .right)
+
+    reads-at : (limit k : ℕ) → n < limit → readsBelow t limit n k ≡ ((isKey t n k || readsBelow t (r .left) (r .p) k) || readsBelow t (r .right) (r .q) k)
+    unfolding readsStep
+    reads-at limit k h =
+        ap (λ (f : ℕ → Bool). f k) (below-at (readsStep t) (λ (j : ℕ). false) limit n h)
+        ∙ rw (named .p, named .left, named .q, named .right, if-made (leftNode t n) n (pAt t n) k, if-made (rightNode t n) n (qAt t n) k)
+        (sym (or-assoc (isKey t n k) (leftNode t n && readsBelow t n (pAt t n) k) (rightNode t n && readsBelow t n (qAt t n) k)))
+
+    -- its own key, then those of its parts
+    pub reads-parts : (limit : ℕ) {w u v z : ℕ} → n < limit → Adds (isKey t n) w u → Adds (readsBelow t (r .left) (r .p)) u v → Adds (readsBelow t (r .right) (r .q)) v z → Adds (readsBelow t limit n) w z
+    reads-parts limit h a b c = adds-same (λ k. reads-at limit k h) (adds-both (adds-both a b) c)
