@@ -9,10 +9,10 @@ use native.Mathlib.Omega.{arith}
 use lib.Dec.{eqb, ltb}
 use lib.ListN.{getD}
 use borrow.Author.Tests.{eqb-true, eq-eqb}
-use Rattle.basis.specs.Numbers.{some, forEach}
+use Rattle.basis.specs.Numbers.{some}
 use Rattle.basis.specs.KeySets.{has, plus, plusAll}
-use Rattle.basis.proofs.Numbers.{some-at, some-witness, some-more, forEach-more, forEach-ext}
-use Rattle.basis.proofs.KeySets.{has-nothing}
+use Rattle.basis.proofs.Numbers.{some-at, some-witness, some-more}
+use Rattle.basis.proofs.KeySets.{has-nothing, plusAll-more, plusAll-ext}
 use Rattle.basis.proofs.Tests.{not-both, or-either, or-left, or-right, and-left, and-right, and-both, same-test}
 use Rattle.table.specs.Tables.{Table, kindAt, qAt}
 use Rattle.table.specs.Nodes.{isGuard}
@@ -25,24 +25,10 @@ use Rattle.state.specs.declared.Store.the-variants.{Entries}
 use Rattle.state.specs.Layout.{keyLimit, markAt, stampOf}
 use Rattle.state.specs.Evaluation.{reads}
 use Rattle.evaluation.specs.Reading.{Adds}
+use Rattle.evaluation.proofs.Adding.{adds-none, adds-same, adds-both}
 use Rattle.steps.specs.Acts.{guardsRead, labelReads, toConfirm}
 use Rattle.judging.specs.Judging.{Collected}
 use Rattle.acting.specs.Gaining.{hasEntry, markedReadsAt, markedReads, Gains}
-
--- the set with each key that passes: no key, one key more, and tests that agree
-pub plusAll-zero : (test : ℕ → Bool) (w : ℕ) → plusAll test 0 w ≡ w
-unfolding plusAll forEach
-plusAll-zero test w = refl
-
-pub plusAll-more : (test : ℕ → Bool) (n w : ℕ) → plusAll test (n + 1) w ≡ cond (test n) (plus (plusAll test n w) n) (plusAll test n w)
-unfolding plusAll
-plusAll-more test n w = forEach-more (λ k v. cond (test k) (plus v k) v) n w
-
-pub plusAll-ext : (f g : ℕ → Bool) (n w : ℕ) → ((k : ℕ) → k < n → f k ≡ g k) → plusAll f n w ≡ plusAll g n w
-unfolding plusAll
-plusAll-ext f g n w h =
-    forEach-ext (λ k v. cond (f k) (plus v k) v) (λ k v. cond (g k) (plus v k) v) n w
-    (λ k l. ap (λ b. cond b (plus (plusAll f k w) k) (plusAll f k w)) (h k l))
 
 -- one key more of those that have an entry
 pub entry-more : (s : List ℕ) (x keys key found at : ℕ) (h b : Bool) (next : ℕ) → h ≡ has keys key → at ≡ markAt (Entries x) key → found ≡ plusAll (hasEntry s x keys) key 0
@@ -50,48 +36,24 @@ pub entry-more : (s : List ℕ) (x keys key found at : ℕ) (h b : Bool) (next :
 entry-more s x keys key found at h b next e f g i j =
     j ∙ rw (← i, e, f, g) (sym (plusAll-more (hasEntry s x keys) key 0))
 
--- nothing is added, then one test's keys, then another's
-pub adds-none : (test : ℕ → Bool) (w : ℕ) → ((k : ℕ) → test k ≡ false) → Adds test w w
-adds-none test w h = record { keys = λ k l. by k (has w k); small = λ i. i }
-  where
-    by : (k : ℕ) (b : Bool) → b ≡ (b || test k)
-    by k true = refl
-    by k false = sym (h k)
-
-pub adds-both : (f g : ℕ → Bool) (w v r : ℕ) → Adds f w v → Adds g v r → Adds (λ (k : ℕ). f k || g k) w r
-adds-both f g w v r a b =
-    record {
-      keys = λ k l. b .keys k l ∙ ap (λ e. e || g k) (a .keys k l) ∙ by (has w k) (f k) (g k);
-      small = λ h. b .small (a .small h);
-    }
-  where
-    by : (a b c : Bool) → ((a || b) || c) ≡ (a || (b || c))
-    by true b c = refl
-    by false b c = refl
-
-pub adds-same : (f g : ℕ → Bool) (w r : ℕ) → Adds f w r → ((k : ℕ) → f k ≡ g k) → Adds g w r
-adds-same f g w r a h = record { keys = λ k l. a .keys k l ∙ ap (λ b. has w k || b) (h k); small = a .small }
-
 -- a node that is a marked guard, or is not
 module _ (t : Table) (marks : List ℕ) (n w : ℕ) (guard : Bool) (is : guard ≡ isGuard (kindAt t n)) where
   counts : (b : Bool) → (guard && isMarked marks n) ≡ b → (isGuard (kindAt t n) && isMarked marks n) ≡ b
   counts b e = ap (λ g. g && isMarked marks n) (sym is) ∙ e
 
   pub node-marked : (guard && isMarked marks n) ≡ true → (r : ℕ) → Adds (reads t n) w r → Adds (markedReadsAt t marks n) w r
-  node-marked e r a = adds-same (reads t n) (markedReadsAt t marks n) w r a (λ k. sym (ap (λ b. b && reads t n k) (counts true e)))
+  node-marked e r a = adds-same (λ k. ap (λ b. b && reads t n k) (counts true e)) a
 
   pub node-other : (guard && isMarked marks n) ≡ false → Adds (markedReadsAt t marks n) w w
-  node-other e = adds-none (markedReadsAt t marks n) w (λ k. ap (λ b. b && reads t n k) (counts false e))
+  node-other e = adds-none (λ k l. ap (λ b. b && reads t n k) (counts false e))
 
 -- one node more
 pub nodes-none : (t : Table) (marks : List ℕ) (w : ℕ) → Adds (markedReads t marks 0) w w
 unfolding some
-nodes-none t marks w = adds-none (markedReads t marks 0) w (λ k. refl)
+nodes-none t marks w = adds-none (λ k l. refl)
 
 pub nodes-more : (t : Table) (marks : List ℕ) (n w v r : ℕ) → Adds (markedReads t marks n) w v → Adds (markedReadsAt t marks n) v r → Adds (markedReads t marks (n + 1)) w r
-nodes-more t marks n w v r a b =
-    adds-same (λ (k : ℕ). markedReads t marks n k || markedReadsAt t marks n k) (markedReads t marks (n + 1)) w r
-    (adds-both (markedReads t marks n) (markedReadsAt t marks n) w v r a b) (λ k. sym (some-more (λ (b : ℕ). markedReadsAt t marks b k) n))
+nodes-more t marks n w v r a b = adds-same (λ k. some-more (λ (b : ℕ). markedReadsAt t marks b k) n) (adds-both a b)
 
 -- THE MARKED GUARDS are those of a list
 module _ (t : Table) (was : List ℕ) (x : ℕ) where
@@ -135,11 +97,11 @@ module _ (t : Table) (was : List ℕ) (x : ℕ) where
 -- WHAT AN ACTION'S EXPRESSION READS
 module _ (t : Table) (was : List ℕ) (x : ℕ) (does : Does) where
   pub label-none : does ≡ Ticking → (w : ℕ) → Adds (labelReads t was x (labelOf does)) w w
-  label-none e w = adds-none (labelReads t was x (labelOf does)) w (λ k. ap (λ (d : Does). labelReads t was x (labelOf d) k) e)
+  label-none e w = adds-none (λ k l. ap (λ (d : Does). labelReads t was x (labelOf d) k) e)
 
   pub label-expression : {n : ℕ} → does ≡ Acting n → (q : ℕ) → q ≡ qAt t n → (w r : ℕ) → Adds (reads t q) w r → Adds (labelReads t was x (labelOf does)) w r
   label-expression e q f w r a =
-      adds-same (reads t q) (labelReads t was x (labelOf does)) w r a (λ k. ap (λ (m : ℕ). reads t m k) f ∙ sym (ap (λ (d : Does). labelReads t was x (labelOf d) k) e))
+      adds-same (λ k. ap (λ (d : Does). labelReads t was x (labelOf d) k) e ∙ sym (ap (λ (m : ℕ). reads t m k) f)) a
 
 -- WHAT ZC GAINS
 pub gains : (t : Table) (was : List ℕ) (x : ℕ) (marks : List ℕ) (does : Does) (v r : ℕ)

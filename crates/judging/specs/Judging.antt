@@ -4,7 +4,7 @@ use mathlib.Core.Bool.{true, not}
 use mathlib.Core.Path.{_≡_}
 use mathlib.Core.List.{List}
 use lib.Dec.{eqb}
-use lib.ListN.{length}
+use lib.ListN.{length, getD}
 use Rattle.value.specs.declared.Value.the-variants.{Present}
 use Rattle.table.specs.Checks.{Check, refuseIf, firstOf}
 use Rattle.table.specs.Tables.{Table, kindAt}
@@ -16,6 +16,11 @@ use Rattle.choice.specs.Outcomes.{labelOf}
 use Rattle.steps.specs.Acts.{actChecks, chosen, valueFor}
 use Rattle.steps.proofs.Steps.{Able}
 use Rattle.judging.specs.declared.Judgement.{Judgement}
+
+-- there is a byte for each node, and none is marked
+pub record Unmarked (t : Table) (marks : List ℕ) : Type 0 where
+  pub room : t .sizes .nodes ≤ length marks
+  pub zero : (n : ℕ) → getD marks n 0 ≡ 0
 
 -- the marked guards are those of a list, which are guards of the table
 pub record Collected (t : Table) (gs marks : List ℕ) : Type 0 where

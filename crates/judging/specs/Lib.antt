@@ -1,1 +1,4 @@
 pub mod Judging
+pub mod Guards
+pub mod Outcomes
+pub mod Residuals

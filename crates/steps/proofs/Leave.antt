@@ -1,17 +1,16 @@
 -- What is left after an act: the residual's length and words are those of the new term, 0 comes after, and nothing else changes.
 -- Assumes nothing.
-use Prim.Native.Nat.{ℕ, zero, suc, _+_, _-_, _^_, _<_, _≤_}
+use Prim.Native.Nat.{ℕ, _+_, _-_, _^_, _<_, _≤_}
 use mathlib.Core.Bool.{true, false}
-use mathlib.Core.Logic.{⊎-elim}
 use mathlib.Core.Path.{_≡_, refl, sym, ap, _∙_}
 use mathlib.Core.List.{List, _++_, append-assoc}
 use native.Mathlib.Omega.{arith}
-use lib.ListN.{length, getD, set, take, drop, replicate, length-set, length-append, length-replicate, getD-replicate, List·getD-append, List·getD-eq-default}
-use lib.Seq.{paste, paste-zero, paste-suc, take-all, drop-drop, getD-append-add}
+use lib.ListN.{length, getD, set, take, drop, replicate, length-set}
+use lib.Seq.{take-all, drop-drop}
 use borrow.Author.Tests.{ne-eqb}
 use Rattle.basis.specs.Numbers.{forEach}
 use Rattle.basis.proofs.Numbers.{forEach-same, forEach-at, forEach-keeps, forEach-ext}
-use Rattle.basis.proofs.Tests.{lt-or-le}
+use Rattle.basis.proofs.Lists.{padded-length, padded-at, forEach-paste}
 use Rattle.term.specs.Acceptance.{stateWords}
 use Rattle.term.specs.Terms.{Term, words}
 use Rattle.term.proofs.Words.{Low}
@@ -88,42 +87,18 @@ module _ (x : ℕ) (ws s : List ℕ) where
       (λ i l. leave-other x ws s (Residual a i) l refl (λ j m. other-agent (Residual a i) (Residual x j) d))
 
 -- THE SAME AS A PART of the state that becomes the words, with 0 after them
-module _ (at : ℕ) (zs s : List ℕ) where
-  abbrev put : ℕ → List ℕ → List ℕ
-  put i u = set u (at + i) (getD zs i 0)
-
-  pasted : (n : ℕ) → at + n ≤ length s → n ≤ length zs → forEach put n s ≡ paste s at zs n
-  unfolding forEach
-  pasted zero h l = paste-zero s at zs
-  pasted (suc n) h l = ap (λ (u : List ℕ). put n u) (pasted n (omega arith) (omega arith)) ∙ paste-suc s at zs n 0 (omega arith) (omega arith)
-
-module _ (ws : List ℕ) (n : ℕ) (short : length ws ≤ n) where
-  abbrev filled : List ℕ
-  filled = ws ++ replicate (n - length ws) 0
-
-  filled-length : length filled ≡ n
-  filled-length = omega (arith, length-append ws (replicate (n - length ws) 0), length-replicate {A = ℕ} (n - length ws) 0)
-
-  filled-at : (i : ℕ) → i < n → getD filled i 0 ≡ getD ws i 0
-  filled-at i l =
-      ⊎-elim (λ (h : i < length ws). List·getD-append ws (replicate (n - length ws) 0) 0 i h)
-      (λ (h : length ws ≤ i).
-      let e : i ≡ length ws + (i - length ws) = omega arith in
-      ap (λ (j : ℕ). getD filled j 0) e ∙ getD-append-add ws (replicate (n - length ws) 0) (i - length ws) 0
-      ∙ getD-replicate (n - length ws) (i - length ws) 0 0 (omega arith) ∙ sym (List·getD-eq-default ws 0 h)) (lt-or-le i (length ws))
-
 pub leave-part : (x : ℕ) (ws s : List ℕ) → length s ≡ stateWords → x < 32 → length ws ≤ residualWords
     → set (take (residualAt x) s ++ ((ws ++ replicate (residualWords - length ws) 0) ++ drop residualWords (drop (residualAt x) s))) (lengthAt x) (length ws) ≡ leave x ws s
 unfolding leave
 leave-part x ws s whole there short =
     let n = residualWords in
     let at = residualAt x in
-    let zs = filled ws n short in
-    let long = filled-length ws n short in
+    let zs = ws ++ replicate (n - length ws) 0 in
+    let long = padded-length ws n short in
     let fits = place-fits (Residual x (residualWords - 1)) (omega arith) there in
     ap (λ (u : List ℕ). set u (lengthAt x) (length ws))
     (ap (λ (u : List ℕ). take at s ++ (zs ++ u)) (drop-drop n at s)
     ∙ sym (append-assoc (take at s) zs (drop (at + n) s))
     ∙ ap (λ (u : List ℕ). (take at s ++ u) ++ drop (at + n) s) (sym (take-all n zs (omega arith)))
-    ∙ sym (pasted at zs s n (omega arith) (omega arith))
-    ∙ forEach-ext (put at zs s) (copy x ws s) n s (λ i l. ap (λ (v : ℕ). set (forEach (put at zs s) i s) (at + i) v) (filled-at ws n short i l)))
+    ∙ sym (forEach-paste at zs s n (omega arith) (omega arith))
+    ∙ forEach-ext (copy x zs s) (copy x ws s) n s (λ i l. ap (λ (v : ℕ). set (copied x zs s i) (at + i) v) (padded-at ws n short i l)))

@@ -7,9 +7,10 @@ use native.Mathlib.Omega.{arith}
 use denote.Ref.{now}
 use borrow.Author.Needs.{needs}
 use Rattle.basis.specs.KeySets.{plusAll}
+use Rattle.basis.proofs.KeySets.{plusAll-zero}
 use Rattle.state.specs.Layout.{keyLimit}
 use Rattle.acting.specs.Gaining.{hasEntry}
-use Rattle.acting.proofs.Gains.{plusAll-zero, entry-more}
+use Rattle.acting.proofs.Gains.{entry-more}
 use Rattle.acting.proofs.gaining.with_entry.Statement.{statement}
 use Rattle.acting.proofs.gaining.with_entry.Tie as tie
 use Rattle.acting.proofs.gaining.with_entry.Reads as reads

@@ -1,0 +1,98 @@
+-- The guards of a list all hold where no marked guard fails.
+-- Assumes nothing.
+use Prim.Native.Nat.{ℕ, _<_}
+use mathlib.Core.Bool.{Bool, true, false, not, _&&_, _||_}
+use mathlib.Core.Logic.{⊎-elim}
+use mathlib.Core.Path.{_≡_, refl, sym, ap, _∙_}
+use mathlib.Core.List.{List, [], _∷_}
+use native.Mathlib.Omega.{arith}
+use lib.Dec.{eqb}
+use lib.ListN.{getD}
+use borrow.Author.Tests.{eqb-true, eq-eqb, ne-eqb, not-false}
+use Rattle.basis.proofs.Tests.{not-both, and-left, and-right, and-both, or-left, or-right, or-either}
+use Rattle.table.specs.Tables.{Table, kindAt, firstRoot}
+use Rattle.table.specs.Nodes.{isGuard}
+use Rattle.term.proofs.Each.{Each}
+use Rattle.term.proofs.Inside.{GuardNode}
+use Rattle.state.specs.Evaluation.{holds}
+use Rattle.choice.specs.Marking.{isMarked, isIn, Marked}
+use Rattle.steps.specs.Acts.{allHold}
+use Rattle.judging.specs.Judging.{Unmarked, Collected}
+use Rattle.judging.specs.Guards.{failsAt}
+
+-- what every element has, an element has
+is-in-each : (P : ℕ → Type 0) (gs : List ℕ) → Each P gs → (b : ℕ) → isIn b gs ≡ true → P b
+unfolding isIn
+is-in-each P [] h b e = absurd (not-both e refl)
+is-in-each P (g ∷ gs) h b e =
+    ⊎-elim (λ (f : eqb b g ≡ true). let i : b ≡ g = eqb-true b g f in rw i (h .0))
+    (λ (f : isIn b gs ≡ true). is-in-each P gs (h .1) b f) (or-either (eqb b g) (isIn b gs) e)
+
+-- guards that are marked where nothing was before
+pub collected : (t : Table) (gs ms out : List ℕ) → Each (GuardNode t) gs → Unmarked t ms → Marked t gs ms out → Collected t gs out
+collected t gs ms out each none m =
+    record {
+      room = m .marks .room;
+      guards = λ b e. m .guards b e ∙ ap (λ (x : Bool). x || isIn b gs) (ne-eqb (getD ms b 0) 1 (λ e. omega (arith, none .zero b)));
+      nodes = λ b e. let g = is-in-each (GuardNode t) gs each b e in (omega arith, g .1);
+    }
+
+module _ (t : Table) (was : List ℕ) (x : ℕ) where
+  all-held : (gs : List ℕ) → ((b : ℕ) → isIn b gs ≡ true → holds t was x x b ≡ true) → allHold t was x gs ≡ true
+  unfolding isIn
+  all-held [] h = refl
+  all-held (g ∷ gs) h =
+      and-both (holds t was x x g) (allHold t was x gs) (h g (or-left (eqb g g) (isIn g gs) (eq-eqb g g refl)))
+      (all-held gs (λ b e. h b (or-right (eqb b g) (isIn b gs) e)))
+
+  one-fails : (gs : List ℕ) (b : ℕ) → isIn b gs ≡ true → holds t was x x b ≡ false → allHold t was x gs ≡ false
+  unfolding isIn
+  one-fails [] b e f = absurd (not-both e refl)
+  one-fails (g ∷ gs) b e f =
+      ⊎-elim (λ (d : eqb b g ≡ true). let i : b ≡ g = eqb-true b g d in by-left (ap (holds t was x x) (sym i) ∙ f))
+      (λ (d : isIn b gs ≡ true). by-right (one-fails gs b d f)) (or-either (eqb b g) (isIn b gs) e)
+    where
+      by-left : holds t was x x g ≡ false → (holds t was x x g && allHold t was x gs) ≡ false
+      by-left d = rw d
+
+      by-right : allHold t was x gs ≡ false → (holds t was x x g && allHold t was x gs) ≡ false
+      by-right d = no (holds t was x x g) (allHold t was x gs) d
+        where
+          no : (p q : Bool) → q ≡ false → (p && q) ≡ false
+          no true q d = d
+          no false q d = refl
+
+  -- whether node n fails, by its kind and its mark
+  module _ (ms : List ℕ) (n : ℕ) (guard : Bool) (e : guard ≡ isGuard (kindAt t n)) where
+    pub fails-asked : (guard && isMarked ms n) ≡ true → (h : Bool) → h ≡ holds t was x x n → not h ≡ failsAt t was x ms n
+    unfolding failsAt
+    fails-asked f h d = ap not d ∙ sym (ap (λ (b : Bool). b && not (holds t was x x n)) (ap (λ (b : Bool). b && isMarked ms n) (sym e) ∙ f))
+
+    pub fails-not : (guard && isMarked ms n) ≡ false → false ≡ failsAt t was x ms n
+    unfolding failsAt
+    fails-not f = sym (ap (λ (b : Bool). b && not (holds t was x x n)) (ap (λ (b : Bool). b && isMarked ms n) (sym e) ∙ f))
+
+  module _ (ms gs : List ℕ) (marks : Collected t gs ms) where
+    -- where no node fails, every guard holds
+    pub none-fails : ((n : ℕ) → n < t .sizes .nodes → failsAt t was x ms n ≡ false) → allHold t was x gs ≡ true
+    unfolding failsAt
+    none-fails h = all-held gs (λ b e. held b e (marks .nodes b e))
+      where
+        held : (b : ℕ) → isIn b gs ≡ true → (b < t .sizes .nodes) × (isGuard (kindAt t b) ≡ true) → holds t was x x b ≡ true
+        held b e g = by (and-both (isGuard (kindAt t b)) (isMarked ms b) (g .1) (marks .guards b (g .1) ∙ e)) (h b (g .0))
+          where
+            by : (isGuard (kindAt t b) && isMarked ms b) ≡ true → ((isGuard (kindAt t b) && isMarked ms b) && not (holds t was x x b)) ≡ false → holds t was x x b ≡ true
+            by d f = not-false (holds t was x x b) (rw d at f)
+
+    -- where one fails, some guard does not hold
+    pub some-fails : (n : ℕ) → failsAt t was x ms n ≡ true → allHold t was x gs ≡ false
+    unfolding failsAt
+    some-fails n e =
+        let asked = and-left (isGuard (kindAt t n) && isMarked ms n) (not (holds t was x x n)) e in
+        let guard = and-left (isGuard (kindAt t n)) (isMarked ms n) asked in
+        one-fails gs n (sym (marks .guards n guard) ∙ and-right (isGuard (kindAt t n)) (isMarked ms n) asked)
+        (no (holds t was x x n) (and-right (isGuard (kindAt t n) && isMarked ms n) (not (holds t was x x n)) e))
+      where
+        no : (p : Bool) → not p ≡ true → p ≡ false
+        no true d = sym d
+        no false d = refl

@@ -1,0 +1,107 @@
+-- `judging::acts::judge` meets its contract.
+-- Assumes nothing.
+use native.Mathlib.Omega.{arith}
+use borrow.Author.Needs.{needs}
+use denote.Ref.{now}
+use Rattle.table.specs.Tables.{Table, table}
+use Rattle.judging.proofs.Deciding.{agent-11, agent-posed}
+use Rattle.judging.proofs.acts.judge.Statement.{statement}
+use Rattle.judging.proofs.acts.judge.Tie as tie
+
+abbrev here : tie.Start → Table
+here a = table (a .args .sizes) (now (a .args .kinds)) (now (a .args .operands))
+
+zc-at-requires : tie.Need-zc-at-requires
+zc-at-requires c κs = search needs
+
+zp-at-requires : tie.Need-zp-at-requires
+zp-at-requires c κs = search needs
+
+mul-if1 : tie.Need-mul-if1
+mul-if1 c = search needs
+
+shared-slice-read-if1 : tie.Need-shared-slice-read-if1
+shared-slice-read-if1 c = search needs
+
+mul-if1-2 : tie.Need-mul-if1-2
+mul-if1-2 c = search needs
+
+shared-slice-read-if1-2 : tie.Need-shared-slice-read-if1-2
+shared-slice-read-if1-2 c = search needs
+
+refused-requires : tie.Need-refused-requires
+refused-requires c κs = search needs
+
+returns : tie.Need-returns
+returns c =
+    let a = c .before .before .before .before .before .before .before .before .before .before .before in
+    agent-11 (here a) (now (a .args .state)) (a .args .agent) _ _ (c .before .before .before .before .before .zc-at .ensures .is) (c .before .before .before .before .zp-at .ensures .is) (c .before .if1 .taken) (a .args .c) _ (c .refused .result) (c .refused .ensures)
+
+length-at-requires : tie.Need-length-at-requires
+length-at-requires c κs = search needs
+
+mul-size : tie.Need-mul-size
+mul-size c = search needs
+
+shared-slice-read-size : tie.Need-shared-slice-read-size
+shared-slice-read-size c = search needs
+
+cast-size : tie.Need-cast-size
+cast-size c = omega (arith, c .shared-slice-known7 .given (c .before .length-at .result))
+
+residual-at-requires : tie.Need-residual-at-requires
+residual-at-requires c κs = search needs
+
+add-end : tie.Need-add-end
+add-end c = search needs
+
+mul-judge-choice : tie.Need-mul-judge-choice
+mul-judge-choice c = search needs
+
+sub-judge-choice : tie.Need-sub-judge-choice
+sub-judge-choice c = search needs
+
+part-judge-choice-start : tie.Need-part-judge-choice-start
+part-judge-choice-start c = search needs
+
+part-judge-choice-end : tie.Need-part-judge-choice-end
+part-judge-choice-end c = search needs
+
+judge-choice-requires : tie.Need-judge-choice-requires
+judge-choice-requires c κs =
+    let a = c .before .before .before .before .before .before .before .before .before .before .before .before .before .before .before in (
+      agent-posed (here a) (now (a .args .state)) (a .args .agent) _ _ (c .before .before .before .before .before .before .before .before .before .zc-at .ensures .is) (c .before .before .before .before .before .before .before .before .zp-at .ensures .is) (c .before .before .before .before .before .if1 .left) (a .pre .0) (a .pre .1 .0) (a .pre .1 .1 .0) _ (c .before .before .before .before .length-at .ensures .is) _ (c .before .before .residual-at .ensures .is),
+      a .pre .1 .1 .1,
+    )
+
+same-length : tie.Need-same-length
+same-length c = search needs
+
+returns-2 : tie.Need-returns-2
+returns-2 c = search needs
+
+pub judge-spec : {M : Type 1} → statement M
+judge-spec =
+    tie.close
+    (tie.spec
+    zc-at-requires
+    zp-at-requires
+    mul-if1
+    shared-slice-read-if1
+    mul-if1-2
+    shared-slice-read-if1-2
+    refused-requires
+    returns
+    length-at-requires
+    mul-size
+    shared-slice-read-size
+    cast-size
+    residual-at-requires
+    add-end
+    mul-judge-choice
+    sub-judge-choice
+    part-judge-choice-start
+    part-judge-choice-end
+    judge-choice-requires
+    same-length
+    returns-2)

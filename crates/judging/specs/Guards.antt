@@ -1,0 +1,23 @@
+-- Refusal 14: the guards that are asked are those that are marked.
+use Prim.Native.Nat.{ℕ, _<_, _≤_}
+use mathlib.Core.Bool.{Bool, not, _&&_}
+use mathlib.Core.Path.{_≡_}
+use mathlib.Core.List.{List}
+use lib.ListN.{length}
+use Rattle.table.specs.Tables.{Table, kindAt}
+use Rattle.table.specs.Sound.{Shaped}
+use Rattle.table.specs.Nodes.{isGuard}
+use Rattle.term.specs.Acceptance.{stateWords}
+use Rattle.state.specs.Evaluation.{holds}
+use Rattle.choice.specs.Marking.{isMarked}
+
+-- agent x can ask guards of the table in a state, by marks of its nodes
+pub record Asks (t : Table) (was : List ℕ) (x : ℕ) (marks : List ℕ) : Type 0 where
+  pub shaped : Shaped t
+  pub whole : length was ≡ stateWords
+  pub agent : x < 32
+  pub room : t .sizes .nodes ≤ length marks
+
+-- node n is a marked guard that does not hold
+unfoldable pub failsAt : Table → List ℕ → ℕ → List ℕ → ℕ → Bool
+failsAt t was x marks n = (isGuard (kindAt t n) && isMarked marks n) && not (holds t was x x n)

@@ -1,0 +1,91 @@
+// An act judged, in the order of the refusals.
+use crate::Judgement;
+use crate::guards::all_hold;
+use crate::outcomes::judge_outcome;
+use crate::outcomes::refused;
+use residual::choosing::choices;
+use residual::choosing::collect;
+use residual::choosing::outcome;
+use state::length_at;
+use state::residual_at;
+use state::zc_at;
+use state::zp_at;
+use table::Sizes;
+ghost use Prim.Native.Nat.{_<_};
+ghost use Rattle.table.specs.Tables.{table};
+ghost use Rattle.choice.specs.Turns.{Ready};
+ghost use Rattle.state.proofs.Formed.{Proper};
+ghost use Rattle.judging.specs.Judging.{Unmarked, Judges};
+ghost use Rattle.judging.specs.Residuals.{Posed};
+
+// 12 to 17 of choice c, where no key waits; these are the agent's residual words, and how many of them it uses.
+fn judge_choice(
+    sizes: Sizes,
+    kinds: &[u8],
+    operands: &[u8],
+    scratch: &[u32],
+    state: &[u32],
+    words: &[u32],
+    size: usize,
+    marks: &mut [u8],
+    agent: usize,
+    c: u64,
+) -> Judgement
+    requires { ⌜ Posed (table sizes (now kinds) (now operands)) (now scratch) (now state) agent size (now words) ⌝ }
+    requires { ⌜ Unmarked (table sizes (now kinds) (now operands)) (now marks) ⌝ }
+    ensures { λ r. ⌜ Judges (table sizes (now (kinds .entry)) (now (operands .entry))) (now (state .entry)) agent c (now (marks .exit)) r ⌝ }
+{
+    let all = choices(sizes, kinds, operands, scratch, words, size);
+    if !all.few {
+        return refused(12);
+    }
+    if all.count <= c {
+        return refused(13);
+    }
+    collect(sizes, kinds, operands, scratch, marks, words, size, c);
+    if !all_hold(sizes, kinds, operands, state, marks, agent) {
+        return refused(14);
+    }
+    let o = outcome(sizes, kinds, operands, scratch, words, size, c);
+    judge_outcome(sizes, kinds, operands, state, agent, o)
+}
+
+// Choice c of an agent, by marks of a byte for each node, which are then those of its guards.
+pub fn judge(
+    sizes: Sizes,
+    kinds: &[u8],
+    operands: &[u8],
+    scratch: &[u32],
+    state: &[u32],
+    marks: &mut [u8],
+    agent: usize,
+    c: u64,
+) -> Judgement
+    requires { ⌜ Ready (table sizes (now kinds) (now operands)) (now scratch) ⌝ }
+    requires { ⌜ Proper (table sizes (now kinds) (now operands)) (now state) ⌝ }
+    requires { ⌜ agent < sizes .agents ⌝ }
+    requires { ⌜ Unmarked (table sizes (now kinds) (now operands)) (now marks) ⌝ }
+    ensures { λ r. ⌜ Judges (table sizes (now (kinds .entry)) (now (operands .entry))) (now (state .entry)) agent c (now (marks .exit)) r ⌝ }
+{
+    let zc = zc_at(agent);
+    let zp = zp_at(agent);
+    if (state[zc] != 0) | (state[zp] != 0) {
+        return refused(11);
+    }
+    let place = length_at(agent);
+    let size = state[place] as usize;
+    let at = residual_at(agent);
+    let end = at + 63;
+    judge_choice(
+        sizes,
+        kinds,
+        operands,
+        scratch,
+        state,
+        &state[at..end],
+        size,
+        marks,
+        agent,
+        c,
+    )
+}

@@ -1,0 +1,83 @@
+// Refusals 15 to 17: the value that an action sets, the clock, and the length of what is left.
+use crate::Judgement;
+use choice::Does;
+use choice::Outcome;
+use evaluation::value_of;
+use table::Sizes;
+use table::q_at;
+use value::Value;
+ghost use mathlib.Core.Path.{_≡_};
+ghost use Rattle.table.specs.Tables.{table};
+ghost use Rattle.term.specs.Processes.{acts};
+ghost use Rattle.choice.specs.Outcomes.{labelOf};
+ghost use Rattle.judging.specs.Outcomes.{refusedBy, sized as sizedOf, Doing, Ends};
+
+pub fn refused(number: u8) -> Judgement
+    ensures { λ r. ⌜ r ≡ refusedBy number ⌝ }
+{
+    Judgement {
+        refusal: number,
+        does: Does::Ticking,
+        value: 0,
+    }
+}
+
+// 17.
+fn sized(does: Does, value: u32, size: usize) -> Judgement
+    ensures { λ r. ⌜ r ≡ sizedOf does value size ⌝ }
+{
+    if 63 < size {
+        return refused(17);
+    }
+    Judgement {
+        refusal: 0,
+        does,
+        value,
+    }
+}
+
+// 15 and 16 of the action at node n, and then 17.
+fn judge_action(
+    sizes: Sizes,
+    kinds: &[u8],
+    operands: &[u8],
+    state: &[u32],
+    agent: usize,
+    n: usize,
+    size: usize,
+) -> Judgement
+    requires { ⌜ Doing (table sizes (now kinds) (now operands)) (now state) agent (acts n) ⌝ }
+    ensures { λ r. ⌜ Ends (table sizes (now (kinds .entry)) (now (operands .entry))) (now (state .entry)) agent (acts n) size r ⌝ }
+{
+    let q = q_at(operands, n);
+    let value = value_of(sizes, kinds, operands, state, agent, agent, q);
+    match value {
+        Value::Absent => refused(15),
+        Value::Present(word) => {
+            if (kinds[n] == 3) & (65535 <= state[0]) {
+                return refused(16);
+            }
+            sized(Does::Acting(n), word, size)
+        }
+    }
+}
+
+// A tick sets nothing.
+pub fn judge_outcome(
+    sizes: Sizes,
+    kinds: &[u8],
+    operands: &[u8],
+    state: &[u32],
+    agent: usize,
+    o: Outcome,
+) -> Judgement
+    requires { ⌜ Doing (table sizes (now kinds) (now operands)) (now state) agent (labelOf (o .does)) ⌝ }
+    ensures { λ r. ⌜ Ends (table sizes (now (kinds .entry)) (now (operands .entry))) (now (state .entry)) agent (labelOf (o .does)) (o .size) r ⌝ }
+{
+    let does = o.does;
+    let size = o.size;
+    match does {
+        Does::Ticking => sized(Does::Ticking, 0, size),
+        Does::Acting(n) => judge_action(sizes, kinds, operands, state, agent, n, size),
+    }
+}
