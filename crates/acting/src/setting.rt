@@ -1,4 +1,5 @@
 // The key that an action sets.
+use choice::Does;
 use state::Store;
 use state::add_key;
 use state::put;
@@ -7,10 +8,12 @@ use table::Sizes;
 use table::p_at;
 ghost use mathlib.Core.Path.{_≡_};
 ghost use mathlib.Core.List.{[], _∷_};
-ghost use Prim.Native.Nat.{_-_, _<_};
+ghost use Prim.Native.Nat.{ℕ, _-_, _<_};
 ghost use lib.ListN.{getD};
 ghost use Rattle.table.specs.Tables.{table};
 ghost use Rattle.term.specs.Processes.{acts};
+ghost use Rattle.choice.specs.declared.Does.the-variants.{Acting};
+ghost use Rattle.choice.specs.Outcomes.{labelOf};
 ghost use Rattle.state.specs.declared.Store.the-variants.{Environment, Attributes, Entries};
 ghost use Rattle.steps.specs.Acts.{setKey};
 ghost use Rattle.acting.specs.Acting.{Setting, Entering, entered};
@@ -41,7 +44,7 @@ fn write_entry(state: &mut [u32], agent: usize, key: usize, value: u32)
     state[0] = stamp;
 }
 
-pub fn set_key(
+fn set_key(
     sizes: Sizes,
     kinds: &[u8],
     operands: &[u8],
@@ -60,5 +63,26 @@ pub fn set_key(
     } else {
         let store = store_of(kind, agent);
         put(state, store, key, value, 1);
+    }
+}
+
+// The key of an act is set; a tick has none.
+pub fn set_label(
+    sizes: Sizes,
+    kinds: &[u8],
+    operands: &[u8],
+    state: &mut [u32],
+    agent: usize,
+    does: Does,
+    value: u32,
+)
+    requires { ⌜ ((n : ℕ) → does ≡ Acting n → Setting (table sizes (now kinds) (now operands)) (now state) agent n value) ⌝ }
+    ensures { λ _. ⌜ now (state .exit) ≡ setKey (table sizes (now (kinds .entry)) (now (operands .entry))) (now (state .entry)) agent (labelOf does) ⌝ }
+{
+    match does {
+        Does::Ticking => {}
+        Does::Acting(node) => {
+            set_key(sizes, kinds, operands, state, agent, node, value);
+        }
     }
 }
