@@ -74,23 +74,22 @@ module _ (t : Table) (scratch : List ℕ) (ready : Ready t scratch) (was : List 
           shaped = ready .checked .sound .shaped;
           whole = proper .whole;
           agent = low;
-          node = omega arith;
-          low = a .1;
+          action = a;
           key = action-key t was x (ready .checked .sound) n a;
           room = λ k. d .able .room (ap (writesEntry t was x) (sym l) ∙ eq-eqb (kindAt t n) 3 k);
           value = sym (ap wordIn (d .value n e));
         }
 
     -- AFTER THE KEY AND ZC
-    module _ (g : ℕ) (s : List ℕ) (is : s ≡ set (setKey t was x (labelOf does)) (zcAt x) g) where
-      abbrev keySet : List ℕ
-      keySet = setKey t was x (labelOf does)
-
+    module _ (g : ℕ) (keySet s : List ℕ) (set-key : keySet ≡ setKey t was x (labelOf does)) (set-zc : s ≡ set keySet (zcAt x) g) where
       long : length s ≡ length was
-      long = ap (λ (u : List ℕ). length u) is ∙ length-set keySet (zcAt x) g ∙ set-length t was x (labelOf does)
+      long = ap (λ (u : List ℕ). length u) set-zc ∙ length-set keySet (zcAt x) g ∙ ap (λ (u : List ℕ). length u) set-key ∙ set-length t was x (labelOf does)
+
+      key-still : (q : Place) → Still x q → SameAt keySet was q
+      key-still q h = ap (λ (u : List ℕ). wordAt u q) set-key ∙ label-other (labelOf does) labelled q h
 
       still : (q : Place) → Still x q → same q (Waits Zc x) ≡ false → SameAt s was q
-      still q h e = ap (λ (u : List ℕ). wordAt u q) is ∙ set-other keySet (Waits Zc x) g tt q (h .inside) e ∙ label-other (labelOf does) labelled q h
+      still q h e = ap (λ (u : List ℕ). wordAt u q) set-zc ∙ set-other keySet (Waits Zc x) g tt q (h .inside) e ∙ key-still q h
 
       same-size : SameAt s was (Length x)
       same-size = still (Length x) (record { inside = tt; clock = refl; waits = refl; mark = λ store k. refl; word = λ store k. refl }) refl
@@ -114,15 +113,16 @@ module _ (t : Table) (scratch : List ℕ) (ready : Ready t scratch) (was : List 
         short = rw same-chosen (d .able .short);
       }
 
-      same-zc : SameAt keySet was (Waits Zc x)
-      same-zc = label-other (labelOf does) labelled (Waits Zc x) (record { inside = tt; clock = refl; waits = refl; mark = λ store k. refl; word = λ store k. refl })
+      zc-empty : zcOf keySet x ≡ 0
+      zc-empty = key-still (Waits Zc x) (record { inside = tt; clock = refl; waits = refl; mark = λ store k. refl; word = λ store k. refl }) ∙ d .able .confirmed
+
+      is-key-set : keySet ≡ setKey t was x (D .label)
+      is-key-set = set-key ∙ ap (setKey t was x) (d .label)
 
       -- the residual comes last
-      pub decided-acted : Gains t was x marks does g → leave x (words (chosen t s x c .leaving)) s ≡ acted t was x (chosen t was x c)
+      pub decided-acted : Gains t was x marks does g → (out : List ℕ) → out ≡ leave x (words (chosen t s x c .leaving)) s → out ≡ acted t was x (chosen t was x c)
       unfolding acted
-      decided-acted gains =
-          let e : g ≡ plusAll (toConfirm t was x D) keyLimit (zcOf (setKey t was x (D .label)) x) =
-          gains D (d .label) (d .guards)
-          ∙ ap (λ (w : ℕ). plusAll (toConfirm t was x D) keyLimit w) (sym (ap (λ (l : Label). zcOf (setKey t was x l) x) (sym (d .label)) ∙ same-zc ∙ d .able .confirmed)) in
-          ap₂ (λ (e : Derivation) (u : List ℕ). leave x (words (e .leaving)) u) same-chosen
-          (is ∙ ap₂ (λ (l : Label) (w : ℕ). set (setKey t was x l) (zcAt x) w) (d .label) e)
+      decided-acted gains out o =
+          let e : g ≡ plusAll (toConfirm t was x D) keyLimit (zcOf keySet x) = gains D (d .label) (d .guards) ∙ ap (plusAll (toConfirm t was x D) keyLimit) (sym zc-empty) in
+          o ∙ ap₂ (λ (e : Derivation) (u : List ℕ). leave x (words (e .leaving)) u) same-chosen
+          (set-zc ∙ ap (set keySet (zcAt x)) e ∙ ap (λ (u : List ℕ). set u (zcAt x) (plusAll (toConfirm t was x D) keyLimit (zcOf u x))) is-key-set)

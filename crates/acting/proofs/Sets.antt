@@ -1,41 +1,44 @@
 -- The key that an action sets, as code sets it.
 -- Assumes nothing.
-use Prim.Native.Nat.{ℕ, zero, suc, _-_, _≤_, _<_}
-use mathlib.Core.Path.{_≡_, refl}
-use mathlib.Core.List.{List, [], _∷_}
+use Prim.Native.Nat.{ℕ, _≤_, _<_}
+use mathlib.Core.Path.{_≡_, refl, sym, ap, _∙_}
+use mathlib.Core.List.{List}
 use native.Mathlib.Omega.{arith}
-use lib.ListN.{getD}
 use Rattle.table.specs.Tables.{Table, kindAt, pAt}
 use Rattle.term.specs.Processes.{acts}
+use Rattle.choice.specs.declared.Does.{Does}
+use Rattle.choice.specs.declared.Does.the-variants.{Ticking, Acting}
+use Rattle.choice.specs.Outcomes.{labelOf}
 use Rattle.state.specs.declared.Store.{Store}
 use Rattle.state.specs.declared.Store.the-variants.{Environment, Attributes, Entries}
 use Rattle.state.specs.Layout.{put}
-use Rattle.state.specs.Standing.{storeAgent, Pair}
-use Rattle.steps.specs.Acts.{storeOf, setKey}
-use Rattle.steps.proofs.Acts.{set-entry, set-value}
-use Rattle.acting.specs.Acting.{entered, Setting}
+use Rattle.steps.specs.Acts.{setKey}
+use Rattle.steps.proofs.Acts.{store-attribute, store-entry, store-environment, set-tick, set-entry, set-value}
+use Rattle.acting.specs.Acting.{Stored, entered, Setting}
 
--- the third of the stores, and what comes after it
-pub third-store : (x k : ℕ) → 2 ≤ k → Environment ≡ getD (Attributes x ∷ Entries x ∷ Environment ∷ []) k Environment
-third-store x zero h = absurd (omega arith)
-third-store x (suc zero) h = absurd (omega arith)
-third-store x (suc (suc zero)) h = refl
-third-store x (suc (suc (suc k))) h = refl
+-- the store, by the kind
+module _ (x : ℕ) (there : x < 32) where
+  pub stored-attribute : (kind : ℕ) → kind ≡ 2 → Stored kind x (Attributes x)
+  stored-attribute kind e = record { is = λ t was n f. sym (store-attribute t was x n (f ∙ e)); agent = there }
 
-store-agent : (x k : ℕ) → x < 32 → storeAgent (getD (Attributes x ∷ Entries x ∷ Environment ∷ []) k Environment) < 32
-store-agent x zero h = h
-store-agent x (suc zero) h = h
-store-agent x (suc (suc zero)) h = omega arith
-store-agent x (suc (suc (suc k))) h = omega arith
+  pub stored-entry : (kind : ℕ) → kind ≡ 3 → Stored kind x (Entries x)
+  stored-entry kind e = record { is = λ t was n f. sym (store-entry t was x n (f ∙ e)); agent = there }
 
-module _ (t : Table) (s : List ℕ) (x n v : ℕ) (a : Setting t s x n v) where
-  pub entered-is : kindAt t n ≡ 3 → (k : ℕ) → k ≡ pAt t n → entered s x k v ≡ setKey t s x (acts n)
+  pub stored-environment : (kind : ℕ) → kind ≡ 4 → Stored kind x Environment
+  stored-environment kind e = record { is = λ t was n f. sym (store-environment t was x n (f ∙ e)); agent = omega arith }
+
+module _ (t : Table) (s : List ℕ) (x n v : ℕ) (a : Setting t s x n v) (k : ℕ) (key : k ≡ pAt t n) (out : List ℕ) where
+  pub entered-is : kindAt t n ≡ 3 → out ≡ entered s x k v → out ≡ setKey t s x (acts n)
   unfolding entered
-  entered-is e k f = rw (set-entry t s x n e, f, a .value)
+  entered-is e o = o ∙ rw (set-entry t s x n e, key, a .value)
 
-  module _ (store : Store) (of : store ≡ storeOf t s x n) (k : ℕ) (key : k ≡ pAt t n) where
-    pub setting-pair : Pair store k
-    setting-pair = record { agent = rw of (store-agent x (kindAt t n - 2) (a .agent)); key = rw key (a .key) }
+  pub stored-is : (kindAt t n ≡ 3 → ⊥) → (store : Store) → Stored (kindAt t n) x store → out ≡ put store k v 1 s → out ≡ setKey t s x (acts n)
+  stored-is d store h o = let e = h .is t s n refl in o ∙ rw (set-value t s x n d, e, key, a .value)
 
-  pub stored-is : (kindAt t n ≡ 3 → ⊥) → (store : Store) → store ≡ storeOf t s x n → (k : ℕ) → k ≡ pAt t n → put store k v 1 s ≡ setKey t s x (acts n)
-  stored-is d store e k f = rw (set-value t s x n d, e, f, a .value)
+-- what an act does
+module _ (t : Table) (s : List ℕ) (x : ℕ) (does : Does) where
+  pub tick-sets : does ≡ Ticking → s ≡ setKey t s x (labelOf does)
+  tick-sets e = sym (ap (λ (d : Does). setKey t s x (labelOf d)) e ∙ set-tick t s x)
+
+  pub action-sets : {n : ℕ} → does ≡ Acting n → (out : List ℕ) → out ≡ setKey t s x (acts n) → out ≡ setKey t s x (labelOf does)
+  action-sets e out o = o ∙ sym (ap (λ (d : Does). setKey t s x (labelOf d)) e)

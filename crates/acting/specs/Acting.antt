@@ -10,10 +10,13 @@ use Rattle.table.specs.Sound.{Shaped}
 use Rattle.term.specs.Terms.{words}
 use Rattle.term.specs.Acceptance.{stateWords}
 use Rattle.term.specs.Processes.{allFew}
+use Rattle.term.proofs.Inside.{ActionNode}
+use Rattle.state.specs.declared.Store.{Store}
 use Rattle.state.specs.declared.Store.the-variants.{Entries}
 use Rattle.state.specs.Layout.{clockAt, zpAt, keyLimit, residualWords, clockOf, termIn, put, addKey}
+use Rattle.state.specs.Standing.{storeAgent}
 use Rattle.state.proofs.Formed.{ResidualFormed}
-use Rattle.steps.specs.Acts.{nextStamp, wordIn, valueFor, choices, actChecks, chosen, acted}
+use Rattle.steps.specs.Acts.{nextStamp, wordIn, valueFor, choices, actChecks, chosen, storeOf, acted}
 use Rattle.steps.specs.Steps.{outcome}
 use Rattle.judging.specs.Judging.{checkOf}
 
@@ -42,13 +45,17 @@ pub record Entering (s : List ℕ) (x k : ℕ) : Type 0 where
 unfoldable pub entered : List ℕ → ℕ → ℕ → ℕ → List ℕ
 entered s x k v = set (addKey (zpAt x) k (put (Entries x) k v (nextStamp s) s)) clockAt (nextStamp s)
 
+-- the store that an action of a kind sets
+pub record Stored (kind x : ℕ) (r : Store) : Type 0 where
+  pub is : (t : Table) (was : List ℕ) (n : ℕ) → kindAt t n ≡ kind → r ≡ storeOf t was x n
+  pub agent : storeAgent r < 32
+
 -- action n of agent x sets its key to word v
 pub record Setting (t : Table) (s : List ℕ) (x n v : ℕ) : Type 0 where
   pub shaped : Shaped t
   pub whole : length s ≡ stateWords
   pub agent : x < 32
-  pub node : n < t .sizes .nodes
-  pub low : 2 ≤ kindAt t n
+  pub action : ActionNode t n
   pub key : pAt t n < keyLimit
   pub room : kindAt t n ≡ 3 → clockOf s < 65535
   pub value : v ≡ wordIn (valueFor t s x n)

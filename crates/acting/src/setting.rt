@@ -7,21 +7,18 @@ use state::zp_at;
 use table::Sizes;
 use table::p_at;
 ghost use mathlib.Core.Path.{_≡_};
-ghost use mathlib.Core.List.{[], _∷_};
-ghost use Prim.Native.Nat.{ℕ, _-_, _<_};
-ghost use lib.ListN.{getD};
+ghost use Prim.Native.Nat.{ℕ, _<_, _≤_};
 ghost use Rattle.table.specs.Tables.{table};
 ghost use Rattle.term.specs.Processes.{acts};
 ghost use Rattle.choice.specs.declared.Does.the-variants.{Acting};
 ghost use Rattle.choice.specs.Outcomes.{labelOf};
-ghost use Rattle.state.specs.declared.Store.the-variants.{Environment, Attributes, Entries};
 ghost use Rattle.steps.specs.Acts.{setKey};
-ghost use Rattle.acting.specs.Acting.{Setting, Entering, entered};
+ghost use Rattle.acting.specs.Acting.{Stored, Entering, entered, Setting};
 
 // The store that an action of a kind sets.
 fn store_of(kind: u8, agent: usize) -> Store
-    requires { ⌜ 1 < kind ⌝ }
-    ensures { λ r. ⌜ r ≡ getD (Attributes agent ∷ Entries agent ∷ Environment ∷ []) (kind - 2) Environment ⌝ }
+    requires { ⌜ (2 ≤ kind) × (kind ≤ 4) × (agent < 32) ⌝ }
+    ensures { λ r. ⌜ Stored kind agent r ⌝ }
 {
     if kind == 2 {
         return Store::Attributes(agent);
@@ -44,6 +41,7 @@ fn write_entry(state: &mut [u32], agent: usize, key: usize, value: u32)
     state[0] = stamp;
 }
 
+// An action's key is set.
 fn set_key(
     sizes: Sizes,
     kinds: &[u8],

@@ -40,7 +40,7 @@ same-length-2 c = search needs
 returns-2 : tie.Need-returns-2
 returns-2 c =
     let a = c .before .before .before .before .before .before .before .before .before .before .before .before .before .before in
-    acts-done (tb a) (now (a .args .state)) (a .args .agent) (a .args .c) (c .before .before .before .before .before .before .before .judge .result .refusal) (c .before .before .before .before .before .before .before .judge .ensures .check) (c .before .before .before .before .before .if1 .left) _ (c .before .before .perform .ensures)
+    acts-done (tb a) (now (a .args .state)) (a .args .agent) (a .args .c) (c .before .before .before .before .before .before .before .judge .result .refusal) (c .before .before .before .before .before .before .before .judge .ensures .check) (c .before .before .before .before .before .if1 .left) (c .before .before .perform .last .1 .1 .1 .1 .1 .0) (c .before .before .perform .ensures)
 
 pub act-spec : {M : Type 1} → statement M
 act-spec =

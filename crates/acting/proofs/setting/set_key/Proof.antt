@@ -1,9 +1,7 @@
 -- `set_key` meets its contract. Assumes nothing.
-use native.Mathlib.Omega.{arith}
-use mathlib.Core.Path.{_∙_}
 use denote.Ref.{now}
 use Rattle.table.specs.Tables.{Table, table}
-use Rattle.acting.proofs.Sets.{entered-is, stored-is, setting-pair}
+use Rattle.acting.proofs.Sets.{entered-is, stored-is}
 use borrow.Author.Needs.{needs}
 use Rattle.acting.proofs.setting.set_key.Statement.{statement}
 use Rattle.acting.proofs.setting.set_key.Tie as tie
@@ -29,7 +27,7 @@ store-of-requires c κs = search needs
 put-requires : tie.Need-put-requires
 put-requires c κs =
     let a = c .before .before .before .before .before .before .before .before in
-    (a .pre .whole, setting-pair (tb a) (now (a .args .state)) (a .args .agent) (a .args .node) (a .args .value) (a .pre) _ (c .before .store-of .ensures) _ (c .before .before .before .before .p-at .ensures .is))
+    (a .pre .whole, record { agent = c .before .store-of .ensures .agent; key = rw (c .before .before .before .before .p-at .ensures .is) (a .pre .key) })
 
 same-length : tie.Need-same-length
 same-length c = search needs
@@ -37,8 +35,8 @@ same-length c = search needs
 returns : tie.Need-returns
 returns c =
     let a = c .before .before .before .before .before .before .before .before .before .before in
-    c .before .before .write-entry .ensures
-    ∙ entered-is (tb a) (now (a .args .state)) (a .args .agent) (a .args .node) (a .args .value) (a .pre) (c .before .before .before .before .if1 .taken) _ (c .before .before .before .before .before .before .p-at .ensures .is)
+    entered-is (tb a) (now (a .args .state)) (a .args .agent) (a .args .node) (a .args .value) (a .pre) (c .before .before .before .before .before .before .p-at .result) (c .before .before .before .before .before .before .p-at .ensures .is) (c .before .before .write-entry .last .0) (c .before .before .before .before .if1 .taken)
+    (c .before .before .write-entry .ensures)
 
 same-length-2 : tie.Need-same-length-2
 same-length-2 c = search needs
@@ -46,8 +44,8 @@ same-length-2 c = search needs
 returns-2 : tie.Need-returns-2
 returns-2 c =
     let a = c .before .before .before .before .before .before .before .before .before .before .before in
-    c .before .before .put .ensures
-    ∙ stored-is (tb a) (now (a .args .state)) (a .args .agent) (a .args .node) (a .args .value) (a .pre) (c .before .before .before .before .before .if1 .left) _ (c .before .before .before .before .store-of .ensures) _ (c .before .before .before .before .before .before .before .p-at .ensures .is)
+    stored-is (tb a) (now (a .args .state)) (a .args .agent) (a .args .node) (a .args .value) (a .pre) (c .before .before .before .before .before .before .before .p-at .result) (c .before .before .before .before .before .before .before .p-at .ensures .is) (c .before .before .put .last .0) (c .before .before .before .before .before .if1 .left)
+    (c .before .before .before .before .store-of .result) (c .before .before .before .before .store-of .ensures) (c .before .before .put .ensures)
 
 pub set-key-spec : {M : Type 1} → statement M
 set-key-spec =

@@ -1,11 +1,7 @@
 -- `set_label` meets its contract. Assumes nothing.
-use mathlib.Core.Path.{sym, ap, _∙_}
 use denote.Ref.{now}
 use Rattle.table.specs.Tables.{Table, table}
-use Rattle.choice.specs.declared.Does.{Does}
-use Rattle.choice.specs.Outcomes.{labelOf}
-use Rattle.steps.specs.Acts.{setKey}
-use Rattle.steps.proofs.Acts.{set-tick}
+use Rattle.acting.proofs.Sets.{tick-sets, action-sets}
 use borrow.Author.Needs.{needs}
 use Rattle.acting.proofs.setting.set_label.Statement.{statement}
 use Rattle.acting.proofs.setting.set_label.Tie as tie
@@ -25,7 +21,7 @@ set-key-requires c κs = c .before .before .before .before .before .before .befo
 returns : tie.Need-returns
 returns c =
     let a = c .before .before .before .before .before in
-    sym (ap (λ (d : Does). setKey (tb a) (now (a .args .state)) (a .args .agent) (labelOf d)) (c .enum-told .given .1) ∙ set-tick (tb a) (now (a .args .state)) (a .args .agent))
+    tick-sets (tb a) (now (a .args .state)) (a .args .agent) (a .args .does) (c .enum-told .given .1)
 
 same-length : tie.Need-same-length
 same-length c = search needs
@@ -33,7 +29,7 @@ same-length c = search needs
 returns-2 : tie.Need-returns-2
 returns-2 c =
     let a = c .before .before .before .before .before .before .before .before .before .before in
-    c .before .before .set-key .ensures ∙ sym (ap (λ (d : Does). setKey (tb a) (now (a .args .state)) (a .args .agent) (labelOf d)) (c .before .before .before .before .before .does .given .1))
+    action-sets (tb a) (now (a .args .state)) (a .args .agent) (a .args .does) (c .before .before .before .before .before .does .given .1) (c .before .before .set-key .last .1 .1 .1 .0) (c .before .before .set-key .ensures)
 
 pub set-label-spec : {M : Type 1} → statement M
 set-label-spec =
