@@ -1,20 +1,19 @@
 -- What an act answers, by its judgement.
 -- Assumes nothing.
-use Prim.Native.Nat.{ℕ, _≤_}
-use mathlib.Core.Bool.{Bool, true, false, not}
+use Prim.Native.Nat.{ℕ}
+use mathlib.Core.Bool.{Bool, not}
 use mathlib.Core.Logic.{⊎-elim}
-use mathlib.Core.Path.{_≡_, refl, sym, ap, _∙_}
+use mathlib.Core.Path.{_≡_, sym, ap, _∙_}
 use mathlib.Core.List.{List}
 use native.Mathlib.Omega.{arith}
-use lib.Dec.{eqb}
 use lib.ListN.{length, getD, replicate, length-replicate, getD-replicate, List·getD-eq-default}
 use borrow.Author.Tests.{ne-eqb}
 use Rattle.basis.proofs.Tests.{lt-or-le}
-use Rattle.table.specs.Checks.{Check, passes, refuseIf, firstOf}
+use Rattle.table.specs.Checks.{passes, refuseIf, firstOf}
 use Rattle.table.specs.Tables.{Table}
 use Rattle.table.specs.Sound.{Shaped}
 use Rattle.steps.specs.Acts.{actChecks, chosen, acted}
-use Rattle.steps.specs.Steps.{Outcome, outcome}
+use Rattle.steps.specs.Steps.{Outcome}
 use Rattle.steps.proofs.Steps.{outcome-done, outcome-refused}
 use Rattle.judging.specs.Judging.{Unmarked, checkOf}
 use Rattle.acting.specs.Acting.{Acts}

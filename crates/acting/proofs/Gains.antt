@@ -1,11 +1,10 @@
 -- The keys that an act's guards and expression read, and those of them that Zc gains.
 -- Assumes nothing.
-use Prim.Native.Nat.{ℕ, _+_, _^_, _<_, _≤_}
+use Prim.Native.Nat.{ℕ, _+_, _<_}
 use mathlib.Core.Bool.{Bool, true, false, cond, _&&_, _||_}
 use mathlib.Core.Logic.{⊎-elim}
 use mathlib.Core.Path.{_≡_, refl, sym, ap, ap₂, _∙_}
 use mathlib.Core.List.{List, [], _∷_}
-use native.Mathlib.Omega.{arith}
 use lib.Dec.{eqb, ltb}
 use lib.ListN.{getD}
 use borrow.Author.Tests.{eqb-true, eq-eqb}
@@ -20,7 +19,6 @@ use Rattle.choice.specs.Marking.{isMarked, isIn}
 use Rattle.choice.specs.declared.Does.{Does}
 use Rattle.choice.specs.declared.Does.the-variants.{Ticking, Acting}
 use Rattle.choice.specs.Outcomes.{labelOf}
-use Rattle.term.specs.Processes.{Derivation}
 use Rattle.state.specs.declared.Store.the-variants.{Entries}
 use Rattle.state.specs.Layout.{keyLimit, markAt, stampOf}
 use Rattle.state.specs.Evaluation.{reads}

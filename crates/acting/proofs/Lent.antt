@@ -1,11 +1,11 @@
 -- An agent's residual is lent to `rewrite` as a part of the state: what that asks and leaves.
 -- Assumes nothing.
 use Prim.Native.Nat.{ℕ, _-_, _≤_}
-use mathlib.Core.Path.{_≡_, refl, sym, ap, ap₂, subst, _∙_}
+use mathlib.Core.Path.{_≡_, ap, _∙_}
 use mathlib.Core.Bool.{true}
 use mathlib.Core.List.{List, _++_}
 use native.Mathlib.Omega.{arith}
-use lib.ListN.{length, set, take, drop, replicate}
+use lib.ListN.{length, set, take, drop}
 use Rattle.table.specs.Tables.{Table, firstRoot}
 use Rattle.term.specs.Terms.{Term, words, areTerms}
 use Rattle.term.proofs.Words.{over-whole}

@@ -1,18 +1,16 @@
 -- What an act that can be done asks of its parts, and that they come to the whole act.
 -- Assumes nothing.
-use Prim.Native.Nat.{ℕ, _<_, _≤_}
-use mathlib.Core.Bool.{true, false}
+use Prim.Native.Nat.{ℕ, _<_}
+use mathlib.Core.Bool.{false}
 use mathlib.Core.Path.{_≡_, refl, sym, ap, ap₂, subst, _∙_}
 use mathlib.Core.List.{List}
 use native.Mathlib.Omega.{arith}
-use lib.Dec.{eqb}
 use lib.ListN.{length, set, length-set}
 use borrow.Author.Tests.{eq-eqb}
 use Rattle.basis.specs.KeySets.{plusAll}
-use Rattle.table.specs.Tables.{Table, kindAt, pAt, firstRoot}
+use Rattle.table.specs.Tables.{Table, kindAt, pAt}
 use Rattle.term.specs.Terms.{Term, words}
 use Rattle.term.specs.Processes.{Label, ticks, acts, Derivation}
-use Rattle.term.specs.Acceptance.{stateWords}
 use Rattle.term.proofs.Inside.{ActionNode, Labelled, Inside as InsideTable}
 use Rattle.choice.specs.declared.Does.{Does}
 use Rattle.choice.specs.declared.Does.the-variants.{Ticking, Acting}
@@ -20,12 +18,12 @@ use Rattle.choice.specs.Outcomes.{labelOf}
 use Rattle.choice.specs.Turns.{Ready}
 use Rattle.residual.specs.Wholes.{taken}
 use Rattle.state.specs.declared.Store.{Store}
-use Rattle.state.specs.Layout.{zcAt, keyLimit, residualWords, clockOf, zcOf, termIn}
+use Rattle.state.specs.Layout.{zcAt, keyLimit, residualWords, zcOf, termIn}
 use Rattle.state.proofs.Places.{Place, Zc, Zp, Clock, Mark, Word, Waits, Length, Residual, Inside, same}
 use Rattle.state.proofs.Frames.{SameAt, wordAt, set-other, term-same}
-use Rattle.state.proofs.Formed.{Proper, ResidualFormed}
+use Rattle.state.proofs.Formed.{Proper}
 use Rattle.state.proofs.Keep.{residual-kept}
-use Rattle.steps.specs.Acts.{wordIn, valueFor, writesEntry, choices, chosen, toConfirm, storeOf, setKey, leave, acted}
+use Rattle.steps.specs.Acts.{wordIn, writesEntry, chosen, toConfirm, storeOf, setKey, leave, acted}
 use Rattle.steps.proofs.Acts.{chosen-inside, action-key, set-tick, set-key-other, set-length}
 use Rattle.judging.specs.Judging.{Decided}
 use Rattle.acting.specs.Acting.{Leaving, Setting}
