@@ -1,10 +1,10 @@
 -- One step of a value and of a guard: what it is at a node that names no nodes of its own sort, and at one that does.
 -- Assumes nothing.
 use Prim.Native.Nat.{ℕ, _<_, _≤_}
-use mathlib.Core.Bool.{Bool, true, false, cond, not}
+use mathlib.Core.Bool.{Bool, true, false, not}
 use mathlib.Core.Path.{_≡_, refl, sym, ap, _∙_}
 use mathlib.Core.List.{List}
-use lib.Dec.{eqb, ltb}
+use lib.Dec.{eqb}
 use borrow.Author.Tests.{eqb-true, ne-eqb, le-ltb, leb-true}
 use native.Mathlib.Omega.{arith}
 use Rattle.basis.proofs.Below.{below-out, below-at}
@@ -13,11 +13,9 @@ use Rattle.value.specs.declared.Value.{Value}
 use Rattle.value.specs.declared.Value.the-variants.{Absent, Present}
 use Rattle.value.specs.declared.Truth.{Truth}
 use Rattle.value.specs.Values.{operate}
-use Rattle.value.specs.Truths.{truth, undefined, compare, connect}
-use Rattle.table.specs.Tables.{Table, kindAt, pAt, qAt, constantAt}
-use Rattle.state.specs.declared.Store.the-variants.{Environment, Attributes, Entries}
-use Rattle.state.specs.Layout.{valueIn}
-use Rattle.state.specs.Evaluation.{partyOf, valueStep, valueBelow, valueOf, truthStep, truthBelow}
+use Rattle.value.specs.Truths.{truth, undefined, connect}
+use Rattle.table.specs.Tables.{Table, kindAt, pAt, qAt}
+use Rattle.state.specs.Evaluation.{valueStep, valueBelow, truthStep, truthBelow}
 use Rattle.evaluation.specs.Situated.{isOperation, isConnective}
 
 -- kinds that a test tells apart differ
@@ -32,10 +30,6 @@ operate-none kind e (Present x) Absent = refl
 operate-none kind e (Present x) (Present y) =
     rw (apart isOperation kind 36 false e refl, apart isOperation kind 37 false e refl, apart isOperation kind 38 false e refl, apart isOperation kind 39 false e refl, apart isOperation kind 40 false e refl)
 
-connect-none : (kind : ℕ) → isConnective kind ≡ false → (a b : Truth) → connect kind a b ≡ undefined
-connect-none kind e a b =
-    rw (apart isConnective kind 20 false e refl, apart isConnective kind 21 false e refl, apart isConnective kind 22 false e refl)
-
 connect-undefined : (kind : ℕ) → connect kind undefined undefined ≡ undefined
 connect-undefined kind =
     cond-cases Is (eqb kind 20) (λ e. refl)
@@ -45,15 +39,7 @@ connect-undefined kind =
     Is z = z ≡ undefined
 
 module _ (t : Table) (s : List ℕ) (x y : ℕ) where
-  -- VALUES: what a step makes, from what the operation comes to
-  abbrev stepWith : ℕ → Value → Value
-  stepWith n z =
-      cond (eqb (kindAt t n) 32) (Present (constantAt t n))
-      (cond (eqb (kindAt t n) 33) (valueIn s (Attributes (partyOf t s x y (qAt t n))) (pAt t n))
-      (cond (eqb (kindAt t n) 34) (valueIn s (Entries (partyOf t s x y (qAt t n))) (pAt t n))
-      (cond (eqb (kindAt t n) 35) (valueIn s Environment (pAt t n))
-      z)))
-
+  -- VALUES
   module _ (limit n : ℕ) where
     pub value-out : limit ≤ n → valueBelow t s x y limit n ≡ Absent
     value-out h = below-out (valueStep t s x y) Absent limit n h
@@ -62,7 +48,7 @@ module _ (t : Table) (s : List ℕ) (x y : ℕ) where
     unfolding valueStep
     value-leaf h e =
         below-at (valueStep t s x y) Absent limit n h
-        ∙ ap (stepWith n) (operate-none (kindAt t n) e (valueBelow t s x y n (pAt t n)) (valueBelow t s x y n (qAt t n)))
+        ∙ rw (operate-none (kindAt t n) e (valueBelow t s x y n (pAt t n)) (valueBelow t s x y n (qAt t n)))
 
     pub value-node : n < limit → isOperation (kindAt t n) ≡ true
         → valueBelow t s x y limit n ≡ operate (kindAt t n) (valueBelow t s x y n (pAt t n)) (valueBelow t s x y n (qAt t n))

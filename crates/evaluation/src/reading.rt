@@ -1,7 +1,7 @@
 // The stigmergy keys that a node reads, by recursion on the falling node number: one walk for all keys.
 ghost use mathlib.Core.Path.{_≡_};
 ghost use mathlib.Core.Bool.{cond};
-ghost use Prim.Native.Nat.{ℕ, _<_, _≤_};
+ghost use Prim.Native.Nat.{_<_, _≤_};
 ghost use Rattle.table.specs.Tables.{table};
 ghost use Rattle.table.specs.Sound.{Shaped};
 ghost use Rattle.state.specs.Evaluation.{reads};

@@ -3,7 +3,7 @@ ghost use mathlib.Core.Path.{_≡_};
 ghost use Prim.Native.Nat.{ℕ, _<_, _≤_};
 ghost use Rattle.value.specs.declared.Value.the-variants.{Absent};
 ghost use Rattle.table.specs.Tables.{table};
-ghost use Rattle.state.specs.Evaluation.{partyOf, valueStep, valueBelow, valueOf};
+ghost use Rattle.state.specs.Evaluation.{valueStep, valueBelow, valueOf};
 ghost use Rattle.evaluation.specs.Situated.{Situated, isOperation};
 ghost use Rattle.evaluation.specs.Parties.{Party};
 use state::Store;
