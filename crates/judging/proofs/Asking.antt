@@ -1,21 +1,23 @@
 -- The guards of a list all hold where no marked guard fails.
 -- Assumes nothing.
-use Prim.Native.Nat.{ℕ, _<_}
+use Prim.Native.Nat.{ℕ, _<_, _≤_}
 use mathlib.Core.Bool.{Bool, true, false, not, _&&_, _||_}
 use mathlib.Core.Logic.{⊎-elim}
 use mathlib.Core.Path.{_≡_, refl, sym, ap, _∙_}
 use mathlib.Core.List.{List, [], _∷_}
 use native.Mathlib.Omega.{arith}
 use lib.Dec.{eqb}
-use lib.ListN.{getD}
-use borrow.Author.Tests.{eqb-true, eq-eqb, ne-eqb, not-false}
+use lib.ListN.{getD, replicate, length-replicate}
+use borrow.Author.Tests.{eqb-true, eq-eqb, ne-eqb, not-true, not-false}
 use Rattle.basis.proofs.Tests.{not-both, and-left, and-right, and-both, or-left, or-right, or-either}
-use Rattle.table.specs.Tables.{Table, kindAt, firstRoot}
+use Rattle.table.specs.Tables.{Table, kindAt}
 use Rattle.table.specs.Nodes.{isGuard}
 use Rattle.term.proofs.Each.{Each}
 use Rattle.term.proofs.Inside.{GuardNode}
 use Rattle.state.specs.Evaluation.{holds}
-use Rattle.choice.specs.Marking.{isMarked, isIn, Marked}
+use Rattle.state.proofs.Load.{zeros-at}
+use Rattle.choice.specs.Marking.{isMarked, isIn, Marks, Marked}
+use Rattle.choice.proofs.Collecting.{marks-zero}
 use Rattle.steps.specs.Acts.{allHold}
 use Rattle.judging.specs.Judging.{Unmarked, Collected}
 use Rattle.judging.specs.Guards.{failsAt}
@@ -27,6 +29,14 @@ is-in-each P [] h b e = absurd (not-both e refl)
 is-in-each P (g ∷ gs) h b e =
     ⊎-elim (λ (f : eqb b g ≡ true). let i : b ≡ g = eqb-true b g f in rw i (h .0))
     (λ (f : isIn b gs ≡ true). is-in-each P gs (h .1) b f) (or-either (eqb b g) (isIn b gs) e)
+
+-- where nothing is marked
+pub unmarked-marks : (t : Table) (ms : List ℕ) → Unmarked t ms → Marks t ms
+unmarked-marks t ms u = marks-zero t ms (u .room) (u .zero)
+
+-- zeros, at least as many as there are nodes
+pub zeros-unmarked : (t : Table) (n : ℕ) → t .sizes .nodes ≤ n → Unmarked t (replicate n 0)
+zeros-unmarked t n h = record { room = rw (length-replicate {A = ℕ} n 0) h; zero = zeros-at n }
 
 -- guards that are marked where nothing was before
 pub collected : (t : Table) (gs ms out : List ℕ) → Each (GuardNode t) gs → Unmarked t ms → Marked t gs ms out → Collected t gs out
@@ -50,27 +60,26 @@ module _ (t : Table) (was : List ℕ) (x : ℕ) where
   one-fails [] b e f = absurd (not-both e refl)
   one-fails (g ∷ gs) b e f =
       ⊎-elim (λ (d : eqb b g ≡ true). let i : b ≡ g = eqb-true b g d in by-left (ap (holds t was x x) (sym i) ∙ f))
-      (λ (d : isIn b gs ≡ true). by-right (one-fails gs b d f)) (or-either (eqb b g) (isIn b gs) e)
+      (λ (d : isIn b gs ≡ true). by-right (holds t was x x g) (one-fails gs b d f)) (or-either (eqb b g) (isIn b gs) e)
     where
       by-left : holds t was x x g ≡ false → (holds t was x x g && allHold t was x gs) ≡ false
       by-left d = rw d
 
-      by-right : allHold t was x gs ≡ false → (holds t was x x g && allHold t was x gs) ≡ false
-      by-right d = no (holds t was x x g) (allHold t was x gs) d
-        where
-          no : (p q : Bool) → q ≡ false → (p && q) ≡ false
-          no true q d = d
-          no false q d = refl
+      by-right : (p : Bool) → allHold t was x gs ≡ false → (p && allHold t was x gs) ≡ false
+      by-right true d = d
+      by-right false d = refl
 
   -- whether node n fails, by its kind and its mark
   module _ (ms : List ℕ) (n : ℕ) (guard : Bool) (e : guard ≡ isGuard (kindAt t n)) where
-    pub fails-asked : (guard && isMarked ms n) ≡ true → (h : Bool) → h ≡ holds t was x x n → not h ≡ failsAt t was x ms n
+    fails-by : (asked : Bool) → (guard && isMarked ms n) ≡ asked → (asked && not (holds t was x x n)) ≡ failsAt t was x ms n
     unfolding failsAt
-    fails-asked f h d = ap not d ∙ sym (ap (λ (b : Bool). b && not (holds t was x x n)) (ap (λ (b : Bool). b && isMarked ms n) (sym e) ∙ f))
+    fails-by asked f = ap (λ (b : Bool). b && not (holds t was x x n)) (sym f ∙ ap (λ (b : Bool). b && isMarked ms n) e)
+
+    pub fails-asked : (guard && isMarked ms n) ≡ true → (h : Bool) → h ≡ holds t was x x n → not h ≡ failsAt t was x ms n
+    fails-asked f h d = ap not d ∙ fails-by true f
 
     pub fails-not : (guard && isMarked ms n) ≡ false → false ≡ failsAt t was x ms n
-    unfolding failsAt
-    fails-not f = sym (ap (λ (b : Bool). b && not (holds t was x x n)) (ap (λ (b : Bool). b && isMarked ms n) (sym e) ∙ f))
+    fails-not f = fails-by false f
 
   module _ (ms gs : List ℕ) (marks : Collected t gs ms) where
     -- where no node fails, every guard holds
@@ -85,14 +94,11 @@ module _ (t : Table) (was : List ℕ) (x : ℕ) where
             by d f = not-false (holds t was x x b) (rw d at f)
 
     -- where one fails, some guard does not hold
-    pub some-fails : (n : ℕ) → failsAt t was x ms n ≡ true → allHold t was x gs ≡ false
+    pub some-fails : (n : ℕ) (r : Bool) → r ≡ failsAt t was x ms n → r ≡ true → allHold t was x gs ≡ false
     unfolding failsAt
-    some-fails n e =
+    some-fails n r f d =
+        let e : failsAt t was x ms n ≡ true = sym f ∙ d in
         let asked = and-left (isGuard (kindAt t n) && isMarked ms n) (not (holds t was x x n)) e in
         let guard = and-left (isGuard (kindAt t n)) (isMarked ms n) asked in
         one-fails gs n (sym (marks .guards n guard) ∙ and-right (isGuard (kindAt t n)) (isMarked ms n) asked)
-        (no (holds t was x x n) (and-right (isGuard (kindAt t n) && isMarked ms n) (not (holds t was x x n)) e))
-      where
-        no : (p : Bool) → not p ≡ true → p ≡ false
-        no true d = sym d
-        no false d = refl
+        (not-true (holds t was x x n) (and-right (isGuard (kindAt t n) && isMarked ms n) (not (holds t was x x n)) e))

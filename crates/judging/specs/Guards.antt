@@ -1,21 +1,17 @@
 -- Refusal 14: the guards that are asked are those that are marked.
-use Prim.Native.Nat.{ℕ, _<_, _≤_}
+use Prim.Native.Nat.{ℕ, _≤_}
 use mathlib.Core.Bool.{Bool, not, _&&_}
-use mathlib.Core.Path.{_≡_}
 use mathlib.Core.List.{List}
 use lib.ListN.{length}
 use Rattle.table.specs.Tables.{Table, kindAt}
-use Rattle.table.specs.Sound.{Shaped}
 use Rattle.table.specs.Nodes.{isGuard}
-use Rattle.term.specs.Acceptance.{stateWords}
 use Rattle.state.specs.Evaluation.{holds}
+use Rattle.evaluation.specs.Situated.{Situated}
 use Rattle.choice.specs.Marking.{isMarked}
 
--- agent x can ask guards of the table in a state, by marks of its nodes
+-- agent x can be asked for guards of the table, by marks of its nodes
 pub record Asks (t : Table) (was : List ℕ) (x : ℕ) (marks : List ℕ) : Type 0 where
-  pub shaped : Shaped t
-  pub whole : length was ≡ stateWords
-  pub agent : x < 32
+  pub situated : Situated t was x x
   pub room : t .sizes .nodes ≤ length marks
 
 -- node n is a marked guard that does not hold

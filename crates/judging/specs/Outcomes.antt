@@ -1,21 +1,19 @@
 -- Refusals 15 to 17: what a choice does, and how many words it leaves.
-use Prim.Native.Nat.{ℕ, _<_}
+use Prim.Native.Nat.{ℕ}
 use mathlib.Core.Bool.{cond, _&&_}
 use mathlib.Core.Path.{_≡_}
 use mathlib.Core.List.{List, [], _∷_}
 use lib.Dec.{leb, ltb}
-use lib.ListN.{length}
 use Rattle.value.specs.declared.Value.the-variants.{Present}
 use Rattle.table.specs.Checks.{Check, refuseIf, firstOf}
 use Rattle.table.specs.Tables.{Table}
-use Rattle.table.specs.Sound.{Shaped}
-use Rattle.term.specs.Acceptance.{stateWords}
 use Rattle.term.specs.Processes.{Label, acts}
 use Rattle.term.proofs.Inside.{Labelled}
 use Rattle.choice.specs.declared.Does.{Does}
 use Rattle.choice.specs.declared.Does.the-variants.{Ticking}
 use Rattle.choice.specs.Outcomes.{labelOf}
 use Rattle.state.specs.Layout.{clockOf, residualWords}
+use Rattle.evaluation.specs.Situated.{Situated}
 use Rattle.steps.specs.Acts.{valueFor, lacksValue, writesEntry}
 use Rattle.judging.specs.declared.Judgement.{Judgement}
 use Rattle.judging.specs.Judging.{checkOf}
@@ -31,14 +29,12 @@ allowed does word = record { refusal = 0; does = does; value = word }
 unfoldable pub sized : Does → ℕ → ℕ → Judgement
 sized does word size = cond (ltb residualWords size) (refusedBy 17) (allowed does word)
 
--- the action is of the table, and agent x can ask for its value in a state
+-- the action is of the table, and agent x can be asked for its value
 pub record Doing (t : Table) (was : List ℕ) (x : ℕ) (label : Label) : Type 0 where
-  pub shaped : Shaped t
-  pub whole : length was ≡ stateWords
-  pub agent : x < 32
+  pub situated : Situated t was x x
   pub labelled : Labelled t label
 
--- 15, 16 and 17, of a label and so many words that are left
+-- the last of an act's checks, by what is done and how many words are left
 abbrev pub lastChecks : Table → List ℕ → ℕ → Label → ℕ → List Check
 lastChecks t was x label size =
     refuseIf 15 (lacksValue t was x label)

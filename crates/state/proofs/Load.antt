@@ -35,7 +35,7 @@ zeros n = replicate n 0
 zeros-length : (n : ℕ) → length (zeros n) ≡ n
 zeros-length n = length-replicate {A = ℕ} n 0
 
-zeros-at : (n i : ℕ) → getD (zeros n) i 0 ≡ 0
+pub zeros-at : (n i : ℕ) → getD (replicate {A = ℕ} n 0) i 0 ≡ 0
 zeros-at n i =
     ⊎-elim (λ (l : i < n). getD-replicate {A = ℕ} n i 0 0 l)
     (λ (l : n ≤ i). List·getD-eq-default (zeros n) 0 {n = i} (rw (zeros-length n) l)) (lt-or-le i n)

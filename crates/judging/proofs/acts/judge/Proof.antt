@@ -4,7 +4,7 @@ use native.Mathlib.Omega.{arith}
 use borrow.Author.Needs.{needs}
 use denote.Ref.{now}
 use Rattle.table.specs.Tables.{Table, table}
-use Rattle.judging.proofs.Deciding.{agent-11, agent-posed}
+use Rattle.judging.proofs.Choosing.{agent-11, agent-posed}
 use Rattle.judging.proofs.acts.judge.Statement.{statement}
 use Rattle.judging.proofs.acts.judge.Tie as tie
 

@@ -1,10 +1,25 @@
 -- `judging::acts::judge_choice` meets its contract.
 -- Assumes nothing.
+use native.Mathlib.Omega.{arith}
 use borrow.Author.Needs.{needs}
 use borrow.Author.Tests.{not-true, not-false}
-use Rattle.judging.proofs.Deciding.{whole-residual, unmarked-marks, residual-12, residual-13, residual-taking, residual-asks, residual-14, residual-doing, residual-last}
+use denote.Ref.{now}
+use Rattle.table.specs.Tables.{Table, table}
+use Rattle.residual.specs.Wholes.{Taking, residualTerm}
+use Rattle.judging.proofs.Asking.{unmarked-marks}
+use Rattle.judging.proofs.Choosing.{whole-residual, agent-12, agent-13, agent-taking, agent-asks, agent-14, agent-doing, agent-last}
 use Rattle.judging.proofs.acts.judge_choice.Statement.{statement}
 use Rattle.judging.proofs.acts.judge_choice.Tie as tie
+
+abbrev here : tie.Start → Table
+here a = table (a .args .sizes) (now (a .args .kinds)) (now (a .args .operands))
+
+-- after 12 and 13 the choice is there
+taking : (c : tie.Else2) → let a = c .before .before .before .before .before .before .before .before .before .before .before in Taking (here a) (residualTerm (a .args .size) (now (a .args .words))) (a .args .c)
+taking c =
+    let a = c .before .before .before .before .before .before .before .before .before .before .before in
+    let k = c .before .before .before .before .choices in
+    agent-taking (a .pre .0) (k .result) (k .ensures) (not-false (k .result .few) (c .before .before .if1 .left)) (a .args .c) (omega arith)
 
 choices-requires : tie.Need-choices-requires
 choices-requires c κs = let a = c .before .before .before .before .before .before in (a .pre .0 .ready, whole-residual (a .pre .0))
@@ -16,7 +31,7 @@ returns : tie.Need-returns
 returns c =
     let a = c .before .before .before .before .before .before .before .before .before .before in
     let k = c .before .before .before .choices in
-    residual-12 (a .pre .0) (k .result) (k .ensures) (a .args .c) (not-true (k .result .few) (c .before .if1 .taken)) _ (c .refused .result) (c .refused .ensures)
+    agent-12 (a .pre .0) (k .result) (k .ensures) (not-true (k .result .few) (c .before .if1 .taken)) (a .args .c) _ (c .refused .result) (c .refused .ensures)
 
 refused-requires-2 : tie.Need-refused-requires-2
 refused-requires-2 c κs = search needs
@@ -25,19 +40,15 @@ returns-2 : tie.Need-returns-2
 returns-2 c =
     let a = c .before .before .before .before .before .before .before .before .before .before .before .before in
     let k = c .before .before .before .before .before .choices in
-    residual-13 (a .pre .0) (k .result) (k .ensures) (not-false (k .result .few) (c .before .before .before .if1 .left)) (a .args .c) (c .before .if2 .taken) _ (c .refused2 .result) (c .refused2 .ensures)
+    agent-13 (a .pre .0) (k .result) (k .ensures) (not-false (k .result .few) (c .before .before .before .if1 .left)) (a .args .c) (omega arith) _ (c .refused2 .result) (c .refused2 .ensures)
 
 collect-requires : tie.Need-collect-requires
 collect-requires c κs =
     let a = c .before .before .before .before .before .before .before .before .before .before .before .before in
-    let k = c .before .before .before .before .before .choices in
-    (a .pre .0 .ready, (whole-residual (a .pre .0), (residual-taking (a .pre .0) (k .result) (k .ensures) (not-false (k .result .few) (c .before .before .before .if1 .left)) (a .args .c) (c .before .if2 .left), unmarked-marks _ _ (a .pre .1))))
+    (a .pre .0 .ready, (whole-residual (a .pre .0), (taking (c .before), unmarked-marks (here a) (now (a .args .marks)) (a .pre .1))))
 
 all-hold-requires : tie.Need-all-hold-requires
-all-hold-requires c κs =
-    let a = c .before .before .before .before .before .before .before .before .before .before .before .before .before .before .before .before in
-    let k = c .before .before .before .before .before .before .before .before .before .choices in
-    residual-asks (a .pre .0) (k .result) (k .ensures) (not-false (k .result .few) (c .before .before .before .before .before .before .before .if1 .left)) (a .args .c) (c .before .before .before .before .before .if2 .left) _ _ (a .pre .1) (c .before .before .before .collect .ensures)
+all-hold-requires c κs = let a = c .before .before .before .before .before .before .before .before .before .before .before .before .before .before .before .before in agent-asks (a .pre .0) (a .args .c) (taking (c .before .before .before .before .before)) (a .pre .1) (c .before .before .before .collect .ensures)
 
 refused-requires-3 : tie.Need-refused-requires-3
 refused-requires-3 c κs = search needs
@@ -48,22 +59,14 @@ same-length c = search needs
 returns-3 : tie.Need-returns-3
 returns-3 c =
     let a = c .before .before .before .before .before .before .before .before .before .before .before .before .before .before .before .before .before .before .before in
-    let k = c .before .before .before .before .before .before .before .before .before .before .before .before .choices in
     let h = c .before .before .all-hold in
-    residual-14 (a .pre .0) (k .result) (k .ensures) (not-false (k .result .few) (c .before .before .before .before .before .before .before .before .before .before .if1 .left)) (a .args .c) (c .before .before .before .before .before .before .before .before .if2 .left) _ _ (a .pre .1) (c .before .before .before .before .before .before .collect .ensures)
-    (h .result) (h .ensures) (not-true (h .result) (c .before .if3 .taken)) (c .refused3 .result) (c .refused3 .ensures)
+    agent-14 (a .pre .0) (a .args .c) (taking (c .before .before .before .before .before .before .before .before)) (a .pre .1) (c .before .before .before .before .before .before .collect .ensures) (h .result) (h .ensures) (not-true (h .result) (c .before .if3 .taken)) (c .refused3 .result) (c .refused3 .ensures)
 
 outcome-requires : tie.Need-outcome-requires
-outcome-requires c κs =
-    let a = c .before .before .before .before .before .before .before .before .before .before .before .before .before .before .before .before .before .before in
-    let k = c .before .before .before .before .before .before .before .before .before .before .before .choices in
-    (a .pre .0 .ready, (whole-residual (a .pre .0), residual-taking (a .pre .0) (k .result) (k .ensures) (not-false (k .result .few) (c .before .before .before .before .before .before .before .before .before .if1 .left)) (a .args .c) (c .before .before .before .before .before .before .before .if2 .left)))
+outcome-requires c κs = let a = c .before .before .before .before .before .before .before .before .before .before .before .before .before .before .before .before .before .before in (a .pre .0 .ready, (whole-residual (a .pre .0), taking (c .before .before .before .before .before .before .before)))
 
 judge-outcome-requires : tie.Need-judge-outcome-requires
-judge-outcome-requires c κs =
-    let a = c .before .before .before .before .before .before .before .before .before .before .before .before .before .before .before .before .before .before .before in
-    let k = c .before .before .before .before .before .before .before .before .before .before .before .before .choices in
-    residual-doing (a .pre .0) (k .result) (k .ensures) (not-false (k .result .few) (c .before .before .before .before .before .before .before .before .before .before .if1 .left)) (a .args .c) (c .before .before .before .before .before .before .before .before .if2 .left) _ (c .outcome .result) (c .outcome .ensures)
+judge-outcome-requires c κs = let a = c .before .before .before .before .before .before .before .before .before .before .before .before .before .before .before .before .before .before .before in agent-doing (a .pre .0) (a .args .c) (taking (c .before .before .before .before .before .before .before .before)) (c .outcome .result) (c .outcome .ensures)
 
 same-length-2 : tie.Need-same-length-2
 same-length-2 c = search needs
@@ -71,10 +74,9 @@ same-length-2 c = search needs
 returns-4 : tie.Need-returns-4
 returns-4 c =
     let a = c .before .before .before .before .before .before .before .before .before .before .before .before .before .before .before .before .before .before .before .before in
-    let k = c .before .before .before .before .before .before .before .before .before .before .before .before .before .choices in
     let h = c .before .before .before .all-hold in
-    residual-last (a .pre .0) (k .result) (k .ensures) (not-false (k .result .few) (c .before .before .before .before .before .before .before .before .before .before .before .if1 .left)) (a .args .c) (c .before .before .before .before .before .before .before .before .before .if2 .left) _ _ (a .pre .1) (c .before .before .before .before .before .before .before .collect .ensures)
-    (h .result) (h .ensures) (not-false (h .result) (c .before .before .if3 .left)) _ (c .before .outcome .result) (c .before .outcome .ensures) (c .judge-outcome .result) (c .judge-outcome .ensures)
+    let o = c .before .outcome in
+    agent-last (a .pre .0) (a .args .c) (taking (c .before .before .before .before .before .before .before .before .before)) (a .pre .1) (c .before .before .before .before .before .before .before .collect .ensures) (h .result) (h .ensures) (not-false (h .result) (c .before .before .if3 .left)) (o .result) (o .ensures) (c .judge-outcome .result) (c .judge-outcome .ensures)
 
 pub judge-choice-spec : {M : Type 1} → statement M
 judge-choice-spec =

@@ -32,7 +32,7 @@ fails-at-requires c κs = search needs
 returns : tie.Need-returns Inv-loop μ-loop
 returns c gs m =
     let a = c .before .before .before .before .before .before .before .before .before in
-    sym (some-fails (here a) (now (a .args .state)) (a .args .agent) (now (a .args .marks)) gs m (c .before .before .before .before .loop .n) (sym (c .before .fails-at .ensures) ∙ c .if2 .taken))
+    sym (some-fails (here a) (now (a .args .state)) (a .args .agent) (now (a .args .marks)) gs m (c .before .before .before .before .loop .n) (c .before .fails-at .result) (c .before .fails-at .ensures) (c .if2 .taken))
 
 add-n : tie.Need-add-n Inv-loop μ-loop
 add-n c = search needs

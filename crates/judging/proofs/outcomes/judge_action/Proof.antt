@@ -3,8 +3,6 @@
 use mathlib.Core.Path.{_≡_, sym, ap, _∙_}
 use borrow.Author.Needs.{needs}
 use denote.Ref.{now}
-use Rattle.value.specs.declared.Value.{Value}
-use Rattle.value.specs.declared.Value.the-variants.{Absent, Present}
 use Rattle.table.specs.Tables.{Table, table}
 use Rattle.state.specs.Evaluation.{valueOf}
 use Rattle.steps.specs.Acts.{valueFor}

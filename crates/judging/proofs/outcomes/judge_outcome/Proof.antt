@@ -1,10 +1,9 @@
 -- `judging::outcomes::judge_outcome` meets its contract.
 -- Assumes nothing.
-use mathlib.Core.Path.{_≡_, sym, ap, subst, _∙_}
+use mathlib.Core.Path.{sym, subst}
 use borrow.Author.Needs.{needs}
 use denote.Ref.{now}
 use Rattle.table.specs.Tables.{Table, table}
-use Rattle.term.specs.Processes.{Label}
 use Rattle.choice.specs.declared.Does.{Does}
 use Rattle.choice.specs.Outcomes.{labelOf}
 use Rattle.judging.specs.Outcomes.{Doing, Ends}

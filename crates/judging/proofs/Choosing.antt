@@ -1,0 +1,144 @@
+-- An agent's choice, by the words that hold its residual.
+-- Assumes nothing.
+use Prim.Native.Nat.{ℕ, _+_, _-_, _<_, _≤_}
+use mathlib.Core.Bool.{Bool, true, false, not, _&&_, _||_}
+use mathlib.Core.Path.{_≡_, sym, ap, ap₂, subst, _∙_}
+use mathlib.Core.List.{List}
+use native.Mathlib.Omega.{arith}
+use lib.Dec.{eqb}
+use lib.ListN.{length, getD, take, drop}
+use borrow.Author.Tests.{eqb-true, not-false}
+use Rattle.basis.proofs.Tests.{and-left, and-right, not-and}
+use Rattle.table.specs.Tables.{Table}
+use Rattle.term.specs.Terms.{Term, words, termOf, areTerms}
+use Rattle.term.specs.Processes.{Derivation, allFew}
+use Rattle.term.proofs.Words.{over-whole}
+use Rattle.term.proofs.Inside.{Labelled, Inside}
+use Rattle.choice.specs.declared.Outcome.{Outcome}
+use Rattle.choice.specs.Marking.{Marked}
+use Rattle.choice.specs.Outcomes.{labelOf, Tells}
+use Rattle.choice.specs.Turns.{Ready}
+use Rattle.residual.specs.declared.Choices.{Choices}
+use Rattle.residual.specs.Wholes.{Whole, Taking, Offered, residualTerm, taken}
+use Rattle.state.specs.Layout.{zcAt, zpAt, lengthAt, residualAt, residualWords, zcOf, zpOf, lengthOf, termIn}
+use Rattle.state.proofs.Formed.{Proper, ResidualFormed}
+use Rattle.state.proofs.Residuals.{residual-length, residual-front}
+use Rattle.evaluation.specs.Situated.{Situated}
+use Rattle.steps.specs.Acts.{choices, chosen, allHold}
+use Rattle.steps.proofs.Acts.{chosen-inside}
+use Rattle.judging.specs.declared.Judgement.{Judgement}
+use Rattle.judging.specs.Judging.{Unmarked, Collected, Judges}
+use Rattle.judging.specs.Guards.{Asks}
+use Rattle.judging.specs.Outcomes.{refusedBy, Doing, Ends}
+use Rattle.judging.specs.Residuals.{Posed}
+use Rattle.judging.proofs.Asking.{collected}
+use Rattle.judging.proofs.Ordering.{judges-11, judges-12, judges-13, judges-14, judges-last}
+
+-- 11, by the places of Zc and Zp
+module _ (t : Table) (was : List ℕ) (x zc zp : ℕ) (confirm : zc ≡ zcAt x) (propagate : zp ≡ zpAt x) where
+  abbrev waits : Bool
+  waits = not (eqb (getD was zc 0) 0) || not (eqb (getD was zp 0) 0)
+
+  waits-is : waits ≡ not (eqb (zcOf was x) 0 && eqb (zpOf was x) 0)
+  waits-is =
+      ap₂ (λ (i j : ℕ). not (eqb (getD was i 0) 0) || not (eqb (getD was j 0) 0)) confirm propagate
+      ∙ sym (not-and (eqb (zcOf was x) 0) (eqb (zpOf was x) 0))
+
+  pub agent-11 : (not (eqb (getD was zc 0) 0) || not (eqb (getD was zp 0) 0)) ≡ true → (c : ℕ) (marks : List ℕ) (r : Judgement) → r ≡ refusedBy 11 → Judges t was x c marks r
+  agent-11 e c = judges-11 t was x c (sym waits-is ∙ e)
+
+  -- the length is read, and the words are lent
+  pub agent-posed : (not (eqb (getD was zc 0) 0) || not (eqb (getD was zp 0) 0)) ≡ false → {scratch : List ℕ} → Ready t scratch → Proper t was → x < t .sizes .agents
+      → (place : ℕ) → place ≡ lengthAt x → (at : ℕ) → at ≡ residualAt x → Posed t scratch was x (getD was place 0) (take (at + residualWords - at) (drop at was))
+  agent-posed e ready proper agent place p at q =
+      let idle = not-false (eqb (zcOf was x) 0 && eqb (zpOf was x) 0) (sym waits-is ∙ e) in
+      let n : at + residualWords - at ≡ residualWords = omega arith in
+      record {
+        ready = ready;
+        proper = proper;
+        agent = agent;
+        confirmed = eqb-true (zcOf was x) 0 (and-left (eqb (zcOf was x) 0) (eqb (zpOf was x) 0) idle);
+        propagated = eqb-true (zpOf was x) 0 (and-right (eqb (zcOf was x) 0) (eqb (zpOf was x) 0) idle);
+        long = ap (λ (i : ℕ). getD was i 0) p;
+        words = ap₂ (λ (m i : ℕ). take m (drop i was)) n q;
+      }
+
+-- 12 and 13, by what is found of the residual's choices
+module _ {t : Table} {scratch was : List ℕ} {x size : ℕ} {ws : List ℕ} (posed : Posed t scratch was x size ws) where
+  formed : ResidualFormed t was x
+  formed = posed .proper .formed .formed .residuals x (posed .agent)
+
+  there : x < 32
+  there = omega (arith, posed .agent, posed .ready .checked .sound .shaped .limits .agents)
+
+  situated : Situated t was x x
+  situated = record { shaped = posed .ready .checked .sound .shaped; words = posed .proper .whole; sends = there; receives = there }
+
+  term-is : residualTerm size ws ≡ termIn was x
+  term-is = ap₂ (λ (n : ℕ) (vs : List ℕ). termOf (take n vs)) (posed .long) (posed .words)
+
+  pub whole-residual : Whole t size ws
+  whole-residual =
+      let full : length ws ≡ residualWords = ap length (posed .words) ∙ residual-length was x (posed .proper .whole) there in
+      let n : lengthOf was x ≡ length (words (termIn was x)) = formed .long in
+      let short : lengthOf was x ≤ residualWords = formed .short in
+      record {
+        fits = omega (arith, posed .long);
+        room = omega arith;
+        term = ap₂ (λ (m : ℕ) (vs : List ℕ). areTerms t 1 (take m vs)) (posed .long ∙ n) (posed .words)
+            ∙ ap (areTerms t 1) (residual-front was x (posed .proper .whole) there (words (termIn was x)) (omega arith) (formed .reads))
+            ∙ over-whole t (omega (arith, posed .ready .checked .sound .shaped .limits .nodes)) (termIn was x) (formed .over);
+      }
+
+  module _ (all : Choices) (offered : Offered t (residualTerm size ws) all) where
+    offers : Offered t (termIn was x) all
+    offers = subst (λ (T : Term). Offered t T all) term-is offered
+
+    pub agent-12 : all .few ≡ false → (c : ℕ) (marks : List ℕ) (r : Judgement) → r ≡ refusedBy 12 → Judges t was x c marks r
+    agent-12 e c = judges-12 t was x c (posed .confirmed) (posed .propagated) (sym (offers .few) ∙ e)
+
+    module _ (few : all .few ≡ true) where
+      all-few : allFew t (termIn was x) ≡ true
+      all-few = sym (offers .few) ∙ few
+
+      pub agent-13 : (c : ℕ) → all .count ≤ c → (marks : List ℕ) (r : Judgement) → r ≡ refusedBy 13 → Judges t was x c marks r
+      agent-13 c h = judges-13 t was x c (posed .confirmed) (posed .propagated) all-few (omega (arith, offers .count all-few))
+
+      -- and c is a choice
+      pub agent-taking : (c : ℕ) → c < all .count → Taking t (residualTerm size ws) c
+      agent-taking c h = subst (λ (T : Term). Taking t T c) (sym term-is) (record { few = all-few; choice = omega (arith, offers .count all-few) })
+
+  -- 14 and on, of a choice that is there
+  module _ (c : ℕ) (taking : Taking t (residualTerm size ws) c) where
+    takes : Taking t (termIn was x) c
+    takes = subst (λ (T : Term). Taking t T c) term-is taking
+
+    taken-is : taken t (residualTerm size ws) c ≡ chosen t was x c
+    taken-is = ap (λ (T : Term). taken t T c) term-is
+
+    inside : Inside t (chosen t was x c)
+    inside = chosen-inside t was x (posed .ready .checked .sound) (formed .over) c (takes .choice)
+
+    module _ {ms out : List ℕ} (unmarked : Unmarked t ms) (marked : Marked t (taken t (residualTerm size ws) c .guards) ms out) where
+      pub agent-asks : Asks t was x out
+      agent-asks = record { situated = situated; room = marked .marks .room }
+
+      guards : Collected t (chosen t was x c .guards) out
+      guards = collected t (chosen t was x c .guards) ms out (inside .guards) unmarked (subst (λ (d : Derivation). Marked t (d .guards) ms out) taken-is marked)
+
+      module _ (held : Bool) (asked : (gs : List ℕ) → Collected t gs out → held ≡ allHold t was x gs) where
+        pub agent-14 : held ≡ false → (r : Judgement) → r ≡ refusedBy 14 → Judges t was x c out r
+        agent-14 e = judges-14 t was x c (posed .confirmed) (posed .propagated) (takes .few) (takes .choice) (sym (asked (chosen t was x c .guards) guards) ∙ e) out
+
+        pub agent-last : held ≡ true → {limit : ℕ} (o : Outcome) → Tells (taken t (residualTerm size ws) c) limit o
+            → (r : Judgement) → Ends t was x (labelOf (o .does)) (o .size) r → Judges t was x c out r
+        agent-last e {limit} o tells =
+            judges-last t was x c (posed .confirmed) (posed .propagated) (takes .few) (takes .choice) (sym (asked (chosen t was x c .guards) guards) ∙ e) out guards o
+            (subst (λ (d : Derivation). Tells d limit o) taken-is tells)
+
+    pub agent-doing : {limit : ℕ} (o : Outcome) → Tells (taken t (residualTerm size ws) c) limit o → Doing t was x (labelOf (o .does))
+    agent-doing o tells =
+        record {
+          situated = situated;
+          labelled = subst (Labelled t) (sym (tells .label ∙ ap (λ (d : Derivation). d .label) taken-is)) (inside .label);
+        }
