@@ -1,19 +1,18 @@
 -- An agent's residual is lent to `rewrite` as a part of the state: what that asks and leaves.
 -- Assumes nothing.
 use Prim.Native.Nat.{ℕ, _-_, _≤_}
-use mathlib.Core.Path.{_≡_, ap, _∙_}
-use mathlib.Core.Bool.{true}
+use mathlib.Core.Path.{_≡_, refl}
 use mathlib.Core.List.{List, _++_}
 use native.Mathlib.Omega.{arith}
 use lib.ListN.{length, set, take, drop}
 use Rattle.table.specs.Tables.{Table, firstRoot}
-use Rattle.term.specs.Terms.{Term, words, areTerms}
-use Rattle.term.proofs.Words.{over-whole}
+use Rattle.term.specs.Terms.{words}
 use Rattle.residual.specs.Wholes.{Whole, Taking, Rewritten, residualTerm, taken}
-use Rattle.state.specs.Layout.{residualAt, residualWords, lengthAt, lengthOf, residualOf, termIn}
-use Rattle.state.proofs.Residuals.{residual-length, residual-front}
+use Rattle.state.specs.Layout.{residualAt, residualWords, lengthAt, lengthOf, residualOf}
+use Rattle.state.proofs.Residuals.{residual-length}
 use Rattle.steps.specs.Acts.{chosen, leave}
 use Rattle.steps.proofs.Leave.{leave-part}
+use Rattle.judging.proofs.Wholes.{formed-whole}
 use Rattle.acting.specs.Acting.{Leaving}
 
 -- what `rewrite` asks of words and their number
@@ -24,21 +23,12 @@ module _ (t : Table) (few : firstRoot t ≤ 65532) (s : List ℕ) (x c : ℕ) (l
   long : length (residualOf s x) ≡ residualWords
   long = residual-length s x (l .whole) (l .agent)
 
-  abbrev T : Term
-  T = termIn s x
-
-  front : take (lengthOf s x) (residualOf s x) ≡ words T
-  front =
-      ap (λ (n : ℕ). take n (residualOf s x)) (l .formed .long)
-      ∙ residual-front s x (l .whole) (l .agent) (words T) (omega (arith, l .formed .long, l .formed .short)) (l .formed .reads)
-
   -- so many words from a place on are its residual
   module _ (at n size : ℕ) (begins : at ≡ residualAt x) (all : n ≡ residualWords) (sized : size ≡ lengthOf s x) where
     pub lends : Lends t c size (take n (drop at s))
     lends =
-        let term : areTerms t 1 (take (lengthOf s x) (residualOf s x)) ≡ true = ap (areTerms t 1) front ∙ over-whole t few T (l .formed .over) in
         rw (begins, all, sized) (
-          record { fits = omega (arith, long, l .formed .short); room = omega (arith, long); term = term },
+          formed-whole t few s x (l .whole) (l .agent) (l .formed) (lengthOf s x) (residualOf s x) refl refl,
           (record { few = l .few; choice = l .there }, omega (arith, long, l .short)),
         )
 
