@@ -4,7 +4,7 @@ use Prim.Native.Nat.{ℕ, zero, suc, _+_, _-_, _/_, _%_, _^_, _<_, _≤_}
 use native.Mathlib.Nat.{pow-succ', div-div-eq-div-mul}
 use native.Mathlib.Omega.{arith}
 use mathlib.Core.Bool.{Bool, true, false, cond, not, _&&_, _||_}
-use mathlib.Core.Path.{_≡_, refl, sym, _∙_}
+use mathlib.Core.Path.{_≡_, refl, sym, ap, _∙_}
 use mathlib.Core.Logic.{⊎-elim}
 use lib.Pow.{pow-pos, pow-mono}
 use lib.Dec.{eqb, ltb, eqb·zero-suc, eqb·suc-zero, eqb·suc-suc}
@@ -12,7 +12,7 @@ use borrow.Author.Tests.{eqb-true, eqb-false, eq-eqb, ne-eqb, lt-ltb, le-ltb}
 use Rattle.basis.specs.Numbers.{forEach}
 use Rattle.basis.specs.KeySets.{has, plus, minus, plusAll}
 use Rattle.basis.proofs.Tests.{either, is-false, cond-cases, lt-or-le, same-or-other}
-use Rattle.basis.proofs.Numbers.{forEach-keeps}
+use Rattle.basis.proofs.Numbers.{forEach-keeps, forEach-more, forEach-ext}
 
 -- key 0 is the word's parity, and the others are those of its half
 pub has-zero : (w : ℕ) → has w 0 ≡ eqb (w % 2) 1
@@ -151,3 +151,18 @@ unfolding plusAll
 plusAll-small test m n w l h =
     forEach-keeps (λ k v. cond (test k) (plus v k) v) (λ (v : ℕ). v < 2 ^ m) n
     (λ k i v p. cond-cases (λ (u : ℕ). u < 2 ^ m) (test k) (λ e. plus-small m v k (omega arith) p) (λ e. p)) w h
+
+-- for no key, for one key more, and with a test that agrees
+pub plusAll-zero : (test : ℕ → Bool) (w : ℕ) → plusAll test 0 w ≡ w
+unfolding plusAll forEach
+plusAll-zero test w = refl
+
+pub plusAll-more : (test : ℕ → Bool) (n w : ℕ) → plusAll test (n + 1) w ≡ cond (test n) (plus (plusAll test n w) n) (plusAll test n w)
+unfolding plusAll
+plusAll-more test n w = forEach-more (λ k v. cond (test k) (plus v k) v) n w
+
+pub plusAll-ext : (f g : ℕ → Bool) (n w : ℕ) → ((k : ℕ) → k < n → f k ≡ g k) → plusAll f n w ≡ plusAll g n w
+unfolding plusAll
+plusAll-ext f g n w h =
+    forEach-ext (λ k v. cond (f k) (plus v k) v) (λ k v. cond (g k) (plus v k) v) n w
+    (λ k l. ap (λ b. cond b (plus (plusAll f k w) k) (plusAll f k w)) (h k l))

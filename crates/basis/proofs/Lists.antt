@@ -4,14 +4,15 @@ use Prim.Native.Nat.{ℕ, zero, suc, _+_, _-_, _<_, _≤_}
 use mathlib.Core.Bool.{cond}
 use mathlib.Core.Logic.{⊎-elim}
 use mathlib.Core.Option.{none, some}
-use mathlib.Core.Path.{_≡_, refl, sym, _∙_}
+use mathlib.Core.Path.{_≡_, refl, sym, ap, _∙_}
 use mathlib.Core.List.{List, [], _∷_, _++_}
 use native.Mathlib.Nat.{suc-sub-suc, sub-zero, le-of-suc-le-suc, not-suc-le-zero}
 use native.Mathlib.Omega.{arith}
 use lib.Dec.{eqb}
-use lib.ListN.{length, getD, getElem?, set, take, drop, length-drop}
-use lib.Seq.{getD-set-same, getD-set-other, getD-take, getD-drop, take-all, take-nil}
+use lib.ListN.{length, getD, getElem?, set, take, drop, replicate, length-drop, length-append, length-replicate, getD-replicate, List·getD-append, List·getD-eq-default}
+use lib.Seq.{getD-set-same, getD-set-other, getD-take, getD-drop, getD-append-add, take-all, take-nil, paste, paste-zero, paste-suc}
 use borrow.Author.Tests.{eq-eqb, ne-eqb}
+use Rattle.basis.specs.Numbers.{forEach}
 use Rattle.basis.proofs.Tests.{same-or-other, lt-or-le}
 
 module _ {A : Type 0} where
@@ -60,3 +61,23 @@ module _ {A : Type 0} where
   nth-is xs n o a e =
       ⊎-elim (λ (l : n < length xs). let f : some (getD xs n o) ≡ some a = sym (nth-in xs n o l) ∙ e in (l, cc))
       (λ (l : length xs ≤ n). let f : none ≡ some a = sym (nth-past xs n l) ∙ e in let z : _≡_ {A = ℕ} 0 1 = cc in absurd (omega arith)) (lt-or-le n (length xs))
+
+-- words and 0 after them, n places in all
+module _ (ws : List ℕ) (n : ℕ) (short : length ws ≤ n) where
+  pub padded-length : length (ws ++ replicate (n - length ws) 0) ≡ n
+  padded-length = omega (arith, length-append ws (replicate (n - length ws) 0), length-replicate {A = ℕ} (n - length ws) 0)
+
+  pub padded-at : (i : ℕ) → i < n → getD (ws ++ replicate (n - length ws) 0) i 0 ≡ getD ws i 0
+  padded-at i l =
+      ⊎-elim (λ (h : i < length ws). List·getD-append ws (replicate (n - length ws) 0) 0 i h)
+      (λ (h : length ws ≤ i).
+      let e : i ≡ length ws + (i - length ws) = omega arith in
+      ap (λ (j : ℕ). getD (ws ++ replicate (n - length ws) 0) j 0) e ∙ getD-append-add ws (replicate (n - length ws) 0) (i - length ws) 0
+      ∙ getD-replicate (n - length ws) (i - length ws) 0 0 (omega arith) ∙ sym (List·getD-eq-default ws 0 h)) (lt-or-le i (length ws))
+
+-- a part that is set word by word
+pub forEach-paste : (at : ℕ) (ws s : List ℕ) (n : ℕ) → at + n ≤ length s → n ≤ length ws → forEach (λ (i : ℕ) (u : List ℕ). set u (at + i) (getD ws i 0)) n s ≡ paste s at ws n
+unfolding forEach
+forEach-paste at ws s zero h l = paste-zero s at ws
+forEach-paste at ws s (suc n) h l =
+    ap (λ (u : List ℕ). set u (at + n) (getD ws n 0)) (forEach-paste at ws s n (omega arith) (omega arith)) ∙ paste-suc s at ws n 0 (omega arith) (omega arith)

@@ -17,7 +17,7 @@ use Rattle.evaluation.specs.declared.Parts.{Parts}
 use Rattle.evaluation.specs.Reading.{Adds, readsBelow, isKey, Named}
 
 -- nothing is added
-adds-none : {test : ℕ → Bool} {w : ℕ} → ((k : ℕ) → k < keyLimit → test k ≡ false) → Adds test w w
+pub adds-none : {test : ℕ → Bool} {w : ℕ} → ((k : ℕ) → k < keyLimit → test k ≡ false) → Adds test w w
 adds-none {test} {w} f = record { keys = λ k l. rw (f k l) (sym (or-false (has w k))); small = λ h. h }
 
 -- one key is added
@@ -25,11 +25,11 @@ adds-one : (w p : ℕ) → p < keyLimit → Adds (eqb p) w (plus w p)
 adds-one w p l = record { keys = λ k i. has-plus w p k ∙ or-comm (eqb p k) (has w k); small = λ h. plus-small keyLimit w p l h }
 
 -- the same test
-adds-same : {f g : ℕ → Bool} {w r : ℕ} → ((k : ℕ) → g k ≡ f k) → Adds f w r → Adds g w r
+pub adds-same : {f g : ℕ → Bool} {w r : ℕ} → ((k : ℕ) → g k ≡ f k) → Adds f w r → Adds g w r
 adds-same e a = record { keys = λ k l. rw (e k) (a .keys k l); small = a .small }
 
 -- one after the other
-adds-both : {f g : ℕ → Bool} {w u r : ℕ} → Adds f w u → Adds g u r → Adds (λ (k : ℕ). f k || g k) w r
+pub adds-both : {f g : ℕ → Bool} {w u r : ℕ} → Adds f w u → Adds g u r → Adds (λ (k : ℕ). f k || g k) w r
 adds-both {f} {g} {w} a b =
     record {
       keys = λ k l. b .keys k l ∙ ap (λ (z : Bool). z || g k) (a .keys k l) ∙ or-assoc (has w k) (f k) (g k);

@@ -8,7 +8,7 @@ use mathlib.Core.List.{List, [], _∷_}
 use native.Mathlib.Omega.{arith}
 use lib.Dec.{eqb}
 use lib.ListN.{getD, replicate, length-replicate}
-use borrow.Author.Tests.{eqb-true, eq-eqb, ne-eqb, not-false}
+use borrow.Author.Tests.{eqb-true, eq-eqb, ne-eqb, not-true, not-false}
 use Rattle.basis.proofs.Tests.{not-both, and-left, and-right, and-both, or-left, or-right, or-either}
 use Rattle.table.specs.Tables.{Table, kindAt}
 use Rattle.table.specs.Nodes.{isGuard}
@@ -60,27 +60,26 @@ module _ (t : Table) (was : List ℕ) (x : ℕ) where
   one-fails [] b e f = absurd (not-both e refl)
   one-fails (g ∷ gs) b e f =
       ⊎-elim (λ (d : eqb b g ≡ true). let i : b ≡ g = eqb-true b g d in by-left (ap (holds t was x x) (sym i) ∙ f))
-      (λ (d : isIn b gs ≡ true). by-right (one-fails gs b d f)) (or-either (eqb b g) (isIn b gs) e)
+      (λ (d : isIn b gs ≡ true). by-right (holds t was x x g) (one-fails gs b d f)) (or-either (eqb b g) (isIn b gs) e)
     where
       by-left : holds t was x x g ≡ false → (holds t was x x g && allHold t was x gs) ≡ false
       by-left d = rw d
 
-      by-right : allHold t was x gs ≡ false → (holds t was x x g && allHold t was x gs) ≡ false
-      by-right d = no (holds t was x x g) (allHold t was x gs) d
-        where
-          no : (p q : Bool) → q ≡ false → (p && q) ≡ false
-          no true q d = d
-          no false q d = refl
+      by-right : (p : Bool) → allHold t was x gs ≡ false → (p && allHold t was x gs) ≡ false
+      by-right true d = d
+      by-right false d = refl
 
   -- whether node n fails, by its kind and its mark
   module _ (ms : List ℕ) (n : ℕ) (guard : Bool) (e : guard ≡ isGuard (kindAt t n)) where
-    pub fails-asked : (guard && isMarked ms n) ≡ true → (h : Bool) → h ≡ holds t was x x n → not h ≡ failsAt t was x ms n
+    fails-by : (asked : Bool) → (guard && isMarked ms n) ≡ asked → (asked && not (holds t was x x n)) ≡ failsAt t was x ms n
     unfolding failsAt
-    fails-asked f h d = ap not d ∙ sym (ap (λ (b : Bool). b && not (holds t was x x n)) (ap (λ (b : Bool). b && isMarked ms n) (sym e) ∙ f))
+    fails-by asked f = ap (λ (b : Bool). b && not (holds t was x x n)) (sym f ∙ ap (λ (b : Bool). b && isMarked ms n) e)
+
+    pub fails-asked : (guard && isMarked ms n) ≡ true → (h : Bool) → h ≡ holds t was x x n → not h ≡ failsAt t was x ms n
+    fails-asked f h d = ap not d ∙ fails-by true f
 
     pub fails-not : (guard && isMarked ms n) ≡ false → false ≡ failsAt t was x ms n
-    unfolding failsAt
-    fails-not f = sym (ap (λ (b : Bool). b && not (holds t was x x n)) (ap (λ (b : Bool). b && isMarked ms n) (sym e) ∙ f))
+    fails-not f = fails-by false f
 
   module _ (ms gs : List ℕ) (marks : Collected t gs ms) where
     -- where no node fails, every guard holds
@@ -102,8 +101,4 @@ module _ (t : Table) (was : List ℕ) (x : ℕ) where
         let asked = and-left (isGuard (kindAt t n) && isMarked ms n) (not (holds t was x x n)) e in
         let guard = and-left (isGuard (kindAt t n)) (isMarked ms n) asked in
         one-fails gs n (sym (marks .guards n guard) ∙ and-right (isGuard (kindAt t n)) (isMarked ms n) asked)
-        (no (holds t was x x n) (and-right (isGuard (kindAt t n) && isMarked ms n) (not (holds t was x x n)) e))
-      where
-        no : (p : Bool) → not p ≡ true → p ≡ false
-        no true d = sym d
-        no false d = refl
+        (not-true (holds t was x x n) (and-right (isGuard (kindAt t n) && isMarked ms n) (not (holds t was x x n)) e))

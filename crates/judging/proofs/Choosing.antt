@@ -12,7 +12,6 @@ use Rattle.basis.proofs.Tests.{and-left, and-right, not-and}
 use Rattle.table.specs.Tables.{Table}
 use Rattle.term.specs.Terms.{Term, words, termOf, areTerms}
 use Rattle.term.specs.Processes.{Derivation, allFew}
-use Rattle.term.proofs.Words.{over-whole}
 use Rattle.term.proofs.Inside.{Labelled, Inside}
 use Rattle.choice.specs.declared.Outcome.{Outcome}
 use Rattle.choice.specs.Marking.{Marked}
@@ -22,7 +21,6 @@ use Rattle.residual.specs.declared.Choices.{Choices}
 use Rattle.residual.specs.Wholes.{Whole, Taking, Offered, residualTerm, taken}
 use Rattle.state.specs.Layout.{zcAt, zpAt, lengthAt, residualAt, residualWords, zcOf, zpOf, lengthOf, termIn}
 use Rattle.state.proofs.Formed.{Proper, ResidualFormed}
-use Rattle.state.proofs.Residuals.{residual-length, residual-front}
 use Rattle.evaluation.specs.Situated.{Situated}
 use Rattle.steps.specs.Acts.{choices, chosen, allHold}
 use Rattle.steps.proofs.Acts.{chosen-inside}
@@ -31,6 +29,7 @@ use Rattle.judging.specs.Judging.{Unmarked, Collected, Judges}
 use Rattle.judging.specs.Guards.{Asks}
 use Rattle.judging.specs.Outcomes.{refusedBy, Doing, Ends}
 use Rattle.judging.specs.Residuals.{Posed}
+use Rattle.judging.proofs.Wholes.{formed-whole}
 use Rattle.judging.proofs.Asking.{collected}
 use Rattle.judging.proofs.Ordering.{judges-11, judges-12, judges-13, judges-14, judges-last}
 
@@ -79,16 +78,7 @@ module _ {t : Table} {scratch was : List ℕ} {x size : ℕ} {ws : List ℕ} (po
 
   pub whole-residual : Whole t size ws
   whole-residual =
-      let full : length ws ≡ residualWords = ap length (posed .words) ∙ residual-length was x (posed .proper .whole) there in
-      let n : lengthOf was x ≡ length (words (termIn was x)) = formed .long in
-      let short : lengthOf was x ≤ residualWords = formed .short in
-      record {
-        fits = omega (arith, posed .long);
-        room = omega arith;
-        term = ap₂ (λ (m : ℕ) (vs : List ℕ). areTerms t 1 (take m vs)) (posed .long ∙ n) (posed .words)
-            ∙ ap (areTerms t 1) (residual-front was x (posed .proper .whole) there (words (termIn was x)) (omega arith) (formed .reads))
-            ∙ over-whole t (omega (arith, posed .ready .checked .sound .shaped .limits .nodes)) (termIn was x) (formed .over);
-      }
+      formed-whole t (omega (arith, posed .ready .checked .sound .shaped .limits .nodes)) was x (posed .proper .whole) there formed size ws (posed .long) (posed .words)
 
   module _ (all : Choices) (offered : Offered t (residualTerm size ws) all) where
     offers : Offered t (termIn was x) all

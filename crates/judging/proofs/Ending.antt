@@ -7,30 +7,18 @@ use mathlib.Core.List.{List, [], _∷_}
 use native.Mathlib.Omega.{arith}
 use lib.Dec.{leb, ltb}
 use Rattle.value.specs.declared.Value.the-variants.{Absent, Present}
-use Rattle.table.specs.Checks.{Check, passes, refuses, refuseIf, firstOf}
+use Rattle.table.specs.Checks.{Check, refuseIf, firstOf}
 use Rattle.table.specs.Tables.{Table}
-use Rattle.table.proofs.Checks.{first-later, first-refuses, refuseIf-false, refuseIf-true}
 use Rattle.term.specs.Processes.{Label, ticks, acts}
 use Rattle.choice.specs.declared.Does.{Does}
 use Rattle.choice.specs.declared.Does.the-variants.{Ticking, Acting}
 use Rattle.choice.specs.Outcomes.{labelOf}
 use Rattle.state.specs.Layout.{clockOf, residualWords}
 use Rattle.steps.specs.Acts.{valueFor, isAbsent, lacksValue, writesEntry}
+use Rattle.steps.proofs.Steps.{test-refuses, test-later, none-passes}
 use Rattle.judging.specs.declared.Judgement.{Judgement}
 use Rattle.judging.specs.Judging.{checkOf}
 use Rattle.judging.specs.Outcomes.{refusedBy, allowed, sized, lastChecks, Ends}
-
--- the first of a list of checks is a test: it refuses, or the others decide
-module _ (number : ℕ) (test : Bool) (cs : List Check) where
-  pub test-refuses : test ≡ true → firstOf (refuseIf number test ∷ cs) ≡ refuses number 0
-  test-refuses e = first-refuses (refuseIf number test) cs (refuseIf-true number test e)
-
-  pub test-later : test ≡ false → firstOf (refuseIf number test ∷ cs) ≡ firstOf cs
-  test-later e = first-later (refuseIf number test) cs (refuseIf-false number test e)
-
-none-passes : firstOf [] ≡ passes
-unfolding firstOf
-none-passes = refl
 
 module _ (t : Table) (was : List ℕ) (x : ℕ) (label : Label) (size : ℕ) where
   ends-refused : (number : ℕ) → 0 < number → checkOf number ≡ firstOf (lastChecks t was x label size) → Ends t was x label size (refusedBy number)
@@ -71,9 +59,6 @@ module _ (t : Table) (was : List ℕ) (x : ℕ) where
 
   -- an action, by its value
   module _ (n size : ℕ) where
-    abbrev writes : Bool
-    writes = writesEntry t was x (acts n) && leb 65535 (clockOf was)
-
     pub absent-ends : valueFor t was x n ≡ Absent → (r : Judgement) → r ≡ refusedBy 15 → Ends t was x (acts n) size r
     absent-ends e r f = ends-absent t was x (acts n) size (ap isAbsent e) r f
 

@@ -16,11 +16,10 @@ use Rattle.choice.specs.declared.Outcome.{Outcome}
 use Rattle.choice.specs.Outcomes.{labelOf, Tells}
 use Rattle.state.specs.Layout.{zcOf, zpOf, termIn}
 use Rattle.steps.specs.Acts.{choices, chosen, allHold, actChecks}
-use Rattle.steps.proofs.Steps.{act-able}
+use Rattle.steps.proofs.Steps.{test-refuses, test-later, act-able}
 use Rattle.judging.specs.declared.Judgement.{Judgement}
 use Rattle.judging.specs.Judging.{Collected, checkOf, Judges}
 use Rattle.judging.specs.Outcomes.{refusedBy, lastChecks, Ends}
-use Rattle.judging.proofs.Ending.{test-refuses, test-later}
 
 module _ (t : Table) (was : List ℕ) (x c : ℕ) where
   abbrev idle : Bool

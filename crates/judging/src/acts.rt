@@ -1,5 +1,6 @@
 // An act judged, in the order of the refusals.
 use crate::Judgement;
+use crate::RESIDUAL_WORDS;
 use crate::guards::all_hold;
 use crate::outcomes::judge_outcome;
 use crate::outcomes::refused;
@@ -18,7 +19,8 @@ ghost use Rattle.state.proofs.Formed.{Proper};
 ghost use Rattle.judging.specs.Judging.{Unmarked, Judges};
 ghost use Rattle.judging.specs.Residuals.{Posed};
 
-// 12 to 17 of choice c, where no key waits; these are the agent's residual words, and how many of them it uses.
+// 12 to 17 of choice c, where no key waits. The words are those of the agent's residual, of which it uses so many.
+// Nothing but the marks is written.
 fn judge_choice(
     sizes: Sizes,
     kinds: &[u8],
@@ -75,7 +77,7 @@ pub fn judge(
     let place = length_at(agent);
     let size = state[place] as usize;
     let at = residual_at(agent);
-    let end = at + 63;
+    let end = at + RESIDUAL_WORDS;
     judge_choice(
         sizes,
         kinds,

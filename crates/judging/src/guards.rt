@@ -32,6 +32,7 @@ fn fails_at(
     false
 }
 
+// Whether no node is a marked guard that does not hold.
 pub fn all_hold(
     sizes: Sizes,
     kinds: &[u8],

@@ -1,5 +1,6 @@
 // Refusals 15 to 17: the value that an action sets, the clock, and the length of what is left.
 use crate::Judgement;
+use crate::RESIDUAL_WORDS;
 use choice::Does;
 use choice::Outcome;
 use evaluation::value_of;
@@ -12,6 +13,7 @@ ghost use Rattle.term.specs.Processes.{acts};
 ghost use Rattle.choice.specs.Outcomes.{labelOf};
 ghost use Rattle.judging.specs.Outcomes.{refusedBy, sized as sizedOf, Doing, Ends};
 
+// Beside a refusal nothing is done.
 pub fn refused(number: u8) -> Judgement
     ensures { λ r. ⌜ r ≡ refusedBy number ⌝ }
 {
@@ -22,11 +24,11 @@ pub fn refused(number: u8) -> Judgement
     }
 }
 
-// 17.
+// 17, of what is done, the word that it sets and how many words it leaves.
 fn sized(does: Does, value: u32, size: usize) -> Judgement
     ensures { λ r. ⌜ r ≡ sizedOf does value size ⌝ }
 {
-    if 63 < size {
+    if RESIDUAL_WORDS < size {
         return refused(17);
     }
     Judgement {
@@ -62,7 +64,7 @@ fn judge_action(
     }
 }
 
-// A tick sets nothing.
+// 15 to 17. A tick has no expression and sets nothing, so that 17 alone is asked.
 pub fn judge_outcome(
     sizes: Sizes,
     kinds: &[u8],

@@ -1,21 +1,23 @@
 -- What is left after an act: the residual's length and words are those of the new term, 0 comes after, and nothing else changes.
 -- Assumes nothing.
-use Prim.Native.Nat.{ℕ, _+_, _^_, _<_, _≤_}
+use Prim.Native.Nat.{ℕ, _+_, _-_, _^_, _<_, _≤_}
 use mathlib.Core.Bool.{true, false}
-use mathlib.Core.Path.{_≡_, refl, sym, _∙_}
-use mathlib.Core.List.{List}
+use mathlib.Core.Path.{_≡_, refl, sym, ap, _∙_}
+use mathlib.Core.List.{List, _++_, append-assoc}
 use native.Mathlib.Omega.{arith}
-use lib.ListN.{length, getD, set, take, drop, length-set}
+use lib.ListN.{length, getD, set, take, drop, replicate, length-set}
+use lib.Seq.{take-all, drop-drop}
 use borrow.Author.Tests.{ne-eqb}
 use Rattle.basis.specs.Numbers.{forEach}
-use Rattle.basis.proofs.Numbers.{forEach-same, forEach-at, forEach-keeps}
+use Rattle.basis.proofs.Numbers.{forEach-same, forEach-at, forEach-keeps, forEach-ext}
+use Rattle.basis.proofs.Lists.{padded-length, padded-at, forEach-paste}
 use Rattle.term.specs.Acceptance.{stateWords}
 use Rattle.term.specs.Terms.{Term, words}
 use Rattle.term.proofs.Words.{Low}
 use Rattle.state.specs.declared.Store.{Store}
 use Rattle.state.specs.Layout.{residualWords, residualAt, lengthAt, lengthOf, residualOf, termIn, valueIn}
 use Rattle.state.specs.WellFormed.{allZero}
-use Rattle.state.proofs.Places.{Place, Mark, Word, Length, Residual, other-agent, Inside, same}
+use Rattle.state.proofs.Places.{Place, Mark, Word, Length, Residual, other-agent, Inside, same, place-fits}
 use Rattle.state.proofs.Frames.{wordAt, Small, SameAt, value-same, term-same, set-small, set-other, set-here}
 use Rattle.state.proofs.Residuals.{residual-front, residual-rest, term-read}
 use Rattle.steps.specs.Acts.{leave}
@@ -83,3 +85,20 @@ module _ (x : ℕ) (ws s : List ℕ) where
       term-same (leave x ws s) s a (leave-length x ws s)
       (leave-other x ws s (Length a) tt (other-agent (Length a) (Length x) d) (λ j m. refl))
       (λ i l. leave-other x ws s (Residual a i) l refl (λ j m. other-agent (Residual a i) (Residual x j) d))
+
+-- THE SAME AS A PART of the state that becomes the words, with 0 after them
+pub leave-part : (x : ℕ) (ws s : List ℕ) → length s ≡ stateWords → x < 32 → length ws ≤ residualWords
+    → set (take (residualAt x) s ++ ((ws ++ replicate (residualWords - length ws) 0) ++ drop residualWords (drop (residualAt x) s))) (lengthAt x) (length ws) ≡ leave x ws s
+unfolding leave
+leave-part x ws s whole there short =
+    let n = residualWords in
+    let at = residualAt x in
+    let zs = ws ++ replicate (n - length ws) 0 in
+    let long = padded-length ws n short in
+    let fits = place-fits (Residual x (residualWords - 1)) (omega arith) there in
+    ap (λ (u : List ℕ). set u (lengthAt x) (length ws))
+    (ap (λ (u : List ℕ). take at s ++ (zs ++ u)) (drop-drop n at s)
+    ∙ sym (append-assoc (take at s) zs (drop (at + n) s))
+    ∙ ap (λ (u : List ℕ). (take at s ++ u) ++ drop (at + n) s) (sym (take-all n zs (omega arith)))
+    ∙ sym (forEach-paste at zs s n (omega arith) (omega arith))
+    ∙ forEach-ext (copy x zs s) (copy x ws s) n s (λ i l. ap (λ (v : ℕ). set (copied x zs s i) (at + i) v) (padded-at ws n short i l)))

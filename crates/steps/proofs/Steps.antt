@@ -13,7 +13,7 @@ use Rattle.basis.specs.KeySets.{has}
 use Rattle.basis.proofs.Tests.{not-both, and-left, and-right, and-fails, or-neither}
 use Rattle.table.specs.Checks.{Check, passes, refuses, refuseIf, firstOf}
 use Rattle.table.specs.Tables.{Table, tableOf}
-use Rattle.table.proofs.Checks.{first-passes, first-both, append-passes, append-both, refuseIf-passes, refuseIf-false}
+use Rattle.table.proofs.Checks.{first-passes, first-both, first-later, first-refuses, append-passes, append-both, refuseIf-passes, refuseIf-false, refuseIf-true}
 use Rattle.term.specs.Terms.{words}
 use Rattle.term.specs.Processes.{allFew}
 use Rattle.term.specs.Accepted.{Accepted}
@@ -45,7 +45,14 @@ module _ (number : ℕ) (test : Bool) (cs : List Check) where
   passes-test : test ≡ false → firstOf cs ≡ passes → firstOf (refuseIf number test ∷ cs) ≡ passes
   passes-test d e = first-both (refuseIf number test) cs (refuseIf-false number test d) e
 
-none-passes : firstOf [] ≡ passes
+  -- it refuses, or the others decide
+  pub test-refuses : test ≡ true → firstOf (refuseIf number test ∷ cs) ≡ refuses number 0
+  test-refuses e = first-refuses (refuseIf number test) cs (refuseIf-true number test e)
+
+  pub test-later : test ≡ false → firstOf (refuseIf number test ∷ cs) ≡ firstOf cs
+  test-later e = first-later (refuseIf number test) cs (refuseIf-false number test e)
+
+pub none-passes : firstOf [] ≡ passes
 unfolding firstOf
 none-passes = refl
 

@@ -1,7 +1,10 @@
 -- `judging::outcomes::sized` meets its contract.
 -- Assumes nothing.
+use Prim.Native.Nat.{_<_, _≤_}
+use native.Mathlib.Omega.{arith}
 use borrow.Author.Needs.{needs}
 use borrow.Author.Tests.{lt-ltb, le-ltb}
+use Rattle.state.specs.Layout.{residualWords}
 use Rattle.judging.specs.Outcomes.{sized}
 use Rattle.judging.proofs.outcomes.sized.Statement.{statement}
 use Rattle.judging.proofs.outcomes.sized.Tie as tie
@@ -11,11 +14,11 @@ refused-requires c κs = search needs
 
 returns : tie.Need-returns
 unfolding sized
-returns c = simp (lt-ltb _ _ (c .before .if1 .taken)) (c .refused .ensures)
+returns c = let long : residualWords < c .before .before .args .size = omega arith in simp (lt-ltb _ _ long) (c .refused .ensures)
 
 returns-2 : tie.Need-returns-2
 unfolding sized
-returns-2 c = simp (le-ltb _ _ (c .if1 .left))
+returns-2 c = let short : c .before .args .size ≤ residualWords = omega arith in simp (le-ltb _ _ short)
 
 pub sized-spec : {M : Type 1} → statement M
 sized-spec = tie.close (tie.spec refused-requires returns returns-2)

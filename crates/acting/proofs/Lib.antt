@@ -1,0 +1,5 @@
+pub mod Lent
+pub mod Sets
+pub mod Gains
+pub mod Performs
+pub mod Answers

@@ -1,0 +1,126 @@
+-- What an act that can be done asks of its parts, and that they come to the whole act.
+-- Assumes nothing.
+use Prim.Native.Nat.{ℕ, _<_}
+use mathlib.Core.Bool.{false}
+use mathlib.Core.Path.{_≡_, refl, sym, ap, ap₂, subst, _∙_}
+use mathlib.Core.List.{List}
+use native.Mathlib.Omega.{arith}
+use lib.ListN.{length, set, length-set}
+use borrow.Author.Tests.{eq-eqb}
+use Rattle.basis.specs.KeySets.{plusAll}
+use Rattle.table.specs.Tables.{Table, kindAt, pAt}
+use Rattle.term.specs.Terms.{Term, words}
+use Rattle.term.specs.Processes.{Label, ticks, acts, Derivation}
+use Rattle.term.proofs.Inside.{ActionNode, Labelled, Inside as InsideTable}
+use Rattle.choice.specs.declared.Does.{Does}
+use Rattle.choice.specs.declared.Does.the-variants.{Ticking, Acting}
+use Rattle.choice.specs.Outcomes.{labelOf}
+use Rattle.choice.specs.Turns.{Ready}
+use Rattle.residual.specs.Wholes.{taken}
+use Rattle.state.specs.declared.Store.{Store}
+use Rattle.state.specs.Layout.{zcAt, keyLimit, residualWords, zcOf, termIn}
+use Rattle.state.proofs.Places.{Place, Zc, Zp, Clock, Mark, Word, Waits, Length, Residual, Inside, same}
+use Rattle.state.proofs.Frames.{SameAt, wordAt, set-other, term-same}
+use Rattle.state.proofs.Formed.{Proper}
+use Rattle.state.proofs.Keep.{residual-kept}
+use Rattle.steps.specs.Acts.{wordIn, writesEntry, chosen, toConfirm, storeOf, setKey, leave, acted}
+use Rattle.steps.proofs.Acts.{chosen-inside, action-key, set-tick, set-key-other, set-length}
+use Rattle.judging.specs.Judging.{Decided}
+use Rattle.acting.specs.Acting.{Leaving, Setting}
+use Rattle.acting.specs.Gaining.{Within, Gaining, Gains}
+
+-- a place that no setting of a key of agent x changes
+record Still (x : ℕ) (q : Place) : Type 0 where
+  inside : Inside q
+  clock : same q Clock ≡ false
+  waits : same q (Waits Zp x) ≡ false
+  mark : (store : Store) (k : ℕ) → same q (Mark store k) ≡ false
+  word : (store : Store) (k : ℕ) → same q (Word store k) ≡ false
+
+module _ (t : Table) (scratch : List ℕ) (ready : Ready t scratch) (was : List ℕ) (proper : Proper t was) (x : ℕ) (there : x < t .sizes .agents) where
+  low : x < 32
+  low = omega (arith, ready .checked .sound .shaped .limits .agents)
+
+  -- WHAT A LABEL'S KEY LEAVES
+  label-other : (l : Label) → Labelled t l → (q : Place) → Still x q → SameAt (setKey t was x l) was q
+  label-other ticks h q s = ap (λ (u : List ℕ). wordAt u q) (set-tick t was x)
+  label-other (acts n) h q s = set-key-other t was x n (action-key t was x (ready .checked .sound) n h) q (s .inside) (s .clock) (s .waits) (s .mark (storeOf t was x n) (pAt t n)) (s .word (storeOf t was x n) (pAt t n))
+
+  module _ (c : ℕ) (marks : List ℕ) (does : Does) (v : ℕ) (d : Decided t was x c marks does v) where
+    abbrev D : Derivation
+    D = chosen t was x c
+
+    inside : InsideTable t D
+    inside = chosen-inside t was x (ready .checked .sound) (proper .formed .formed .residuals x there .over) c (d .able .there)
+
+    labelled : Labelled t (labelOf does)
+    labelled = subst (Labelled t) (sym (d .label)) (inside .label)
+
+    within : (e : Does) → Labelled t (labelOf e) → Within t e
+    within Ticking h = tt
+    within (Acting n) h = omega arith
+
+    pub decided-gaining : Gaining t was x marks does
+    decided-gaining =
+        record { shaped = ready .checked .sound .shaped; whole = proper .whole; agent = low; room = d .guards .room; within = within does labelled }
+
+    pub decided-setting : (n : ℕ) → does ≡ Acting n → Setting t was x n v
+    decided-setting n e =
+        let l : acts n ≡ D .label = sym (ap labelOf e) ∙ d .label in
+        let a : ActionNode t n = subst (Labelled t) (sym l) (inside .label) in
+        record {
+          shaped = ready .checked .sound .shaped;
+          whole = proper .whole;
+          agent = low;
+          action = a;
+          key = action-key t was x (ready .checked .sound) n a;
+          room = λ k. d .able .room (ap (writesEntry t was x) (sym l) ∙ eq-eqb (kindAt t n) 3 k);
+          value = sym (ap wordIn (d .value n e));
+        }
+
+    -- AFTER THE KEY AND ZC
+    module _ (g : ℕ) (keySet s : List ℕ) (set-key : keySet ≡ setKey t was x (labelOf does)) (set-zc : s ≡ set keySet (zcAt x) g) where
+      long : length s ≡ length was
+      long = ap (λ (u : List ℕ). length u) set-zc ∙ length-set keySet (zcAt x) g ∙ ap (λ (u : List ℕ). length u) set-key ∙ set-length t was x (labelOf does)
+
+      key-still : (q : Place) → Still x q → SameAt keySet was q
+      key-still q h = ap (λ (u : List ℕ). wordAt u q) set-key ∙ label-other (labelOf does) labelled q h
+
+      still : (q : Place) → Still x q → same q (Waits Zc x) ≡ false → SameAt s was q
+      still q h e = ap (λ (u : List ℕ). wordAt u q) set-zc ∙ set-other keySet (Waits Zc x) g tt q (h .inside) e ∙ key-still q h
+
+      same-size : SameAt s was (Length x)
+      same-size = still (Length x) (record { inside = tt; clock = refl; waits = refl; mark = λ store k. refl; word = λ store k. refl }) refl
+
+      same-words : (i : ℕ) → i < residualWords → SameAt s was (Residual x i)
+      same-words i l = still (Residual x i) (record { inside = l; clock = refl; waits = refl; mark = λ store k. refl; word = λ store k. refl }) refl
+
+      same-term : termIn s x ≡ termIn was x
+      same-term = term-same s was x long same-size same-words
+
+      same-chosen : chosen t s x c ≡ chosen t was x c
+      same-chosen = ap (λ (T : Term). taken t T c) same-term
+
+      pub decided-leaving : Leaving t s x c
+      decided-leaving = record {
+        whole = long ∙ proper .whole;
+        agent = low;
+        formed = residual-kept t was s x long same-size same-words (proper .formed .formed .residuals x there);
+        few = rw same-term (d .able .few);
+        there = rw same-term (d .able .there);
+        short = rw same-chosen (d .able .short);
+      }
+
+      zc-empty : zcOf keySet x ≡ 0
+      zc-empty = key-still (Waits Zc x) (record { inside = tt; clock = refl; waits = refl; mark = λ store k. refl; word = λ store k. refl }) ∙ d .able .confirmed
+
+      is-key-set : keySet ≡ setKey t was x (D .label)
+      is-key-set = set-key ∙ ap (setKey t was x) (d .label)
+
+      -- the residual comes last
+      pub decided-acted : Gains t was x marks does g → (out : List ℕ) → out ≡ leave x (words (chosen t s x c .leaving)) s → out ≡ acted t was x (chosen t was x c)
+      unfolding acted
+      decided-acted gains out o =
+          let e : g ≡ plusAll (toConfirm t was x D) keyLimit (zcOf keySet x) = gains D (d .label) (d .guards) ∙ ap (plusAll (toConfirm t was x D) keyLimit) (sym zc-empty) in
+          o ∙ ap₂ (λ (e : Derivation) (u : List ℕ). leave x (words (e .leaving)) u) same-chosen
+          (set-zc ∙ ap (set keySet (zcAt x)) e ∙ ap (λ (u : List ℕ). set u (zcAt x) (plusAll (toConfirm t was x D) keyLimit (zcOf u x))) is-key-set)

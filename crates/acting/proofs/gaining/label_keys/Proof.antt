@@ -1,0 +1,43 @@
+-- `label_keys` meets its contract. Assumes nothing.
+use mathlib.Core.Path.{subst}
+use native.Mathlib.Omega.{arith}
+use denote.Ref.{now}
+use Rattle.table.specs.Tables.{Table, table}
+use Rattle.choice.specs.declared.Does.{Does}
+use Rattle.acting.specs.Gaining.{Within}
+use Rattle.acting.proofs.Gains.{label-none, label-expression}
+use borrow.Author.Needs.{needs}
+use Rattle.acting.proofs.gaining.label_keys.Statement.{statement}
+use Rattle.acting.proofs.gaining.label_keys.Tie as tie
+
+abbrev tb : tie.Start → Table
+tb a = table (a .args .sizes) (now (a .args .kinds)) (now (a .args .operands))
+
+enum-told : tie.Need-enum-told
+enum-told c = search needs
+
+enum-known-does : tie.Need-enum-known-does
+enum-known-does c = search needs
+
+q-at-requires : tie.Need-q-at-requires
+q-at-requires c κs =
+    let a = c .before .before .before .before .before in
+    omega (arith, a .pre .0 .operands, subst (λ (d : Does). Within (tb a) d) (c .before .does .given .1) (a .pre .1))
+
+keys-read-requires : tie.Need-keys-read-requires
+keys-read-requires c κs = search needs
+
+returns : tie.Need-returns
+returns c =
+    let a = c .before .before .before .before in
+    λ was x. label-none (tb a) was x (a .args .does) (c .enum-told .given .1) (a .args .keys)
+
+returns-2 : tie.Need-returns-2
+returns-2 c =
+    let a = c .before .before .before .before .before .before .before in
+    λ was x. label-expression (tb a) was x (a .args .does) (c .before .before .before .does .given .1) (c .before .q-at .result) (c .before .q-at .ensures .is) (a .args .keys) (c .keys-read .result) (c .keys-read .ensures)
+
+pub label-keys-spec : {M : Type 1} → statement M
+label-keys-spec =
+    tie.close
+    (tie.spec enum-told enum-known-does q-at-requires keys-read-requires returns returns-2)

@@ -1,0 +1,62 @@
+-- `set_key` meets its contract. Assumes nothing.
+use denote.Ref.{now}
+use Rattle.table.specs.Tables.{Table, table}
+use Rattle.acting.proofs.Sets.{entered-is, stored-is}
+use borrow.Author.Needs.{needs}
+use Rattle.acting.proofs.setting.set_key.Statement.{statement}
+use Rattle.acting.proofs.setting.set_key.Tie as tie
+
+abbrev tb : tie.Start → Table
+tb a = table (a .args .sizes) (now (a .args .kinds)) (now (a .args .operands))
+
+p-at-requires : tie.Need-p-at-requires
+p-at-requires c κs = search needs
+
+shared-slice-read-kind : tie.Need-shared-slice-read-kind
+shared-slice-read-kind c = search needs
+
+write-entry-requires : tie.Need-write-entry-requires
+write-entry-requires c κs =
+    let p = c .before .before .before .before .before .before .before .pre in
+    let e = c .before .before .before .p-at .ensures .is in
+    record { whole = p .whole; agent = p .agent; key = rw e (p .key); room = p .room (c .before .if1 .taken) }
+
+store-of-requires : tie.Need-store-of-requires
+store-of-requires c κs = search needs
+
+put-requires : tie.Need-put-requires
+put-requires c κs =
+    let a = c .before .before .before .before .before .before .before .before in
+    (a .pre .whole, record { agent = c .before .store-of .ensures .agent; key = rw (c .before .before .before .before .p-at .ensures .is) (a .pre .key) })
+
+same-length : tie.Need-same-length
+same-length c = search needs
+
+returns : tie.Need-returns
+returns c =
+    let a = c .before .before .before .before .before .before .before .before .before .before in
+    entered-is (tb a) (now (a .args .state)) (a .args .agent) (a .args .node) (a .args .value) (a .pre) (c .before .before .before .before .before .before .p-at .result) (c .before .before .before .before .before .before .p-at .ensures .is) (c .before .before .write-entry .last .0) (c .before .before .before .before .if1 .taken)
+    (c .before .before .write-entry .ensures)
+
+same-length-2 : tie.Need-same-length-2
+same-length-2 c = search needs
+
+returns-2 : tie.Need-returns-2
+returns-2 c =
+    let a = c .before .before .before .before .before .before .before .before .before .before .before in
+    stored-is (tb a) (now (a .args .state)) (a .args .agent) (a .args .node) (a .args .value) (a .pre) (c .before .before .before .before .before .before .before .p-at .result) (c .before .before .before .before .before .before .before .p-at .ensures .is) (c .before .before .put .last .0) (c .before .before .before .before .before .if1 .left)
+    (c .before .before .before .before .store-of .result) (c .before .before .before .before .store-of .ensures) (c .before .before .put .ensures)
+
+pub set-key-spec : {M : Type 1} → statement M
+set-key-spec =
+    tie.close
+    (tie.spec
+    p-at-requires
+    shared-slice-read-kind
+    write-entry-requires
+    store-of-requires
+    put-requires
+    same-length
+    returns
+    same-length-2
+    returns-2)

@@ -1,0 +1,61 @@
+-- What an act comes to, and what its parts ask of the state.
+use Prim.Native.Nat.{ℕ, _<_, _≤_}
+use mathlib.Core.Bool.{true}
+use mathlib.Core.Path.{_≡_}
+use mathlib.Core.List.{List}
+use lib.ListN.{length, set}
+use Rattle.table.specs.Checks.{firstOf}
+use Rattle.table.specs.Tables.{Table, kindAt, pAt}
+use Rattle.table.specs.Sound.{Shaped}
+use Rattle.term.specs.Terms.{words}
+use Rattle.term.specs.Acceptance.{stateWords}
+use Rattle.term.specs.Processes.{allFew}
+use Rattle.term.proofs.Inside.{ActionNode}
+use Rattle.state.specs.declared.Store.{Store}
+use Rattle.state.specs.declared.Store.the-variants.{Entries}
+use Rattle.state.specs.Layout.{clockAt, zpAt, keyLimit, residualWords, clockOf, termIn, put, addKey}
+use Rattle.state.specs.Standing.{storeAgent}
+use Rattle.state.proofs.Formed.{ResidualFormed}
+use Rattle.steps.specs.Acts.{nextStamp, wordIn, valueFor, choices, actChecks, chosen, storeOf, acted}
+use Rattle.steps.specs.Steps.{outcome}
+use Rattle.judging.specs.Judging.{checkOf}
+
+-- choice c of agent x is done, or refused
+pub record Acts (t : Table) (was : List ℕ) (x c r : ℕ) (s : List ℕ) : Type 0 where
+  pub check : checkOf r ≡ firstOf (actChecks t was x c)
+  pub state : s ≡ outcome (firstOf (actChecks t was x c)) was 0 (acted t was x (chosen t was x c)) .state
+
+-- what choice c of agent x's residual leaves has room
+pub record Leaving (t : Table) (s : List ℕ) (x c : ℕ) : Type 0 where
+  pub whole : length s ≡ stateWords
+  pub agent : x < 32
+  pub formed : ResidualFormed t s x
+  pub few : allFew t (termIn s x) ≡ true
+  pub there : c < length (choices t s x)
+  pub short : length (words (chosen t s x c .leaving)) ≤ residualWords
+
+-- agent x can write to stigmergy key k
+pub record Entering (s : List ℕ) (x k : ℕ) : Type 0 where
+  pub whole : length s ≡ stateWords
+  pub agent : x < 32
+  pub key : k < keyLimit
+  pub room : clockOf s < 65535
+
+-- it has written v: the entry takes the next stamp, which becomes the clock, and the key waits to be propagated
+unfoldable pub entered : List ℕ → ℕ → ℕ → ℕ → List ℕ
+entered s x k v = set (addKey (zpAt x) k (put (Entries x) k v (nextStamp s) s)) clockAt (nextStamp s)
+
+-- the store that an action of a kind sets
+pub record Stored (kind x : ℕ) (r : Store) : Type 0 where
+  pub is : (t : Table) (was : List ℕ) (n : ℕ) → kindAt t n ≡ kind → r ≡ storeOf t was x n
+  pub agent : storeAgent r < 32
+
+-- action n of agent x sets its key to word v
+pub record Setting (t : Table) (s : List ℕ) (x n v : ℕ) : Type 0 where
+  pub shaped : Shaped t
+  pub whole : length s ≡ stateWords
+  pub agent : x < 32
+  pub action : ActionNode t n
+  pub key : pAt t n < keyLimit
+  pub room : kindAt t n ≡ 3 → clockOf s < 65535
+  pub value : v ≡ wordIn (valueFor t s x n)

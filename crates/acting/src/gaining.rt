@@ -1,0 +1,104 @@
+// The keys that Zc gains: those that the collected guards and the action's expression read, of which only those count that have an entry.
+use basis::has;
+use basis::plus;
+use choice::Does;
+use evaluation::keys_read;
+use state::Store;
+use state::mark_at;
+use table::Sizes;
+use table::is_guard;
+use table::q_at;
+ghost use mathlib.Core.Path.{_≡_};
+ghost use mathlib.Core.List.{List};
+ghost use Prim.Native.Nat.{ℕ, _<_, _≤_};
+ghost use lib.ListN.{length};
+ghost use Rattle.basis.specs.KeySets.{plusAll};
+ghost use Rattle.table.specs.Tables.{table};
+ghost use Rattle.table.specs.Sound.{Shaped};
+ghost use Rattle.term.specs.Acceptance.{stateWords};
+ghost use Rattle.choice.specs.Outcomes.{labelOf};
+ghost use Rattle.state.specs.Layout.{keyLimit};
+ghost use Rattle.evaluation.specs.Reading.{Adds};
+ghost use Rattle.steps.specs.Acts.{labelReads};
+ghost use Rattle.acting.specs.Gaining.{hasEntry, markedReadsAt, markedReads, Within, Gaining, Gains};
+
+// Of a set of keys, those that have an entry of an agent.
+fn with_entry(state: &[u32], agent: usize, keys: u32) -> u32
+    requires { ⌜ (length (now state) ≡ stateWords) × (agent < 32) ⌝ }
+    ensures { λ r. ⌜ r ≡ plusAll (hasEntry (now (state .entry)) agent keys) keyLimit 0 ⌝ }
+{
+    let mut found = 0;
+    let mut key = 0;
+    while key < 16 {
+        let at = mark_at(Store::Entries(agent), key);
+        if has(keys, key) & (0 < state[at]) {
+            found = plus(found, key);
+        }
+        key += 1;
+    }
+    found
+}
+
+// The set with the keys that a marked guard reads; another node adds none.
+fn node_keys(
+    sizes: Sizes,
+    kinds: &[u8],
+    operands: &[u8],
+    marks: &[u8],
+    node: usize,
+    keys: u32,
+) -> u32
+    requires { ⌜ Shaped (table sizes (now kinds) (now operands)) × (sizes .nodes ≤ length (now marks)) × (node < sizes .nodes) ⌝ }
+    ensures { λ r. ⌜ Adds (markedReadsAt (table sizes (now (kinds .entry)) (now (operands .entry))) (now (marks .entry)) node) keys r ⌝ }
+{
+    if is_guard(kinds[node]) & (marks[node] == 1) {
+        return keys_read(sizes, kinds, operands, node, keys);
+    }
+    keys
+}
+
+// The keys that the marked guards read.
+fn guard_keys(sizes: Sizes, kinds: &[u8], operands: &[u8], marks: &[u8]) -> u32
+    requires { ⌜ Shaped (table sizes (now kinds) (now operands)) × (sizes .nodes ≤ length (now marks)) ⌝ }
+    ensures { λ r. ⌜ Adds (markedReads (table sizes (now (kinds .entry)) (now (operands .entry))) (now (marks .entry)) (sizes .nodes)) 0 r ⌝ }
+{
+    let mut keys = 0;
+    let mut node = 0;
+    while node < sizes.nodes {
+        keys = node_keys(sizes, kinds, operands, marks, node, keys);
+        node += 1;
+    }
+    keys
+}
+
+// The set with the keys that an action's expression reads; a tick has none.
+fn label_keys(sizes: Sizes, kinds: &[u8], operands: &[u8], does: Does, keys: u32) -> u32
+    requires { ⌜ Shaped (table sizes (now kinds) (now operands)) × Within (table sizes (now kinds) (now operands)) does ⌝ }
+    ensures { λ r. ⌜ ((was : List ℕ) (x : ℕ) → Adds (labelReads (table sizes (now (kinds .entry)) (now (operands .entry))) was x (labelOf does)) keys r) ⌝ }
+{
+    match does {
+        Does::Ticking => keys,
+        Does::Acting(node) => {
+            let expression = q_at(operands, node);
+            keys_read(sizes, kinds, operands, expression, keys)
+        }
+    }
+}
+
+// What Zc gains in an act, from the state before.
+pub fn gained(
+    sizes: Sizes,
+    kinds: &[u8],
+    operands: &[u8],
+    marks: &[u8],
+    state: &[u32],
+    agent: usize,
+    does: Does,
+) -> u32
+    requires { ⌜ Gaining (table sizes (now kinds) (now operands)) (now state) agent (now marks) does ⌝ }
+    ensures { λ r. ⌜ Gains (table sizes (now (kinds .entry)) (now (operands .entry))) (now (state .entry)) agent (now (marks .entry)) does r ⌝ }
+{
+    let asked = guard_keys(sizes, kinds, operands, marks);
+    let keys = label_keys(sizes, kinds, operands, does, asked);
+    with_entry(state, agent, keys)
+}

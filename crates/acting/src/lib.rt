@@ -1,0 +1,52 @@
+// An agent's act: judged first, and written only where nothing refuses it.
+mod gaining; // gaining.rt: the keys that Zc gains
+mod leaving; // leaving.rt: the residual
+mod setting; // setting.rt: the key that an action sets
+mod writing; // writing.rt: all that an act writes
+
+use judging::judge;
+use table::Sizes;
+use writing::perform;
+ghost use Prim.Native.Nat.{_<_};
+ghost use Rattle.table.specs.Tables.{table};
+ghost use Rattle.choice.specs.Turns.{Ready};
+ghost use Rattle.state.proofs.Formed.{Proper};
+ghost use Rattle.acting.specs.Acting.{Acts};
+
+// Choice c of an agent is done, or refused: the answer is the refusal, or 0.
+pub fn act(
+    sizes: Sizes,
+    kinds: &[u8],
+    operands: &[u8],
+    scratch: &[u32],
+    state: &mut [u32],
+    agent: usize,
+    c: u64,
+) -> u8
+    requires { ⌜ Ready (table sizes (now kinds) (now operands)) (now scratch) ⌝ }
+    requires { ⌜ Proper (table sizes (now kinds) (now operands)) (now state) ⌝ }
+    requires { ⌜ agent < sizes .agents ⌝ }
+    ensures { λ r. ⌜ Acts (table sizes (now (kinds .entry)) (now (operands .entry))) (now (state .entry)) agent c r (now (state .exit)) ⌝ }
+{
+    let mut marks = [0u8; 4096];
+    let found = judge(sizes, kinds, operands, scratch, state, &mut marks, agent, c);
+    let refusal = found.refusal;
+    if refusal != 0 {
+        return refusal;
+    }
+    let does = found.does;
+    let value = found.value;
+    perform(
+        sizes,
+        kinds,
+        operands,
+        scratch,
+        &marks,
+        state,
+        agent,
+        c,
+        does,
+        value,
+    );
+    refusal
+}

@@ -1,0 +1,86 @@
+// The key that an action sets.
+use choice::Does;
+use state::Store;
+use state::add_key;
+use state::put;
+use state::zp_at;
+use table::Sizes;
+use table::p_at;
+ghost use mathlib.Core.Path.{_≡_};
+ghost use Prim.Native.Nat.{ℕ, _<_, _≤_};
+ghost use Rattle.table.specs.Tables.{table};
+ghost use Rattle.term.specs.Processes.{acts};
+ghost use Rattle.choice.specs.declared.Does.the-variants.{Acting};
+ghost use Rattle.choice.specs.Outcomes.{labelOf};
+ghost use Rattle.steps.specs.Acts.{setKey};
+ghost use Rattle.acting.specs.Acting.{Stored, Entering, entered, Setting};
+
+// The store that an action of a kind sets.
+fn store_of(kind: u8, agent: usize) -> Store
+    requires { ⌜ (2 ≤ kind) × (kind ≤ 4) × (agent < 32) ⌝ }
+    ensures { λ r. ⌜ Stored kind agent r ⌝ }
+{
+    if kind == 2 {
+        return Store::Attributes(agent);
+    }
+    if kind == 3 {
+        return Store::Entries(agent);
+    }
+    Store::Environment
+}
+
+// An entry takes the next stamp, which becomes the clock, and its key waits to be propagated.
+fn write_entry(state: &mut [u32], agent: usize, key: usize, value: u32)
+    requires { ⌜ Entering (now state) agent key ⌝ }
+    ensures { λ _. ⌜ now (state .exit) ≡ entered (now (state .entry)) agent key value ⌝ }
+{
+    let at = zp_at(agent);
+    let stamp = state[0] + 1;
+    put(state, Store::Entries(agent), key, value, stamp);
+    add_key(state, at, key);
+    state[0] = stamp;
+}
+
+// An action's key is set.
+fn set_key(
+    sizes: Sizes,
+    kinds: &[u8],
+    operands: &[u8],
+    state: &mut [u32],
+    agent: usize,
+    node: usize,
+    value: u32,
+)
+    requires { ⌜ Setting (table sizes (now kinds) (now operands)) (now state) agent node value ⌝ }
+    ensures { λ _. ⌜ now (state .exit) ≡ setKey (table sizes (now (kinds .entry)) (now (operands .entry))) (now (state .entry)) agent (acts node) ⌝ }
+{
+    let key = p_at(operands, node);
+    let kind = kinds[node];
+    if kind == 3 {
+        write_entry(state, agent, key, value);
+    } else {
+        let store = store_of(kind, agent);
+        put(state, store, key, value, 1);
+    }
+}
+
+// The key of an act is set; a tick has none.
+pub fn set_label(
+    sizes: Sizes,
+    kinds: &[u8],
+    operands: &[u8],
+    state: &mut [u32],
+    agent: usize,
+    does: Does,
+    value: u32,
+)
+    requires { ⌜ ((n : ℕ) → does ≡ Acting n → Setting (table sizes (now kinds) (now operands)) (now state) agent n value) ⌝ }
+    ensures { λ _. ⌜ now (state .exit) ≡ setKey (table sizes (now (kinds .entry)) (now (operands .entry))) (now (state .entry)) agent (labelOf does) ⌝ }
+{
+    match does {
+        Does::Ticking => {}
+        Does::Acting(node) => {
+            set_key(sizes, kinds, operands, state, agent, node, value);
+        }
+    }
+}

@@ -1,0 +1,51 @@
+// What an act writes: the key, Zc and the residual.
+use crate::gaining::gained;
+use crate::leaving::leave;
+use crate::setting::set_label;
+use choice::Does;
+use state::zc_at;
+use table::Sizes;
+ghost use mathlib.Core.Path.{_≡_};
+ghost use Prim.Native.Nat.{_<_};
+ghost use lib.ListN.{length, set};
+ghost use Rattle.table.specs.Tables.{table};
+ghost use Rattle.term.specs.Acceptance.{stateWords};
+ghost use Rattle.choice.specs.Turns.{Ready};
+ghost use Rattle.state.specs.Layout.{zcAt};
+ghost use Rattle.state.proofs.Formed.{Proper};
+ghost use Rattle.steps.specs.Acts.{chosen, acted};
+ghost use Rattle.judging.specs.Judging.{Decided};
+
+// An agent's Zc becomes a set of keys.
+fn set_zc(state: &mut [u32], agent: usize, keys: u32)
+    requires { ⌜ (length (now state) ≡ stateWords) × (agent < 32) ⌝ }
+    ensures { λ _. ⌜ now (state .exit) ≡ set (now (state .entry)) (zcAt agent) keys ⌝ }
+{
+    let at = zc_at(agent);
+    state[at] = keys;
+}
+
+// Choice c of an agent is done: what it does, the word that it sets, and its guards' marks are given.
+pub fn perform(
+    sizes: Sizes,
+    kinds: &[u8],
+    operands: &[u8],
+    scratch: &[u32],
+    marks: &[u8],
+    state: &mut [u32],
+    agent: usize,
+    c: u64,
+    does: Does,
+    value: u32,
+)
+    requires { ⌜ Ready (table sizes (now kinds) (now operands)) (now scratch) ⌝ }
+    requires { ⌜ Proper (table sizes (now kinds) (now operands)) (now state) ⌝ }
+    requires { ⌜ agent < sizes .agents ⌝ }
+    requires { ⌜ Decided (table sizes (now kinds) (now operands)) (now state) agent c (now marks) does value ⌝ }
+    ensures { λ _. ⌜ now (state .exit) ≡ acted (table sizes (now (kinds .entry)) (now (operands .entry))) (now (state .entry)) agent (chosen (table sizes (now (kinds .entry)) (now (operands .entry))) (now (state .entry)) agent c) ⌝ }
+{
+    let gains = gained(sizes, kinds, operands, marks, state, agent, does);
+    set_label(sizes, kinds, operands, state, agent, does, value);
+    set_zc(state, agent, gains);
+    leave(sizes, kinds, operands, scratch, state, agent, c);
+}
