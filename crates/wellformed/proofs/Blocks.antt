@@ -49,17 +49,18 @@ module _ (t : Table) (s : List ℕ) (a at start : ℕ) (length-is : at ≡ lengt
         ∙ sym (drop-take size residualWords (drop start s) short)
         ∙ ap (λ (i : ℕ). drop size (take residualWords (drop i s))) start-is ∙ ap (λ (n : ℕ). drop n (residualOf s a)) size-is
 
-    fits : (areTerms t 1 (take (lengthOf s a) (residualOf s a)) ≡ false) → false ≡ residualFormed t s a
+    broken : areTerms t 1 (take (lengthOf s a) (residualOf s a)) ≡ false → false ≡ residualFormed t s a
     unfolding residualFormed
-    fits e = rw (le-leb (lengthOf s a) residualWords (omega (arith, size-is)), e)
+    broken e = rw (le-leb (lengthOf s a) residualWords (omega (arith, size-is)), e)
 
-    rests : (areTerms t 1 (take (lengthOf s a) (residualOf s a)) ≡ true) → allZero (drop (lengthOf s a) (residualOf s a)) ≡ residualFormed t s a
+    rest : areTerms t 1 (take (lengthOf s a) (residualOf s a)) ≡ true → allZero (drop (lengthOf s a) (residualOf s a)) ≡ residualFormed t s a
     unfolding residualFormed
-    rests e = rw (le-leb (lengthOf s a) residualWords (omega (arith, size-is)), e)
+    rest e = rw (le-leb (lengthOf s a) residualWords (omega (arith, size-is)), e)
 
+    -- as code looks at it, in two parts of the state
     pub residual-broken : areTerms t 1 (take (start + size - start) (drop start s)) ≡ false → false ≡ residualFormed t s a
-    residual-broken e = fits (ap (areTerms t 1) (sym front) ∙ e)
+    residual-broken e = broken (ap (areTerms t 1) (sym front) ∙ e)
 
     pub residual-rest : areTerms t 1 (take (start + size - start) (drop start s)) ≡ true
         → allZero (take (start + residualWords - (start + size)) (drop (start + size) s)) ≡ residualFormed t s a
-    residual-rest e = ap allZero back ∙ rests (ap (areTerms t 1) (sym front) ∙ e)
+    residual-rest e = ap allZero back ∙ rest (ap (areTerms t 1) (sym front) ∙ e)
