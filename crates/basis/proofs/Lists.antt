@@ -9,7 +9,7 @@ use mathlib.Core.List.{List, [], _∷_, _++_}
 use native.Mathlib.Nat.{suc-sub-suc, sub-zero, le-of-suc-le-suc, not-suc-le-zero}
 use native.Mathlib.Omega.{arith}
 use lib.Dec.{eqb}
-use lib.ListN.{length, getD, getElem?, set, take, drop, length-drop}
+use lib.ListN.{length, getD, getElem?, set, take, drop, replicate, length-drop}
 use lib.Seq.{getD-set-same, getD-set-other, getD-take, getD-drop, take-all}
 use borrow.Author.Tests.{eq-eqb, ne-eqb}
 use Rattle.basis.proofs.Tests.{same-or-other, lt-or-le}
@@ -27,6 +27,12 @@ module _ {A : Type 0} where
 
   pub take-rest : (l : List A) (a : ℕ) → take (length l - a) (drop a l) ≡ drop a l
   take-rest l a = take-all (length l - a) (drop a l) (omega (arith, length-drop a l))
+
+  -- a row of one element, read anywhere
+  pub getD-row : (n i : ℕ) (a : A) → getD (replicate n a) i a ≡ a
+  getD-row zero i a = refl
+  getD-row (suc n) zero a = refl
+  getD-row (suc n) (suc i) a = getD-row n i a
 
   -- what stands at a place of two lists in a row, and past the end
   pub nth-left : (xs ys : List A) (n : ℕ) → n < length xs → getElem? (xs ++ ys) n ≡ getElem? xs n

@@ -1,22 +1,16 @@
 -- `tables::print_start` ends, and calls by contract.
 -- Assumes nothing.
-use Prim.Native.Nat.{ℕ, zero, suc}
-use mathlib.Core.Path.{_≡_, refl, sym, _∙_}
+use mathlib.Core.Path.{sym, _∙_}
 use native.Mathlib.Omega.{arith}
 use denote.Ref.{now}
-use lib.ListN.{getD, replicate}
+use lib.ListN.{replicate}
 use borrow.Author.Tests.{not-false}
+use Rattle.basis.proofs.Lists.{getD-row}
 use Rattle.table.specs.Tables.{table}
 use Rattle.choice.proofs.Collecting.{marks-zero}
 use borrow.Author.Needs.{needs}
 use Rattle.tables.proofs.print_start.Statement.{statement}
 use Rattle.tables.proofs.print_start.Tie as tie
-
--- in a row of 0 stands 0 everywhere, also past its end
-no-mark : (k n : ℕ) → getD {A = ℕ} (replicate k 0) n 0 ≡ 0
-no-mark zero n = refl
-no-mark (suc k) zero = refl
-no-mark (suc k) (suc n) = no-mark k n
 
 first-root-requires : tie.Need-first-root-requires
 first-root-requires c κs = search needs
@@ -61,7 +55,7 @@ print-last-choice-requires c κs =
       a .pre,
       (
         record { fits = omega arith; room = omega arith; term = sym (w .ensures (now (a .args .operands))) ∙ not-false (w .result) (c .before .before .if1 .left) },
-        marks-zero (table (a .args .sizes) (now (a .args .kinds)) (now (a .args .operands))) (replicate 4096 0) (omega (arith, a .pre .checked .sound .shaped .limits .nodes)) (no-mark 4096),
+        marks-zero (table (a .args .sizes) (now (a .args .kinds)) (now (a .args .operands))) (replicate 4096 0) (omega (arith, a .pre .checked .sound .shaped .limits .nodes)) (λ n. getD-row 4096 n 0),
       ),
     )
 
