@@ -30,7 +30,7 @@ fn print_does(does: Does) {
     }
 }
 
-// How many guards are marked. Marked process nodes are none.
+// How many guards are marked; a process node that is marked as walked does not count.
 fn marked_guards(kinds: &[u8], marks: &[u8]) -> usize
     requires { ⌜ length (now kinds) ≤ length (now marks) ⌝ }
     ensures { λ r. ⌜ r ≡ howMany (markedGuard (now (kinds .entry)) (now (marks .entry))) (length (now (kinds .entry))) ⌝ }

@@ -24,7 +24,7 @@ fn print_refusal(number: u8, place: usize) {
     io::write_all(OUTPUT, b"\n");
 }
 
-// The first agent's starting process, and its last choice.
+// The first agent's starting process, which is a whole term in every accepted table, and its last choice.
 fn print_start(sizes: Sizes, kinds: &[u8], operands: &[u8], scratch: &[u32])
     requires { ⌜ Ready (table sizes (now kinds) (now operands)) (now scratch) ⌝ }
 {
