@@ -72,6 +72,8 @@ pub enum GuardForm {
 /// An action: set a key of a store to the value of an expression.
 #[derive(Clone, Debug)]
 pub struct Assignment {
+    /// The process node that sets.
+    pub node: NodeId,
     pub store: Store,
     pub key: Key,
     pub value: Rc<Expr>,

@@ -184,7 +184,7 @@ impl<'a> Reader<'a> {
         let id = id as NodeId;
         match kind {
             0..=9 => {
-                let form = self.process_form(kind, p, q)?;
+                let form = self.process_form(id, kind, p, q)?;
                 let count = OnceCell::new();
                 Some(Node::Process(Rc::new(Process { id, form, count })))
             }
@@ -209,7 +209,7 @@ impl<'a> Reader<'a> {
         }
     }
 
-    fn process_form(&mut self, kind: u8, p: u16, q: u16) -> Option<ProcessForm> {
+    fn process_form(&mut self, node: NodeId, kind: u8, p: u16, q: u16) -> Option<ProcessForm> {
         Some(match kind {
             0 | 1 => {
                 zero(p)?;
@@ -228,7 +228,12 @@ impl<'a> Reader<'a> {
                 };
                 let key = below(p, size)?;
                 let value = self.expr(q)?;
-                ProcessForm::Set(Assignment { store, key, value })
+                ProcessForm::Set(Assignment {
+                    node,
+                    store,
+                    key,
+                    value,
+                })
             }
             5 => ProcessForm::Sequence(self.process(p)?, self.process(q)?),
             6 => ProcessForm::Choice(self.process(p)?, self.process(q)?),

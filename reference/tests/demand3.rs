@@ -14,14 +14,24 @@ use reference::rng::Rng;
 use reference::state::{Entry, World};
 use reference::step::Step;
 
-/// What a list of steps came to.
-#[derive(Default)]
+/// What lists of steps came to.
+#[derive(Debug, Default)]
 struct Seen {
     done: usize,
     refused: usize,
     taken: usize,
     writes: usize,
     newer: usize,
+}
+
+impl Seen {
+    fn is_over(&self, least: &Seen) -> bool {
+        self.done > least.done
+            && self.refused > least.refused
+            && self.taken > least.taken
+            && self.writes > least.writes
+            && self.newer > least.newer
+    }
 }
 
 /// Does random steps on a lent state and watches them.
@@ -71,40 +81,46 @@ fn watch(rng: &mut Rng, table: &[u8], length: usize, seen: &mut Seen) {
     seen.newer += watch.newer;
 }
 
+/// Watches a list in each round, on a table and of a length that the round
+/// gives; together they did more than the least.
+fn holds(
+    seed: u64,
+    rounds: usize,
+    least: Seen,
+    mut list: impl FnMut(&mut Rng, usize) -> (Vec<u8>, usize),
+) {
+    let rng = &mut Rng::new(seed);
+    let mut seen = Seen::default();
+    for round in 0..rounds {
+        let (table, length) = list(rng, round);
+        watch(rng, &table, length, &mut seen);
+    }
+    assert!(seen.is_over(&least), "{seen:?}");
+}
+
 #[test]
 fn holds_along_random_lists() {
-    let rng = &mut Rng::new(11);
-    let mut seen = Seen::default();
-    for round in 0..400 {
+    let least = Seen {
+        done: 2_000,
+        refused: 500,
+        taken: 300,
+        writes: 300,
+        newer: 300,
+    };
+    holds(11, 400, least, |rng, round| {
         let scale = match round % 13 {
             0 => Scale::Large,
             1..=4 => Scale::Small,
             _ => Scale::Middle,
         };
         let (table, _) = accepted(rng, scale);
-        let length = rng.below(80);
-        watch(rng, &table, length, &mut seen);
-    }
-    // The lists did something.
-    assert!(
-        seen.done > 2_000 && seen.refused > 500,
-        "{} {}",
-        seen.done,
-        seen.refused
-    );
-    assert!(
-        seen.writes > 300 && seen.taken > 300,
-        "{} {}",
-        seen.writes,
-        seen.taken
-    );
-    assert!(seen.newer > 300, "{}", seen.newer);
+        (table, rng.below(80))
+    });
 }
 
-#[test]
-fn holds_where_all_write() {
-    // Four agents write two keys for ever, each from what it reads; the links
-    // are true, or lead to higher values of an attribute that changes too.
+/// Four agents write two keys for ever, each from what it reads; the links are
+/// true, or lead to higher values of an attribute that changes too.
+fn all_write() -> Draft {
     let mut draft = Draft::new(1, 1);
     let mut bodies = Vec::new();
     for key in 0..2 {
@@ -131,19 +147,20 @@ fn holds_where_all_write() {
     draft.link(truth);
     draft.link(unlike);
     draft.agents = vec![loop_of; 4];
-    let table = draft.bytes();
-    let rng = &mut Rng::new(12);
-    let mut seen = Seen::default();
-    for _ in 0..30 {
-        watch(rng, &table, 200, &mut seen);
-    }
-    assert!(
-        seen.writes > 1_000 && seen.taken > 1_000,
-        "{} {}",
-        seen.writes,
-        seen.taken
-    );
-    assert!(seen.newer > 3_000, "{}", seen.newer);
+    draft
+}
+
+#[test]
+fn holds_where_all_write() {
+    let least = Seen {
+        done: 4_000,
+        refused: 100,
+        taken: 1_000,
+        writes: 1_000,
+        newer: 3_000,
+    };
+    let table = all_write().bytes();
+    holds(12, 30, least, |_, _| (table.clone(), 200));
 }
 
 #[test]
@@ -154,17 +171,23 @@ fn the_empty_list_has_no_writes() {
     assert_eq!(watch.after(&world(&table, &start(&table))), Ok(()));
 }
 
+/// The world after these steps from load, and its watch.
+fn after_steps(table: &[u8], steps: &[Step]) -> (World, Watch) {
+    let mut lent = start(table);
+    let mut watch = Watch::after_load(table).unwrap();
+    for &next in steps {
+        watch.before(&world(table, &lent));
+        let answer = do_step(table, &mut lent, next);
+        assert_eq!(watch.history.note(SCRATCH, next), answer);
+        assert_eq!(watch.after(&world(table, &lent)), Ok(()));
+    }
+    (world(table, &lent), watch)
+}
+
 /// The example after the first write, and its watch.
 fn after_a_write() -> (World, Watch) {
     let table = edges::example().bytes();
-    let mut lent = start(&table);
-    let mut watch = Watch::after_load(&table).unwrap();
-    for next in [Step::act(1, 0), Step::act(0, 0)] {
-        watch.before(&world(&table, &lent));
-        let answer = do_step(&table, &mut lent, next);
-        assert_eq!(watch.history.note(SCRATCH, next), answer);
-        assert_eq!(watch.after(&world(&table, &lent)), Ok(()));
-    }
+    let (after, watch) = after_steps(&table, &[Step::act(1, 0), Step::act(0, 0)]);
     let wanted = Write {
         agent: 0,
         key: 0,
@@ -172,7 +195,7 @@ fn after_a_write() -> (World, Watch) {
         stamp: 1,
     };
     assert_eq!(watch.history.writes, [wanted]);
-    (world(&table, &lent), watch)
+    (after, watch)
 }
 
 #[test]
@@ -220,17 +243,9 @@ fn a_link_that_did_not_always_hold_promises_nothing() {
     draft.agent(write);
     draft.agent(enter);
     let table = draft.bytes();
-    let mut lent = start(&table);
-    let mut watch = Watch::after_load(&table).unwrap();
-    for next in [Step::act(0, 0), Step::propagate(0, 0), Step::act(1, 0)] {
-        watch.before(&world(&table, &lent));
-        let answer = do_step(&table, &mut lent, next);
-        assert_eq!(answer, Ok(0));
-        assert_eq!(watch.history.note(SCRATCH, next), answer);
-        assert_eq!(watch.after(&world(&table, &lent)), Ok(()));
-    }
+    let steps = [Step::act(0, 0), Step::propagate(0, 0), Step::act(1, 0)];
+    let (after, watch) = after_steps(&table, &steps);
     // Agent 0 is newer, linked by now, and its key does not wait.
-    let after = world(&table, &lent);
     assert!(after.linked(&fleet(&table), 0, 0, 1));
     assert!(after.agents[0].stamp(0) > after.agents[1].stamp(0));
     assert!(after.agents[0].to_propagate.is_empty());

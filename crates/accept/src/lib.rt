@@ -1,18 +1,23 @@
 // Which tables are accepted: how many derivations each node has, refusals 6 and 7, and all refusals of a table in order.
 mod calls;
 mod nodes;
-pub mod sums;
-pub mod words;
+mod sums;
+mod words;
 
 use calls::lowest_bad_call;
 use nodes::lowest_overfull;
 use nodes::pass;
+pub use sums::NONE;
+pub use sums::TICK;
+pub use sums::parallel;
+pub use sums::sequence;
 use table::Measured;
 use table::Sizes;
 use table::first_root;
 use table::lowest_bad;
 use table::lowest_wrong;
 use table::measure;
+pub use words::pair;
 ghost use mathlib.Core.Path.{_≡_};
 ghost use mathlib.Core.List.{_∷_};
 ghost use Prim.Native.Nat.{_*_, _≤_};

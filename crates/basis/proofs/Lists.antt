@@ -35,6 +35,12 @@ module _ {A : Type 0} where
   drop-take (suc n) (suc m) [] h = sym (take-nil (suc m - suc n))
   drop-take (suc n) (suc m) (x ∷ l) h = rw (suc-sub-suc m n) (drop-take n m l (le-of-suc-le-suc h))
 
+  -- a row of one element, read anywhere
+  pub getD-row : (n i : ℕ) (a : A) → getD (replicate n a) i a ≡ a
+  getD-row zero i a = refl
+  getD-row (suc n) zero a = refl
+  getD-row (suc n) (suc i) a = getD-row n i a
+
   -- what stands at a place of two lists in a row, and past the end
   pub nth-left : (xs ys : List A) (n : ℕ) → n < length xs → getElem? (xs ++ ys) n ≡ getElem? xs n
   nth-left [] ys n h = absurd (not-suc-le-zero h)

@@ -41,6 +41,15 @@ pub or-neither : (a b : Bool) → (a || b) ≡ false → (a ≡ false) × (b ≡
 or-neither true b e = absurd (not-both refl e)
 or-neither false b e = (refl, e)
 
+-- b is asked only where a holds
+pub or-implies : (a b : Bool) → a ≡ true → (not a || b) ≡ true → b ≡ true
+or-implies true b e f = f
+or-implies false b e f = absurd (not-both e refl)
+
+pub and-when : (a b c : Bool) → (a ≡ true → b ≡ c) → (a && b) ≡ (a && c)
+and-when true b c f = f refl
+and-when false b c f = refl
+
 pub and-left : (a b : Bool) → (a && b) ≡ true → a ≡ true
 and-left true b e = refl
 and-left false b e = e

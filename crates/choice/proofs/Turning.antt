@@ -1,14 +1,14 @@
 -- Each step from a node towards its choice is right, and goes down.
 -- Assumes nothing.
 use Prim.Native.Nat.{ℕ, zero, suc, _+_, _*_, _-_, _<_, _≤_}
-use mathlib.Core.Bool.{Bool, true, false, not, _&&_, _||_}
+use mathlib.Core.Bool.{true, not, _&&_, _||_}
 use mathlib.Core.Logic.{⊎-elim}
 use mathlib.Core.Path.{_≡_, refl, sym, ap, ap₂, subst, _∙_}
 use mathlib.Core.List.{List, [], _∷_, _++_, append-nil}
 use native.Mathlib.Omega.{arith}
 use lib.ListN.{length, getD}
 use borrow.Author.Tests.{lt-ltb, le-ltb, ltb-true}
-use Rattle.basis.proofs.Tests.{lt-or-le, not-both, and-left, and-right}
+use Rattle.basis.proofs.Tests.{lt-or-le, or-implies, and-left, and-right}
 use Rattle.table.specs.Tables.{Table, kindAt, pAt, qAt, bodyAt}
 use Rattle.table.proofs.Promises.{guarded-operands, body-process}
 use Rattle.term.specs.declared.Mode.{Mode}
@@ -34,10 +34,6 @@ use Rattle.choice.specs.Picks.{actingOf, totalOf, pickOf}
 use Rattle.choice.specs.Turns.{pickTurn, choiceTurn, Ready, Reached, Around, Collected, Turned}
 use Rattle.choice.proofs.Chosen.{no-idle, chosen-tick, chosen-act, chosen-guarded, chosen-choice-left, chosen-choice-right, chosen-same, count-same}
 use Rattle.choice.proofs.Picking.{acting-true, total-true, SeqPicked, ParPicked, seq-picked, par-picked}
-
-or-right : (a b : Bool) → a ≡ true → (not a || b) ≡ true → b ≡ true
-or-right true b e f = f
-or-right false b e f = absurd (not-both e refl)
 
 -- the ways to stand around a derivation
 module _ (d e : Derivation) (q : Term) where
@@ -161,7 +157,7 @@ module _ (t : Table) (s : List ℕ) (ready : Ready t s) (level : ℕ) (m : Mode)
 
       right-calls : (j : ℕ) → j < tickCount (N p) → callsBelow level (N q) ≡ true
       right-calls j h =
-          or-right (canTick (N p)) (callsBelow level (N q)) (can-tick-iff (N p) .1 (omega arith))
+          or-implies (canTick (N p)) (callsBelow level (N q)) (can-tick-iff (N p) .1 (omega arith))
           (and-right (callsBelow level (N p)) (not (canTick (N p)) || callsBelow level (N q)) calls)
 
       by : (y : Pick) → Picked y → Turned t level m n c (chosen m (seq (N p) (N q) (Node q)) c) (pickTurn seqWord p q y)

@@ -4,7 +4,7 @@ use crate::Turn;
 use crate::turns::body_at;
 use crate::turns::turn_at;
 use accept::Counts;
-use accept::words::pair;
+use accept::pair;
 use table::Sizes;
 use term::Mode;
 ghost use mathlib.Core.Path.{_≡_};
@@ -93,46 +93,19 @@ fn walk_node(
                     mark_node(sizes, kinds, operands, scratch, marks, level, mode, k, i);
                 }
                 Side::After(u, j) => {
-                    mark_node(
-                        sizes,
-                        kinds,
-                        operands,
-                        scratch,
-                        marks,
-                        level,
-                        Mode::Ticks,
-                        u,
-                        j,
-                    );
+                    let ticks = Mode::Ticks;
+                    mark_node(sizes, kinds, operands, scratch, marks, level, ticks, u, j);
                     mark_node(sizes, kinds, operands, scratch, marks, level, mode, k, i);
                 }
             }
         }
         Turn::Left(_, k, i, _) => {
-            mark_node(
-                sizes,
-                kinds,
-                operands,
-                scratch,
-                marks,
-                level,
-                Mode::Actions,
-                k,
-                i,
-            );
+            let acts = Mode::Actions;
+            mark_node(sizes, kinds, operands, scratch, marks, level, acts, k, i);
         }
         Turn::Right(_, k, i) => {
-            mark_node(
-                sizes,
-                kinds,
-                operands,
-                scratch,
-                marks,
-                level,
-                Mode::Actions,
-                k,
-                i,
-            );
+            let acts = Mode::Actions;
+            mark_node(sizes, kinds, operands, scratch, marks, level, acts, k, i);
         }
         Turn::Call(d) => {
             let body = body_at(sizes, operands, d);

@@ -6,7 +6,7 @@ use crate::picks::acting;
 use crate::picks::pick;
 use crate::picks::total;
 use accept::Counts;
-use accept::words::pair;
+use accept::pair;
 use table::Sizes;
 use table::first_root;
 use table::p_at;

@@ -2,22 +2,18 @@
 use crate::Measured;
 use crate::reading::is_operator;
 use accept::Counts;
-use accept::sums::parallel;
-use accept::sums::sequence;
-use accept::words::pair;
+use accept::NONE;
+use accept::TICK;
+use accept::pair;
+use accept::parallel;
+use accept::sequence;
 ghost use mathlib.Core.Path.{_≡_};
 ghost use mathlib.Core.Bool.{_&&_};
 ghost use Prim.Native.Nat.{_+_, _≤_};
 ghost use lib.Dec.{leb};
 ghost use lib.ListN.{length};
-ghost use Rattle.accept.specs.Counts.{counts as countsFrom, Small};
+ghost use Rattle.accept.specs.Counts.{Small};
 ghost use Rattle.residual.specs.Measures.{leafCounts, operatorCounts, Pairs, Found};
-
-fn counts(actions: u64, ticks: u64) -> Counts
-    ensures { λ r. ⌜ r ≡ countsFrom actions ticks ⌝ }
-{
-    Counts { actions, ticks }
-}
 
 // The counts of a word that is a term by itself.
 fn leaf(roots: usize, scratch: &[u32], word: u32) -> Counts
@@ -25,13 +21,13 @@ fn leaf(roots: usize, scratch: &[u32], word: u32) -> Counts
     ensures { λ r. ⌜ r ≡ leafCounts roots (now (scratch .entry)) word ⌝ }
 {
     if word == 65533 {
-        return counts(0, 1);
+        return TICK;
     }
     let n = word as usize;
     if n < roots {
         return pair(scratch, n);
     }
-    counts(0, 0)
+    NONE
 }
 
 // The counts of an operator's term, from those of its parts.
@@ -71,9 +67,8 @@ pub fn measure(roots: usize, scratch: &[u32], words: &[u32], at: usize) -> Measu
     ensures { λ r. ⌜ Found roots (now (scratch .entry)) (now (words .entry)) at r ⌝ }
 {
     if at == words.len() {
-        let none = counts(0, 0);
         return Measured {
-            counts: none,
+            counts: NONE,
             next: at,
             few: true,
         };
@@ -92,9 +87,10 @@ pub fn measure(roots: usize, scratch: &[u32], words: &[u32], at: usize) -> Measu
     }
     let c = leaf(roots, scratch, word);
     let all = few(c);
+    let next = at + 1;
     Measured {
         counts: c,
-        next: at + 1,
+        next,
         few: all,
     }
 }

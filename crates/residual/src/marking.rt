@@ -35,91 +35,31 @@ pub fn mark_at(
     match step {
         Step::Ticked => {}
         Step::Leaf(n) => {
-            mark_node(
-                sizes,
-                kinds,
-                operands,
-                scratch,
-                marks,
-                sizes.definitions,
-                mode,
-                n,
-                c,
-            );
+            let level = sizes.definitions;
+            mark_node(sizes, kinds, operands, scratch, marks, level, mode, n, c);
         }
         Step::In(_, i, _) => {
-            mark_at(
-                sizes,
-                kinds,
-                operands,
-                scratch,
-                marks,
-                words,
-                at + 1,
-                Mode::Actions,
-                i,
-            );
+            let p = at + 1;
+            let acts = Mode::Actions;
+            mark_at(sizes, kinds, operands, scratch, marks, words, p, acts, i);
         }
-        Step::Jump(middle, i, j) => {
-            mark_at(
-                sizes,
-                kinds,
-                operands,
-                scratch,
-                marks,
-                words,
-                at + 1,
-                Mode::Ticks,
-                j,
-            );
-            mark_at(
-                sizes,
-                kinds,
-                operands,
-                scratch,
-                marks,
-                words,
-                middle,
-                mode,
-                i,
-            );
+        Step::Jump(q, i, j) => {
+            let p = at + 1;
+            let ticks = Mode::Ticks;
+            mark_at(sizes, kinds, operands, scratch, marks, words, p, ticks, j);
+            mark_at(sizes, kinds, operands, scratch, marks, words, q, mode, i);
         }
         Step::Copy(n, i) => {
-            mark_at(
-                sizes,
-                kinds,
-                operands,
-                scratch,
-                marks,
-                words,
-                at + n,
-                Mode::Actions,
-                i,
-            );
+            let q = at + n;
+            let acts = Mode::Actions;
+            mark_at(sizes, kinds, operands, scratch, marks, words, q, acts, i);
         }
         Step::Drop(n, _, i, j) => {
-            mark_at(
-                sizes,
-                kinds,
-                operands,
-                scratch,
-                marks,
-                words,
-                at + 1 + n,
-                Mode::Ticks,
-                j,
-            );
-            mark_at(
-                sizes,
-                kinds,
-                operands,
-                scratch,
-                marks,
-                words,
-                at + 1,
-                mode,
-                i,
-            );
+            let q = at + 1 + n;
+            let ticks = Mode::Ticks;
+            mark_at(sizes, kinds, operands, scratch, marks, words, q, ticks, j);
+            let p = at + 1;
+            mark_at(sizes, kinds, operands, scratch, marks, words, p, mode, i);
         }
     }
 }

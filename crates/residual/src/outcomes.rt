@@ -38,43 +38,21 @@ pub fn outcome_at(
             does: Does::Ticking,
             size: 1,
         },
-        Step::Leaf(n) => node_outcome(
-            sizes,
-            kinds,
-            operands,
-            scratch,
-            sizes.definitions,
-            mode,
-            n,
-            c,
-        ),
+        Step::Leaf(n) => {
+            let level = sizes.definitions;
+            node_outcome(sizes, kinds, operands, scratch, level, mode, n, c)
+        }
         Step::In(_, i, more) => {
-            let o = outcome_at(
-                sizes,
-                kinds,
-                operands,
-                scratch,
-                words,
-                at + 1,
-                Mode::Actions,
-                i,
-            );
+            let acts = Mode::Actions;
+            let o = outcome_at(sizes, kinds, operands, scratch, words, at + 1, acts, i);
             grown(o, 1 + more)
         }
         Step::Jump(middle, i, _) => {
             outcome_at(sizes, kinds, operands, scratch, words, middle, mode, i)
         }
         Step::Copy(n, i) => {
-            let o = outcome_at(
-                sizes,
-                kinds,
-                operands,
-                scratch,
-                words,
-                at + n,
-                Mode::Actions,
-                i,
-            );
+            let acts = Mode::Actions;
+            let o = outcome_at(sizes, kinds, operands, scratch, words, at + n, acts, i);
             grown(o, n)
         }
         Step::Drop(_, _, i, _) => {

@@ -39,10 +39,9 @@ pub fn place(
     match step {
         Step::Ticked => {
             put(words, front, 65532);
-            Gap {
-                front: front + 1,
-                back: at + 1,
-            }
+            let next = front + 1;
+            let back = at + 1;
+            Gap { front: next, back }
         }
         Step::Leaf(n) => write_node(
             sizes,
@@ -59,42 +58,18 @@ pub fn place(
         ),
         Step::In(w, i, _) => {
             put(words, front, w);
-            place(
-                sizes,
-                kinds,
-                operands,
-                scratch,
-                words,
-                front + 1,
-                at + 1,
-                Mode::Actions,
-                i,
-            )
+            let next = front + 1;
+            let p = at + 1;
+            let acts = Mode::Actions;
+            place(sizes, kinds, operands, scratch, words, next, p, acts, i)
         }
-        Step::Jump(middle, i, _) => place(
-            sizes,
-            kinds,
-            operands,
-            scratch,
-            words,
-            front,
-            middle,
-            mode,
-            i,
-        ),
+        Step::Jump(q, i, _) => place(sizes, kinds, operands, scratch, words, front, q, mode, i),
         Step::Copy(n, i) => {
             move_down(words, at, front, n);
-            place(
-                sizes,
-                kinds,
-                operands,
-                scratch,
-                words,
-                front + n,
-                at + n,
-                Mode::Actions,
-                i,
-            )
+            let next = front + n;
+            let q = at + n;
+            let acts = Mode::Actions;
+            place(sizes, kinds, operands, scratch, words, next, q, acts, i)
         }
         Step::Drop(n, to, i, _) => {
             move_up(words, at + 1, to, n);

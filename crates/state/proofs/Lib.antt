@@ -7,4 +7,4 @@ pub mod Exact
 pub mod Evaluation
 pub mod Load
 pub mod Keep
-pub mod Examples
+pub mod Direction

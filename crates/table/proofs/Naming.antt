@@ -8,11 +8,11 @@ use lib.Dec.{eqb}
 use lib.ListN.{length}
 use Rattle.basis.specs.Numbers.{some}
 use Rattle.basis.proofs.Numbers.{some-more}
+use Rattle.basis.proofs.Tests.{and-when}
 use Rattle.table.specs.Tables.{Table, pAt, qAt}
 use Rattle.table.specs.Nodes.{fitting, leftNode, rightNode, names, inner, named, namesAgain, badNode}
 use Rattle.table.specs.Marks.{isMarked, marked, Shows, Marks}
 use Rattle.table.proofs.Marking.{word, shows-is, low-p, low-q, shows-once, shows-twice}
-use Rattle.table.proofs.Reaches.{and-when}
 
 -- two tests that are the same by their tables
 again-test : (i l r a b e : Bool) → (((i && l) && a) || ((i && r) && (b || ((i && l) && e)))) ≡ (i && ((l && a) || ((r && b) || (l && (r && e)))))

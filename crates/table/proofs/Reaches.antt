@@ -10,15 +10,11 @@ use borrow.Author.Tests.{eqb-true, eq-eqb}
 use Rattle.basis.specs.Below.{below}
 use Rattle.basis.proofs.Below.{below-at, below-same}
 use Rattle.basis.proofs.Numbers.{some-at, some-witness}
-use Rattle.basis.proofs.Tests.{and-left, and-right, and-both, or-either, or-left, or-right, same-or-other}
+use Rattle.basis.proofs.Tests.{and-left, and-right, and-both, and-when, or-either, or-left, or-right, same-or-other}
 use Rattle.table.specs.Tables.{Table, pAt, qAt}
 use Rattle.table.specs.Nodes.{fitting, leftNode, rightNode, names}
 use Rattle.table.specs.Reach.{reachStep, reaches, reachedFrom}
 use Rattle.table.proofs.Operands.{left-lower, right-lower, names-lower, names-left, names-right}
-
-pub and-when : (a b c : Bool) → (a ≡ true → b ≡ c) → (a && b) ≡ (a && c)
-and-when true b c f = f refl
-and-when false b c f = refl
 
 module _ (t : Table) (good : (k : ℕ) → k < t .sizes .nodes → fitting t k ≡ true) where
   abbrev N : ℕ

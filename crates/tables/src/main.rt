@@ -1,8 +1,18 @@
-// Judges the tables on standard input, which stand one after another, each as long as its header says, and prints a line for each.
+// Judges the tables on standard input, which stand one after another, each as long as its header says, and prints a line for each: its refusal,
+// or how many choices the first agent's starting process has, and of the last one what it does, the number of its guards, and what it leaves.
+mod choices; // choices.rt: the last choice of a residual
+
 use accept::Acceptance;
+use choices::print_last_choice;
+use residual::reading::whole_term;
+use table::Sizes;
+use table::first_root;
+use table::p_at;
 ghost use mathlib.Core.Path.{_≡_};
 ghost use Prim.Native.Nat.{_+_, _-_, _≤_};
 ghost use lib.ListN.{length};
+ghost use Rattle.table.specs.Tables.{table};
+ghost use Rattle.choice.specs.Turns.{Ready};
 
 const OUTPUT: i32 = 1;
 
@@ -14,13 +24,30 @@ fn print_refusal(number: u8, place: usize) {
     io::write_all(OUTPUT, b"\n");
 }
 
-fn judge(table: &[u8], scratch: &mut [u32])
+// The first agent's starting process, which is a whole term in every accepted table, and its last choice.
+fn print_start(sizes: Sizes, kinds: &[u8], operands: &[u8], scratch: &[u32])
+    requires { ⌜ Ready (table sizes (now kinds) (now operands)) (now scratch) ⌝ }
+{
+    let root = first_root(sizes) + sizes.definitions + sizes.stigmergy;
+    let mut words = [0u32; 63];
+    words[0] = p_at(operands, root) as u32;
+    if !whole_term(sizes, kinds, &words[..1]) {
+        return;
+    }
+    let mut marks = [0u8; 4096];
+    print_last_choice(sizes, kinds, operands, scratch, &mut marks, &mut words);
+}
+
+fn judge(bytes: &[u8], scratch: &mut [u32])
     ensures { λ _. ⌜ length (now (scratch .exit)) ≡ length (now (scratch .entry)) ⌝ }
 {
-    let answer = accept::accept(table, 4194, scratch);
+    let answer = accept::accept(bytes, 4194, scratch);
     match answer {
-        Acceptance::Accepted(_) => {
-            io::write_all(OUTPUT, b"accepted\n");
+        Acceptance::Accepted(sizes) => {
+            io::write_all(OUTPUT, b"accepted");
+            let operands = 12 + sizes.nodes;
+            print_start(sizes, &bytes[12..operands], &bytes[operands..], scratch);
+            io::write_all(OUTPUT, b"\n");
         }
         Acceptance::Refused(number, place) => print_refusal(number, place),
     }

@@ -10,7 +10,7 @@ use lib.ListN.{getD}
 use borrow.Author.Tests.{ltb-true, not-false}
 use Rattle.basis.specs.Below.{below}
 use Rattle.basis.proofs.Below.{below-at}
-use Rattle.basis.proofs.Tests.{not-both, and-left, and-right, and-both}
+use Rattle.basis.proofs.Tests.{or-implies, and-left, and-right, and-both}
 use Rattle.table.specs.Tables.{Table, kindAt, pAt, qAt, firstRoot, bodyAt}
 use Rattle.term.specs.Terms.{Term, Node}
 use Rattle.term.specs.Processes.{Process, idle, choice, guarded, call, seq, par}
@@ -24,11 +24,6 @@ use Rattle.term.proofs.Opened.{process-opened}
 -- P has the derivations of R where its exposed calls are below d, and then so are R's
 abbrev Like : ℕ → Process → Process → Type 0
 Like d P R = callsBelow d P ≡ true → (derivations P ≡ derivations R) × (callsBelow d R ≡ true)
-
--- if the left ticks, the right counts
-or-right : (a b : Bool) → a ≡ true → (not a || b) ≡ true → b ≡ true
-or-right true b e f = f
-or-right false b e f = absurd (not-both e refl)
 
 or-alike : (a b c d : Bool) → a ≡ b → (c ≡ true → d ≡ true) → (not a || c) ≡ true → (not b || d) ≡ true
 or-alike true b c d e f g = rw (← e) (f g)
@@ -60,7 +55,7 @@ module _ (d : ℕ) where
       let g : (not (canTick P) || callsBelow d Q) ≡ true = and-right (callsBelow d P) (not (canTick P) || callsBelow d Q) t in (
         rw (← (x .0))
             (ap (λ (ds : List Derivation). map (before q) (keep isAction (derivations P)) ++ ds)
-            (joins-like P Q S (λ b. f (or-right (canTick P) (callsBelow d Q) b g) .0) (canTick P) refl)),
+            (joins-like P Q S (λ b. f (or-implies (canTick P) (callsBelow d Q) b g) .0) (canTick P) refl)),
         and-both (callsBelow d R) (not (canTick R) || callsBelow d S) (x .1)
             (or-alike (canTick P) (canTick R) (callsBelow d Q) (callsBelow d S) (same-tick P R (x .0)) (λ k. f k .1) g),
       )

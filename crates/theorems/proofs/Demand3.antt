@@ -116,14 +116,14 @@ module _ (bytes : List ℕ) where
     new = stepAdds bytes s kind agent number
 
     numbered-next : Numbered (λ (w : Write). w .stamp) (clockOf s) (adds bytes s x)
-    numbered-next = decided (λ c u. Numbered (λ (w : Write). w .stamp) (clockOf s) (ifDone bytes c new)) (λ d. adds-numbered bytes s kind agent number) (λ n place. tt)
+    numbered-next = decided (λ c u. Numbered (λ (w : Write). w .stamp) (clockOf s) (ifDone c new)) (λ d. adds-numbered bytes s kind agent number) (λ n place. tt)
 
     clock-next : clockOf (next bytes s x) ≡ clockOf s + length (adds bytes s x)
-    clock-next = decided (λ c u. clockOf u ≡ clockOf s + length (ifDone bytes c new)) (λ d. step-clock bytes s scratch kind agent number d) (λ n place. omega arith)
+    clock-next = decided (λ c u. clockOf u ≡ clockOf s + length (ifDone c new)) (λ d. step-clock bytes s scratch kind agent number d) (λ n place. omega arith)
 
     entries-next : (k : ℕ) → wrote (turn s x k .move) ≡ entriesOf (λ (w : Write). w .key) written k (adds bytes s x)
     entries-next k =
-        decided (λ c u. wrote (ifPassed c (moveOf s x k)) ≡ entriesOf (λ (w : Write). w .key) written k (ifDone bytes c new))
+        decided (λ c u. wrote (ifPassed c (moveOf s x k)) ≡ entriesOf (λ (w : Write). w .key) written k (ifDone c new))
         (λ d. adds-entries bytes s kind agent number k) (λ n place. refl)
 
   abbrev machine : Machine absent newer

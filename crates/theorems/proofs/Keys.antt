@@ -9,13 +9,12 @@ use lib.Dec.{eqb, leb}
 use borrow.Author.Tests.{lt-ltb, ne-eqb, leb-true}
 use Rattle.basis.specs.Below.{below}
 use Rattle.basis.proofs.Below.{below-at, below-same}
-use Rattle.basis.proofs.Tests.{and-left, and-right, same-or-other}
+use Rattle.basis.proofs.Tests.{and-left, and-right, and-when, same-or-other}
 use Rattle.table.specs.declared.Fields.{Fields}
 use Rattle.table.specs.Tables.{Table, kindAt, pAt, qAt, constantAt, firstRoot}
 use Rattle.table.specs.Nodes.{guardRows, expressionRows, lookup, fieldsOf, fieldsAt, isNode, isGuard, isExpression, leftNode, rightNode}
 use Rattle.table.specs.Sound.{Sound}
 use Rattle.table.proofs.Operands.{left-lower, right-lower}
-use Rattle.table.proofs.Reaches.{and-when}
 use Rattle.table.proofs.Promises.{inner-fields, all-fit, guard-inner, expression-inner, not-operands, and-operands, or-operands, comparison-operands, arithmetic-operands}
 use Rattle.state.specs.Evaluation.{readsStep, reads}
 use Rattle.labs.specs.Expressions.{Expr, value, attribute, stigmergy, environment, operation, Guard, truly, comparison, negation, conjunction, disjunction}

@@ -31,6 +31,11 @@ pub record Write : Type 0 where
   pub value : ℕ
   pub stamp : ℕ
 
+-- a refused step adds none
+abbrev pub ifDone : Check → List Write → List Write
+ifDone passes ws = ws
+ifDone (refuses number place) ws = []
+
 module _ (bytes : List ℕ) where
   abbrev pub outcomeOf : List ℕ → Step → Outcome
   outcomeOf s x = stepOf bytes s (x .scratch) (x .kind) (x .agent) (x .number)
@@ -50,10 +55,6 @@ module _ (bytes : List ℕ) where
       cond (eqb (kindAt (tableOf bytes) n) 3)
       (record { agent = x; key = pAt (tableOf bytes) n; value = wordIn (valueFor (tableOf bytes) s x n); stamp = nextStamp s } ∷ [])
       []
-
-  abbrev pub ifDone : Check → List Write → List Write
-  ifDone passes ws = ws
-  ifDone (refuses number place) ws = []
 
   abbrev pub adds : List ℕ → Step → List Write
   adds s x =

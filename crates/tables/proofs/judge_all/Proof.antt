@@ -18,51 +18,39 @@ Inv-loop input scratch₀ at₀ scratch at = (at ≤ length input) × (length sc
 abbrev μ-loop : tie.MeasureT-loop
 μ-loop input scratch₀ at₀ scratch at = length input - at
 
--- src/main.rt:40:5
 loop-holds : tie.Need-loop-holds Inv-loop μ-loop
 loop-holds c = search needs
 
--- src/main.rt:40:17
 sub-loop : tie.Need-sub-loop Inv-loop μ-loop
 sub-loop c = search needs
 
--- src/main.rt:41:24
 size-at-requires : tie.Need-size-at-requires Inv-loop μ-loop
 size-at-requires c κs = search needs
 
--- src/main.rt:41:19
 add-end : tie.Need-add-end Inv-loop μ-loop
 add-end c = search needs
 
--- src/main.rt:42:15
 sub-judge : tie.Need-sub-judge Inv-loop μ-loop
 sub-judge c = search needs
 
--- src/main.rt:42:15
 part-judge-start : tie.Need-part-judge-start Inv-loop μ-loop
 part-judge-start c = search needs
 
--- src/main.rt:42:15
 part-judge-end : tie.Need-part-judge-end Inv-loop μ-loop
 part-judge-end c = search needs
 
--- src/main.rt:42:9
 judge-requires : tie.Need-judge-requires Inv-loop μ-loop
 judge-requires c κs = search needs
 
--- src/main.rt:40:5
 loop-less : tie.Need-loop-less Inv-loop μ-loop
 loop-less c = search needs
 
--- src/main.rt:40:5
 loop-again : tie.Need-loop-again Inv-loop μ-loop
 loop-again c = search needs
 
--- src/main.rt:38:1
 same-length : tie.Need-same-length Inv-loop μ-loop
 same-length c = search needs
 
--- src/main.rt:38:1
 returns : tie.Need-returns Inv-loop μ-loop
 returns c = search needs
 

@@ -28,7 +28,7 @@ use Rattle.choice.proofs.marking.+mark_node+walk_node.Lts-mark_node as 
 use Rattle.choice.proofs.marking.walk_node.Reads as walk-node
 use Rattle.choice.proofs.marking.walk_node.Kinds as walk-node-kinds
 use Rattle.choice.proofs.marking.+mark_node+walk_node.Lts-walk_node as walk-node-lts
-use Rattle.accept.proofs.words.pair.Reads as pair-reads
+use Rattle.accept.proofs.pair.Reads as pair-reads
 use Rattle.choice.proofs.marking.mark.Reads as mark-reads
 use Rattle.choice.proofs.marking.only_tick.Reads as only-tick-reads
 use Rattle.choice.proofs.turns.body_at.Reads as body-at-reads

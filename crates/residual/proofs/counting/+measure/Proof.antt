@@ -1,15 +1,15 @@
 -- `measure` meets its contract. Assumes nothing.
-use mathlib.Core.Path.{sym, ap, _∙_}
+use mathlib.Core.Path.{refl, sym, ap, _∙_}
 use mathlib.Core.Bool.{Bool, _&&_}
 use native.Mathlib.Omega.{arith}
 use borrow.Author.Needs.{needs}
 use denote.Ref.{now}
 use lib.ListN.{length}
+use Rattle.accept.specs.Counts.{counts}
 use Rattle.residual.proofs.Measures.{operator-small, leaf-small, found-past, found-leaf, found-operator}
 use Prim.Native.Nat.{ℕ, _<_, _-_}
 use borrow.Fn.Kinds.{In}
 use borrow.Fn.PlainCycle.{Measures, is, falls, and}
-use Rattle.residual.proofs.counting.counts.Reads as counts-reads
 use Rattle.residual.proofs.counting.measure.Reads as measure
 use Rattle.residual.proofs.counting.measure.Kinds as measure-kinds
 use Rattle.residual.proofs.counting.+measure.Lts-measure as measure-lts
@@ -32,7 +32,7 @@ measure-below t = and 2 measure-kinds.ps (falls 2 measure-kinds.ps _<_ μ-measur
 
 module _ (t : ℕ) where
   abbrev claims : measure-lts.Claims
-  claims = (counts-reads.Asked, counts-reads.Learnt, is-operator-reads.Asked, is-operator-reads.Learnt, measure-below t, measure.Post, combined-reads.Asked, combined-reads.Learnt, few-reads.Asked, few-reads.Learnt, all-few-reads.Asked, all-few-reads.Learnt, leaf-reads.Asked, leaf-reads.Learnt)
+  claims = (is-operator-reads.Asked, is-operator-reads.Learnt, measure-below t, measure.Post, combined-reads.Asked, combined-reads.Learnt, few-reads.Asked, few-reads.Learnt, all-few-reads.Asked, all-few-reads.Learnt, leaf-reads.Asked, leaf-reads.Learnt)
 
   -- a word has been read
   inside : (c : measure-lts.After-shared-slice-known3 claims (measure-at t) measure.Post) → c .before .before .before .before .args .at < length (now (c .before .before .before .before .args .words))
@@ -41,13 +41,10 @@ module _ (t : ℕ) where
       let d = c .before .if1 .left in
       omega (arith, d)
 
-  counts-requires : measure-lts.Need-counts-requires claims (measure-at t) measure.Post
-  counts-requires c κs = search needs
-
   returns : measure-lts.Need-returns claims (measure-at t) measure.Post
   returns c =
-      let a = c .before .before .before .before in
-      found-past (a .args .roots) (now (a .args .scratch)) (now (a .args .words)) (a .args .at) (c .counts .result) (c .counts .ensures) (c .before .if1 .taken)
+      let a = c .before .before .before in
+      found-past (a .args .roots) (now (a .args .scratch)) (now (a .args .words)) (a .args .at) (counts 0 0) refl (c .if1 .taken)
 
   mul-word : measure-lts.Need-mul-word claims (measure-at t) measure.Post
   mul-word c = omega arith
@@ -102,8 +99,8 @@ module _ (t : ℕ) where
   few-requires-2 : measure-lts.Need-few-requires-2 claims (measure-at t) measure.Post
   few-requires-2 c κs = let a = c .before .before .before .before .before .before .before in rw (c .leaf .ensures) (leaf-small (a .args .roots) (now (a .args .scratch)) (now (a .args .words)) (a .args .at) (a .pre .1 .0) _)
 
-  add-t13 : measure-lts.Need-add-t13 claims (measure-at t) measure.Post
-  add-t13 c = let l = inside (c .before .before .before .before) in omega arith
+  add-next : measure-lts.Need-add-next claims (measure-at t) measure.Post
+  add-next c = let l = inside (c .before .before .before .before) in omega arith
 
   returns-3 : measure-lts.Need-returns-3 claims (measure-at t) measure.Post
   returns-3 c =
@@ -114,7 +111,6 @@ module _ (t : ℕ) where
 
 pub +measure-spec : {M : Type 1} → statement M
 +measure-spec = close μ-measure λ t. measure-lts.spec (claims t) (measure-at t) measure.Post
-    (counts-requires t)
     (returns t)
     (mul-word t)
     (shared-slice-read-word t)
@@ -128,5 +124,5 @@ pub +measure-spec : {M : Type 1} → statement M
     (returns-2 t)
     (leaf-requires t)
     (few-requires-2 t)
-    (add-t13 t)
+    (add-next t)
     (returns-3 t)

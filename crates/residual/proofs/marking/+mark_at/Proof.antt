@@ -101,8 +101,8 @@ module _ (t : ℕ) where
   enum-known-step-2 : mark-at-lts.Need-enum-known-step-2 claims (mark-at-at t) mark-at.Post
   enum-known-step-2 c = c .match .keys3
 
-  add-mark-at : mark-at-lts.Need-add-mark-at claims (mark-at-at t) mark-at.Post
-  add-mark-at c = let z = c .before .before .before .before in omega (arith, low z)
+  add-p : mark-at-lts.Need-add-p claims (mark-at-at t) mark-at.Post
+  add-p c = let z = c .before .before .before in omega (arith, low z)
 
   mark-at-requires : mark-at-lts.Need-mark-at-requires claims (mark-at-at t) mark-at.Post
   mark-at-requires c κs =
@@ -114,8 +114,8 @@ module _ (t : ℕ) where
   enum-known-step-3 : mark-at-lts.Need-enum-known-step-3 claims (mark-at-at t) mark-at.Post
   enum-known-step-3 c = c .match .keys4
 
-  add-mark-at-2 : mark-at-lts.Need-add-mark-at-2 claims (mark-at-at t) mark-at.Post
-  add-mark-at-2 c = let z = c .before .before .before .before in omega (arith, low z)
+  add-p-2 : mark-at-lts.Need-add-p-2 claims (mark-at-at t) mark-at.Post
+  add-p-2 c = let z = c .before .before .before in omega (arith, low z)
 
   mark-at-requires-2 : mark-at-lts.Need-mark-at-requires-2 claims (mark-at-at t) mark-at.Post
   mark-at-requires-2 c κs =
@@ -134,11 +134,11 @@ module _ (t : ℕ) where
   enum-known-step-4 : mark-at-lts.Need-enum-known-step-4 claims (mark-at-at t) mark-at.Post
   enum-known-step-4 c = c .match .keys5
 
-  add-mark-at-3 : mark-at-lts.Need-add-mark-at-3 claims (mark-at-at t) mark-at.Post
-  add-mark-at-3 c =
-      let z = c .before .before .before .before in
+  add-q : mark-at-lts.Need-add-q claims (mark-at-at t) mark-at.Post
+  add-q c =
+      let z = c .before .before .before in
       let X = some z .0 in
-      let e = step z X (some z .1) _ (c .before .before .step4 .given .1) in
+      let e = step z X (some z .1) _ (c .before .step4 .given .1) in
       omega (arith, e .size, stands-within (tb z) (start z .args .mode) X (start z .args .c) (start z .args .at) (ws z) (some z .1), stands-size (tb z) (start z .args .mode) X (start z .args .c) (start z .args .at) (ws z) (some z .1) _ (e .p) (e .q) (e .term), low z)
 
   mark-at-requires-4 : mark-at-lts.Need-mark-at-requires-4 claims (mark-at-at t) mark-at.Post
@@ -151,14 +151,14 @@ module _ (t : ℕ) where
   enum-known-step-5 : mark-at-lts.Need-enum-known-step-5 claims (mark-at-at t) mark-at.Post
   enum-known-step-5 c = c .match .keys6
 
-  add-mark-at-4 : mark-at-lts.Need-add-mark-at-4 claims (mark-at-at t) mark-at.Post
-  add-mark-at-4 c = let z = c .before .before .before .before in omega (arith, low z)
+  add-q-2 : mark-at-lts.Need-add-q-2 claims (mark-at-at t) mark-at.Post
+  add-q-2 c = let z = c .before .before .before in omega (arith, low z)
 
-  add-mark-at-5 : mark-at-lts.Need-add-mark-at-5 claims (mark-at-at t) mark-at.Post
-  add-mark-at-5 c =
-      let z = c .before .before .before .before in
+  add-q-3 : mark-at-lts.Need-add-q-3 claims (mark-at-at t) mark-at.Post
+  add-q-3 c =
+      let z = c .before .before .before in
       let X = some z .0 in
-      let e = step z X (some z .1) _ (c .before .before .step5 .given .1) in
+      let e = step z X (some z .1) _ (c .before .step5 .given .1) in
       omega (arith, e .size, stands-within (tb z) (start z .args .mode) X (start z .args .c) (start z .args .at) (ws z) (some z .1), stands-size (tb z) (start z .args .mode) X (start z .args .c) (start z .args .at) (ws z) (some z .1) _ (e .p) (e .q) (e .term), low z)
 
   mark-at-requires-5 : mark-at-lts.Need-mark-at-requires-5 claims (mark-at-at t) mark-at.Post
@@ -168,8 +168,8 @@ module _ (t : ℕ) where
       let e = step z X (some z .1) _ (c .before .before .step5 .given .1) in
       (omega (arith, low z, start z .pre .0), (ready z, (start z .pre .1 .1 .0, ((e .q, stands-right (tb z) (start z .args .mode) X (start z .args .c) (start z .args .at) (ws z) (some z .1) _ (e .p) (e .q) (e .term) _ _ _ (omega (arith, e .size)) (e .tick)), kept z))))
 
-  add-mark-at-6 : mark-at-lts.Need-add-mark-at-6 claims (mark-at-at t) mark-at.Post
-  add-mark-at-6 c = let z = c .before .before .before .before .before .before .before .before in omega (arith, low z)
+  add-p-3 : mark-at-lts.Need-add-p-3 claims (mark-at-at t) mark-at.Post
+  add-p-3 c = let z = c .before .before .before .before .before .before .before in omega (arith, low z)
 
   mark-at-requires-6 : mark-at-lts.Need-mark-at-requires-6 claims (mark-at-at t) mark-at.Post
   mark-at-requires-6 c κs =
@@ -252,20 +252,20 @@ pub +mark-at-spec : {M : Type 1} → statement M
     (enum-known-step t)
     (mark-node-requires t)
     (enum-known-step-2 t)
-    (add-mark-at t)
+    (add-p t)
     (mark-at-requires t)
     (enum-known-step-3 t)
-    (add-mark-at-2 t)
+    (add-p-2 t)
     (mark-at-requires-2 t)
     (mark-at-requires-3 t)
     (enum-known-step-4 t)
-    (add-mark-at-3 t)
+    (add-q t)
     (mark-at-requires-4 t)
     (enum-known-step-5 t)
-    (add-mark-at-4 t)
-    (add-mark-at-5 t)
+    (add-q-2 t)
+    (add-q-3 t)
     (mark-at-requires-5 t)
-    (add-mark-at-6 t)
+    (add-p-3 t)
     (mark-at-requires-6 t)
     (returns t)
     (same-length t)

@@ -91,11 +91,11 @@ module _ (t : ℕ) where
   put-requires : place-lts.Need-put-requires claims (place-at t) place.Post
   put-requires c κs = let z = c .before .before .before in omega (arith, low z)
 
-  add-t28 : place-lts.Need-add-t28 claims (place-at t) place.Post
-  add-t28 c = let z = c .before .before .before .before .before .before in omega (arith, low z)
+  add-next : place-lts.Need-add-next claims (place-at t) place.Post
+  add-next c = let z = c .before .before .before .before .before .before in omega (arith, low z)
 
-  add-t29 : place-lts.Need-add-t29 claims (place-at t) place.Post
-  add-t29 c = let z = c .before .before .before .before .before .before in omega (arith, low z)
+  add-back : place-lts.Need-add-back claims (place-at t) place.Post
+  add-back c = let z = c .before .before .before .before .before .before in omega (arith, low z)
 
   enum-known-step : place-lts.Need-enum-known-step claims (place-at t) place.Post
   enum-known-step c = c .match .keys2
@@ -116,11 +116,11 @@ module _ (t : ℕ) where
   put-requires-2 : place-lts.Need-put-requires-2 claims (place-at t) place.Post
   put-requires-2 c κs = let z = c .before .before .before .before in omega (arith, low z)
 
-  add-place : place-lts.Need-add-place claims (place-at t) place.Post
-  add-place c = let z = c .before .before .before .before .before .before .before .before in omega (arith, low z)
+  add-next-2 : place-lts.Need-add-next-2 claims (place-at t) place.Post
+  add-next-2 c = let z = c .before .before .before .before .before .before .before in omega (arith, low z)
 
-  add-place-2 : place-lts.Need-add-place-2 claims (place-at t) place.Post
-  add-place-2 c = let z = c .before .before .before .before .before .before .before .before in omega (arith, low z)
+  add-p : place-lts.Need-add-p claims (place-at t) place.Post
+  add-p c = let z = c .before .before .before .before .before .before .before in omega (arith, low z)
 
   place-requires : place-lts.Need-place-requires claims (place-at t) place.Post
   place-requires c κs =
@@ -150,18 +150,18 @@ module _ (t : ℕ) where
       let e = step z X (some z .1) _ (c .before .before .step4 .given .1) in
       (low z .0, copy-bound (tb z) (start z .args .mode) X (start z .args .c) (start z .args .front) (start z .args .at) (ws z) (some z .1) _ _ e .1)
 
-  add-place-3 : place-lts.Need-add-place-3 claims (place-at t) place.Post
-  add-place-3 c =
-      let z = c .before .before .before .before .before .before .before .before in
+  add-next-3 : place-lts.Need-add-next-3 claims (place-at t) place.Post
+  add-next-3 c =
+      let z = c .before .before .before .before .before .before .before in
       let X = some z .0 in
-      let e = step z X (some z .1) _ (c .before .before .before .before .before .before .step4 .given .1) in
+      let e = step z X (some z .1) _ (c .before .before .before .before .before .step4 .given .1) in
       omega (arith, low z, copy-bound (tb z) (start z .args .mode) X (start z .args .c) (start z .args .front) (start z .args .at) (ws z) (some z .1) _ _ e)
 
-  add-place-4 : place-lts.Need-add-place-4 claims (place-at t) place.Post
-  add-place-4 c =
-      let z = c .before .before .before .before .before .before .before .before in
+  add-q : place-lts.Need-add-q claims (place-at t) place.Post
+  add-q c =
+      let z = c .before .before .before .before .before .before .before in
       let X = some z .0 in
-      let e = step z X (some z .1) _ (c .before .before .before .before .before .before .step4 .given .1) in
+      let e = step z X (some z .1) _ (c .before .before .before .before .before .step4 .given .1) in
       omega (arith, low z, copy-bound (tb z) (start z .args .mode) X (start z .args .c) (start z .args .front) (start z .args .at) (ws z) (some z .1) _ _ e)
 
   place-requires-3 : place-lts.Need-place-requires-3 claims (place-at t) place.Post
@@ -274,22 +274,22 @@ pub +place-spec : {M : Type 1} → statement M
     (step-at-requires t)
     (enum-told t)
     (put-requires t)
-    (add-t28 t)
-    (add-t29 t)
+    (add-next t)
+    (add-back t)
     (enum-known-step t)
     (add-write-node t)
     (write-node-requires t)
     (enum-known-step-2 t)
     (put-requires-2 t)
-    (add-place t)
-    (add-place-2 t)
+    (add-next-2 t)
+    (add-p t)
     (place-requires t)
     (enum-known-step-3 t)
     (place-requires-2 t)
     (enum-known-step-4 t)
     (move-down-requires t)
-    (add-place-3 t)
-    (add-place-4 t)
+    (add-next-3 t)
+    (add-q t)
     (place-requires-3 t)
     (enum-known-step-5 t)
     (add-move-up t)
