@@ -16,3 +16,4 @@ pub mod ActViews
 pub mod OfferViews
 pub mod Turns
 pub mod Demand3
+pub mod Silence
