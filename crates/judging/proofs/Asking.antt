@@ -9,13 +9,13 @@ use native.Mathlib.Omega.{arith}
 use lib.Dec.{eqb}
 use lib.ListN.{getD, replicate, length-replicate}
 use borrow.Author.Tests.{eqb-true, eq-eqb, ne-eqb, not-true, not-false}
+use Rattle.basis.proofs.Lists.{getD-row}
 use Rattle.basis.proofs.Tests.{not-both, and-left, and-right, and-both, or-left, or-right, or-either}
 use Rattle.table.specs.Tables.{Table, kindAt}
 use Rattle.table.specs.Nodes.{isGuard}
 use Rattle.term.proofs.Each.{Each}
 use Rattle.term.proofs.Inside.{GuardNode}
 use Rattle.state.specs.Evaluation.{holds}
-use Rattle.state.proofs.Load.{zeros-at}
 use Rattle.choice.specs.Marking.{isMarked, isIn, Marks, Marked}
 use Rattle.choice.proofs.Collecting.{marks-zero}
 use Rattle.steps.specs.Acts.{allHold}
@@ -36,7 +36,7 @@ unmarked-marks t ms u = marks-zero t ms (u .room) (u .zero)
 
 -- zeros, at least as many as there are nodes
 pub zeros-unmarked : (t : Table) (n : ℕ) → t .sizes .nodes ≤ n → Unmarked t (replicate n 0)
-zeros-unmarked t n h = record { room = rw (length-replicate {A = ℕ} n 0) h; zero = zeros-at n }
+zeros-unmarked t n h = record { room = rw (length-replicate {A = ℕ} n 0) h; zero = λ i. getD-row {A = ℕ} n i 0 }
 
 -- guards that are marked where nothing was before
 pub collected : (t : Table) (gs ms out : List ℕ) → Each (GuardNode t) gs → Unmarked t ms → Marked t gs ms out → Collected t gs out

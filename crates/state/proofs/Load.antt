@@ -2,18 +2,18 @@
 -- Assumes nothing.
 use Prim.Native.Nat.{ℕ, zero, suc, _<_, _≤_}
 use mathlib.Core.Bool.{false}
-use mathlib.Core.Logic.{⊎-elim}
 use mathlib.Core.Path.{_≡_, refl, sym, ap, _∙_}
 use mathlib.Core.List.{List}
 use native.Mathlib.Nat.{add-zero}
 use native.Mathlib.Omega.{arith}
 use lib.Dec.{ltb}
-use lib.ListN.{length, getD, set, replicate, length-set, length-replicate, getD-replicate, List·getD-eq-default}
+use lib.ListN.{length, getD, set, replicate, length-set, length-replicate}
 use borrow.Author.Tests.{ne-eqb, ltb-true}
 use Rattle.basis.specs.Numbers.{forEach}
 use Rattle.basis.proofs.KeySets.{has-nothing}
 use Rattle.basis.proofs.Numbers.{forEach-same, forEach-at, forEach-keeps}
-use Rattle.basis.proofs.Tests.{not-both, lt-or-le, cond-cases}
+use Rattle.basis.proofs.Lists.{getD-row}
+use Rattle.basis.proofs.Tests.{not-both, cond-cases}
 use Rattle.value.specs.declared.Value.{Value}
 use Rattle.value.specs.declared.Value.the-variants.{Absent}
 use Rattle.table.specs.Tables.{Table, startAt}
@@ -34,11 +34,6 @@ zeros n = replicate n 0
 
 zeros-length : (n : ℕ) → length (zeros n) ≡ n
 zeros-length n = length-replicate {A = ℕ} n 0
-
-pub zeros-at : (n i : ℕ) → getD (replicate {A = ℕ} n 0) i 0 ≡ 0
-zeros-at n i =
-    ⊎-elim (λ (l : i < n). getD-replicate {A = ℕ} n i 0 0 l)
-    (λ (l : n ≤ i). List·getD-eq-default (zeros n) 0 {n = i} (rw (zeros-length n) l)) (lt-or-le i n)
 
 module _ (t : Table) where
   abbrev agents : ℕ
@@ -74,7 +69,7 @@ module _ (t : Table) where
   loaded-zero p h e f g =
       set-other (begun agents) Agents agents tt p h e
       ∙ forEach-same (started t) (λ (s : List ℕ). wordAt s p) agents (λ a l s. started-other a s p h (f a l) (g a l)) (zeros stateWords)
-      ∙ zeros-at stateWords (placeAt p)
+      ∙ getD-row stateWords (placeAt p) 0
 
   pub loaded-agents : getD (loaded t) agentsAt 0 ≡ agents
   unfolding loaded
@@ -133,7 +128,7 @@ module _ (t : Table) where
         (forEach-keeps (started t) Small agents
         (λ a l s h. let o = starts a l in
         set-small (set s (lengthAt a) 1) (residualAt a) (startAt t a) (set-small s (lengthAt a) 1 h (omega arith)) (omega arith)) (zeros stateWords)
-        (λ i. rw (zeros-at stateWords i) (omega arith)))
+        (λ i. rw (getD-row {A = ℕ} stateWords i 0) (omega arith)))
         (omega arith)
 
     -- the blocks past the last agent's
