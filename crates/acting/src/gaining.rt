@@ -3,6 +3,7 @@ use basis::has;
 use basis::plus;
 use choice::Does;
 use evaluation::keys_read;
+use state::KEYS;
 use state::Store;
 use state::mark_at;
 use table::Sizes;
@@ -29,7 +30,7 @@ fn with_entry(state: &[u32], agent: usize, keys: u32) -> u32
 {
     let mut found = 0;
     let mut key = 0;
-    while key < 16 {
+    while key < KEYS {
         let at = mark_at(Store::Entries(agent), key);
         if has(keys, key) & (0 < state[at]) {
             found = plus(found, key);

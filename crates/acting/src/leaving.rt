@@ -1,5 +1,6 @@
 // The residual of an agent becomes what its choice leaves.
 use residual::choosing::rewrite;
+use state::RESIDUAL_WORDS;
 use state::length_at;
 use state::residual_at;
 use table::Sizes;
@@ -25,7 +26,7 @@ pub fn leave(
 {
     let place = length_at(agent);
     let at = residual_at(agent);
-    let end = at + 63;
+    let end = at + RESIDUAL_WORDS;
     let size = state[place] as usize;
     let left = rewrite(
         sizes,

@@ -1,5 +1,6 @@
 // The key that an action sets.
 use choice::Does;
+use state::CLOCK;
 use state::Store;
 use state::add_key;
 use state::put;
@@ -35,10 +36,10 @@ fn write_entry(state: &mut [u32], agent: usize, key: usize, value: u32)
     ensures { λ _. ⌜ now (state .exit) ≡ entered (now (state .entry)) agent key value ⌝ }
 {
     let at = zp_at(agent);
-    let stamp = state[0] + 1;
+    let stamp = state[CLOCK] + 1;
     put(state, Store::Entries(agent), key, value, stamp);
     add_key(state, at, key);
-    state[0] = stamp;
+    state[CLOCK] = stamp;
 }
 
 // An action's key is set.

@@ -1,12 +1,12 @@
 // An act judged, in the order of the refusals.
 use crate::Judgement;
-use crate::RESIDUAL_WORDS;
 use crate::guards::all_hold;
 use crate::outcomes::judge_outcome;
 use crate::outcomes::refused;
 use residual::choosing::choices;
 use residual::choosing::collect;
 use residual::choosing::outcome;
+use state::RESIDUAL_WORDS;
 use state::length_at;
 use state::residual_at;
 use state::zc_at;

@@ -6,9 +6,6 @@ mod outcomes; // outcomes.rt: 15 to 17
 pub use acts::judge;
 use choice::Does;
 
-// How many words a residual has room for.
-const RESIDUAL_WORDS: usize = 63;
-
 // What is found of an act: its refusal, or 0; what it does; and the word that it sets, where it sets one.
 pub struct Judgement {
     pub refusal: u8,

@@ -1,9 +1,10 @@
 // Refusals 15 to 17: the value that an action sets, the clock, and the length of what is left.
 use crate::Judgement;
-use crate::RESIDUAL_WORDS;
 use choice::Does;
 use choice::Outcome;
 use evaluation::value_of;
+use state::CLOCK;
+use state::RESIDUAL_WORDS;
 use table::Sizes;
 use table::q_at;
 use value::Value;
@@ -56,7 +57,7 @@ fn judge_action(
     match value {
         Value::Absent => refused(15),
         Value::Present(word) => {
-            if (kinds[n] == 3) & (65535 <= state[0]) {
+            if (kinds[n] == 3) & (65535 <= state[CLOCK]) {
                 return refused(16);
             }
             sized(Does::Acting(n), word, size)
