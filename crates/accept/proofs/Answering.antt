@@ -25,7 +25,7 @@ use Rattle.term.specs.Accepted.{Accepted as AcceptedTable}
 use Rattle.term.proofs.Acceptance.{passes-accepted}
 use Rattle.accept.specs.Scratch.{Held, Counted}
 use Rattle.accept.specs.Calls.{CallsJudged}
-use Rattle.accept.specs.Answers.{checkOf, Judged, Accepts}
+use Rattle.accept.specs.Answers.{acceptanceCheck, Judged, Accepts}
 use Rattle.accept.specs.declared.Acceptance.{Acceptance}
 use Rattle.accept.specs.declared.Acceptance.the-variants.{Accepted, Refused}
 
@@ -113,4 +113,4 @@ module _ {bytes : List ℕ} {m : Measured} (measured : Measure bytes m) where
 -- what may be relied on of an accepted table
 pub accepted-table : {bytes : List ℕ} {stateLength : ℕ} {before after : List ℕ} {r : Acceptance} {n : Sizes}
     → Accepts bytes stateLength before after r → r ≡ Accepted n → AcceptedTable bytes stateLength (length before)
-accepted-table {bytes} {stateLength} {before} a e = passes-accepted bytes stateLength (length before) (sym (a .check) ∙ ap (λ (r : Acceptance). checkOf r) e)
+accepted-table {bytes} {stateLength} {before} a e = passes-accepted bytes stateLength (length before) (sym (a .check) ∙ ap (λ (r : Acceptance). acceptanceCheck r) e)

@@ -12,9 +12,9 @@ use Rattle.choice.specs.Outcomes.{labelOf}
 use Rattle.state.specs.declared.Store.{Store}
 use Rattle.state.specs.declared.Store.the-variants.{Environment, Attributes, Entries}
 use Rattle.state.specs.Layout.{put}
-use Rattle.steps.specs.Acts.{setKey}
+use Rattle.steps.specs.Acts.{entered, setKey}
 use Rattle.steps.proofs.Acts.{store-attribute, store-entry, store-environment, set-tick, set-entry, set-value}
-use Rattle.acting.specs.Acting.{Stored, entered, Setting}
+use Rattle.acting.specs.Acting.{Stored, Setting}
 
 -- the store, by the kind
 module _ (x : ℕ) (there : x < 32) where
@@ -29,7 +29,6 @@ module _ (x : ℕ) (there : x < 32) where
 
 module _ (t : Table) (s : List ℕ) (x n v : ℕ) (a : Setting t s x n v) (k : ℕ) (key : k ≡ pAt t n) (out : List ℕ) where
   pub entered-is : kindAt t n ≡ 3 → out ≡ entered s x k v → out ≡ setKey t s x (acts n)
-  unfolding entered
   entered-is e o = o ∙ rw (set-entry t s x n e, key, a .value)
 
   pub stored-is : (kindAt t n ≡ 3 → ⊥) → (store : Store) → Stored (kindAt t n) x store → out ≡ put store k v 1 s → out ≡ setKey t s x (acts n)

@@ -4,7 +4,7 @@ use mathlib.Core.Bool.{true}
 use mathlib.Core.Path.{_≡_}
 use mathlib.Core.List.{List}
 use lib.ListN.{length, set}
-use Rattle.table.specs.Checks.{firstOf}
+use Rattle.table.specs.Checks.{firstOf, refusalCheck}
 use Rattle.table.specs.Tables.{Table, kindAt, pAt}
 use Rattle.table.specs.Sound.{Shaped}
 use Rattle.term.specs.Terms.{words}
@@ -18,11 +18,10 @@ use Rattle.state.specs.Standing.{storeAgent}
 use Rattle.state.proofs.Formed.{ResidualFormed}
 use Rattle.steps.specs.Acts.{nextStamp, wordIn, valueFor, choices, actChecks, chosen, storeOf, acted}
 use Rattle.steps.specs.Steps.{outcome}
-use Rattle.judging.specs.Judging.{checkOf}
 
 -- choice c of agent x is done, or refused
 pub record Acts (t : Table) (was : List ℕ) (x c r : ℕ) (s : List ℕ) : Type 0 where
-  pub check : checkOf r ≡ firstOf (actChecks t was x c)
+  pub check : refusalCheck r ≡ firstOf (actChecks t was x c)
   pub state : s ≡ outcome (firstOf (actChecks t was x c)) was 0 (acted t was x (chosen t was x c)) .state
 
 -- what choice c of agent x's residual leaves has room
@@ -40,10 +39,6 @@ pub record Entering (s : List ℕ) (x k : ℕ) : Type 0 where
   pub agent : x < 32
   pub key : k < keyLimit
   pub room : clockOf s < 65535
-
--- it has written v: the entry takes the next stamp, which becomes the clock, and the key waits to be propagated
-unfoldable pub entered : List ℕ → ℕ → ℕ → ℕ → List ℕ
-entered s x k v = set (addKey (zpAt x) k (put (Entries x) k v (nextStamp s) s)) clockAt (nextStamp s)
 
 -- the store that an action of a kind sets
 pub record Stored (kind x : ℕ) (r : Store) : Type 0 where

@@ -13,8 +13,8 @@ ghost use Rattle.table.specs.Tables.{table};
 ghost use Rattle.term.specs.Processes.{acts};
 ghost use Rattle.choice.specs.declared.Does.the-variants.{Acting};
 ghost use Rattle.choice.specs.Outcomes.{labelOf};
-ghost use Rattle.steps.specs.Acts.{setKey};
-ghost use Rattle.acting.specs.Acting.{Stored, Entering, entered, Setting};
+ghost use Rattle.steps.specs.Acts.{entered, setKey};
+ghost use Rattle.acting.specs.Acting.{Stored, Entering, Setting};
 
 // The store that an action of a kind sets.
 fn store_of(kind: u8, agent: usize) -> Store

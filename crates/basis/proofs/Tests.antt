@@ -2,11 +2,11 @@
 -- Assumes nothing.
 use Prim.Native.Nat.{ℕ, suc, _<_, _≤_}
 use mathlib.Core.Bool.{Bool, true, false, cond, not, _&&_, _||_}
-use mathlib.Core.Path.{_≡_, refl, sym}
-use mathlib.Core.Logic.{_⊎_, inl, inr}
+use mathlib.Core.Path.{_≡_, refl, sym, ap, _∙_}
+use mathlib.Core.Logic.{_⊎_, inl, inr, ⊎-elim}
 use native.Mathlib.Omega.{arith}
-use lib.Dec.{ltb, eqb}
-use borrow.Author.Tests.{ltb-true, ltb-false, eqb-true, eqb-false, eq-eqb}
+use lib.Dec.{ltb, leb, eqb}
+use borrow.Author.Tests.{ltb-true, ltb-false, eqb-true, eqb-false, eq-eqb, lt-ltb, le-ltb, le-leb, lt-leb}
 
 -- a test's two values, which differ
 pub either : (a : Bool) → (a ≡ true) ⊎ (a ≡ false)
@@ -101,6 +101,10 @@ lt-or-le a b = by (ltb a b) refl
     by : (t : Bool) → ltb a b ≡ t → (a < b) ⊎ (b ≤ a)
     by true e = inl (ltb-true a b e)
     by false e = inr (ltb-false a b e)
+
+pub not-below : (a b : ℕ) → not (ltb a b) ≡ leb b a
+not-below a b =
+    ⊎-elim (λ (h : a < b). ap not (lt-ltb a b h) ∙ sym (lt-leb b a h)) (λ (h : b ≤ a). ap not (le-ltb a b h) ∙ sym (le-leb b a h)) (lt-or-le a b)
 
 pub same-or-other : (a b : ℕ) → (a ≡ b) ⊎ (a ≡ b → ⊥)
 same-or-other a b = by (eqb a b) refl

@@ -7,6 +7,7 @@ ghost use Rattle.table.specs.Sound.{Shaped};
 ghost use Rattle.state.specs.Evaluation.{reads};
 ghost use Rattle.evaluation.specs.Reading.{Adds, readsBelow, isKey, Named};
 use super::Parts;
+use state::KEYS;
 use table::Sizes;
 
 // The set with the key that a node is, if it is one.
@@ -18,7 +19,7 @@ fn own_key(sizes: Sizes, kinds: &[u8], operands: &[u8], node: usize, keys: u32) 
         return keys;
     }
     let p = table::p_at(operands, node);
-    if 16 <= p {
+    if KEYS <= p {
         return keys;
     }
     basis::plus(keys, p)

@@ -7,21 +7,20 @@ use mathlib.Core.List.{List, [], _∷_}
 use native.Mathlib.Omega.{arith}
 use lib.Dec.{leb, ltb}
 use Rattle.value.specs.declared.Value.the-variants.{Absent, Present}
-use Rattle.table.specs.Checks.{Check, refuseIf, firstOf}
+use Rattle.table.proofs.Checks.{test-refuses, test-later, none-passes}
+use Rattle.table.specs.Checks.{Check, refuseIf, firstOf, refusalCheck}
 use Rattle.table.specs.Tables.{Table}
 use Rattle.term.specs.Processes.{Label, ticks, acts}
 use Rattle.choice.specs.declared.Does.{Does}
 use Rattle.choice.specs.declared.Does.the-variants.{Ticking, Acting}
 use Rattle.choice.specs.Outcomes.{labelOf}
 use Rattle.state.specs.Layout.{clockOf, residualWords}
-use Rattle.steps.specs.Acts.{valueFor, isAbsent, lacksValue, writesEntry}
-use Rattle.steps.proofs.Steps.{test-refuses, test-later, none-passes}
+use Rattle.steps.specs.Acts.{valueFor, isAbsent, lacksValue, writesEntry, lastChecks}
 use Rattle.judging.specs.declared.Judgement.{Judgement}
-use Rattle.judging.specs.Judging.{checkOf}
-use Rattle.judging.specs.Outcomes.{refusedBy, allowed, sized, lastChecks, Ends}
+use Rattle.judging.specs.Outcomes.{refusedBy, allowed, sized, Ends}
 
 module _ (t : Table) (was : List ℕ) (x : ℕ) (label : Label) (size : ℕ) where
-  ends-refused : (number : ℕ) → 0 < number → checkOf number ≡ firstOf (lastChecks t was x label size) → Ends t was x label size (refusedBy number)
+  ends-refused : (number : ℕ) → 0 < number → refusalCheck number ≡ firstOf (lastChecks t was x label size) → Ends t was x label size (refusedBy number)
   ends-refused number pos e = record { check = e; does = λ z. absurd (omega arith); value = λ z. absurd (omega arith) }
 
   -- 15

@@ -8,18 +8,19 @@ use native.Mathlib.Omega.{arith}
 use lib.Dec.{eqb, leb}
 use lib.ListN.{length}
 use borrow.Author.Tests.{le-leb, lt-leb}
-use Rattle.table.specs.Checks.{Check, refuseIf, firstOf}
+use Rattle.table.proofs.Checks.{test-refuses, test-later}
+use Rattle.table.specs.Checks.{Check, refuseIf, firstOf, refusalCheck}
 use Rattle.table.specs.Tables.{Table}
 use Rattle.term.specs.Terms.{words}
 use Rattle.term.specs.Processes.{Label, allFew}
 use Rattle.choice.specs.declared.Outcome.{Outcome}
 use Rattle.choice.specs.Outcomes.{labelOf, Tells}
 use Rattle.state.specs.Layout.{zcOf, zpOf, termIn}
-use Rattle.steps.specs.Acts.{choices, chosen, allHold, actChecks}
-use Rattle.steps.proofs.Steps.{test-refuses, test-later, act-able}
+use Rattle.steps.specs.Acts.{choices, chosen, allHold, actChecks, lastChecks}
+use Rattle.steps.proofs.Steps.{act-able}
 use Rattle.judging.specs.declared.Judgement.{Judgement}
-use Rattle.judging.specs.Judging.{Collected, checkOf, Judges}
-use Rattle.judging.specs.Outcomes.{refusedBy, lastChecks, Ends}
+use Rattle.judging.specs.Judging.{Collected, Judges}
+use Rattle.judging.specs.Outcomes.{refusedBy, Ends}
 
 module _ (t : Table) (was : List ℕ) (x c : ℕ) where
   abbrev idle : Bool
@@ -41,7 +42,7 @@ module _ (t : Table) (was : List ℕ) (x c : ℕ) where
   abbrev from12 : List Check
   from12 = refuseIf 12 (not (allFew t (termIn was x))) ∷ from13
 
-  judges-refused : (number : ℕ) → 0 < number → checkOf number ≡ firstOf (actChecks t was x c) → (marks : List ℕ) (r : Judgement) → r ≡ refusedBy number → Judges t was x c marks r
+  judges-refused : (number : ℕ) → 0 < number → refusalCheck number ≡ firstOf (actChecks t was x c) → (marks : List ℕ) (r : Judgement) → r ≡ refusedBy number → Judges t was x c marks r
   judges-refused number pos e marks r f = rw f (record { check = e; decided = λ z. absurd (omega arith) })
 
   pub judges-11 : not (eqb (zcOf was x) 0 && eqb (zpOf was x) 0) ≡ true → (marks : List ℕ) (r : Judgement) → r ≡ refusedBy 11 → Judges t was x c marks r
@@ -75,14 +76,14 @@ module _ (t : Table) (was : List ℕ) (x c : ℕ) where
             record {
               check = check;
               decided = λ z. record {
-                able = act-able t was x c .0 (sym check ∙ ap checkOf z);
+                able = act-able t was x c .0 (sym check ∙ ap refusalCheck z);
                 label = ends .does z ∙ tells .label;
                 value = λ n d. ends .value z n (sym (ends .does z) ∙ ap labelOf d);
                 guards = guards;
               };
             }
           where
-            check : checkOf (r .refusal) ≡ firstOf (actChecks t was x c)
+            check : refusalCheck (r .refusal) ≡ firstOf (actChecks t was x c)
             check =
                 ends .check ∙ ap₂ (λ (l : Label) (n : ℕ). firstOf (lastChecks t was x l n)) (tells .label) (tells .size)
                 ∙ sym (past-13 ∙ test-later 14 (not held) from15 (ap not e))

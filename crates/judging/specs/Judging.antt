@@ -6,7 +6,7 @@ use mathlib.Core.List.{List}
 use lib.Dec.{eqb}
 use lib.ListN.{length, getD}
 use Rattle.value.specs.declared.Value.the-variants.{Present}
-use Rattle.table.specs.Checks.{Check, refuseIf, firstOf}
+use Rattle.table.specs.Checks.{Check, refuseIf, firstOf, refusalCheck}
 use Rattle.table.specs.Tables.{Table, kindAt}
 use Rattle.table.specs.Nodes.{isGuard}
 use Rattle.choice.specs.declared.Does.{Does}
@@ -28,10 +28,6 @@ pub record Collected (t : Table) (gs marks : List ℕ) : Type 0 where
   pub guards : (b : ℕ) → isGuard (kindAt t b) ≡ true → isMarked marks b ≡ isIn b gs
   pub nodes : (b : ℕ) → isIn b gs ≡ true → (b < t .sizes .nodes) × (isGuard (kindAt t b) ≡ true)
 
--- a refusal's number, or 0 where nothing refuses
-abbrev pub checkOf : ℕ → Check
-checkOf refusal = refuseIf refusal (not (eqb refusal 0))
-
 -- choice c of agent x can be done: what it does, the word that it sets, and its guards
 pub record Decided (t : Table) (was : List ℕ) (x c : ℕ) (marks : List ℕ) (does : Does) (word : ℕ) : Type 0 where
   pub able : Able t was x c
@@ -41,5 +37,5 @@ pub record Decided (t : Table) (was : List ℕ) (x c : ℕ) (marks : List ℕ) (
 
 -- a judgement of choice c
 pub record Judges (t : Table) (was : List ℕ) (x c : ℕ) (marks : List ℕ) (r : Judgement) : Type 0 where
-  pub check : checkOf (r .refusal) ≡ firstOf (actChecks t was x c)
+  pub check : refusalCheck (r .refusal) ≡ firstOf (actChecks t was x c)
   pub decided : r .refusal ≡ 0 → Decided t was x c marks (r .does) (r .value)

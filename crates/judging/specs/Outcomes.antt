@@ -1,22 +1,21 @@
 -- Refusals 15 to 17: what a choice does, and how many words it leaves.
 use Prim.Native.Nat.{ℕ}
-use mathlib.Core.Bool.{cond, _&&_}
+use mathlib.Core.Bool.{cond}
 use mathlib.Core.Path.{_≡_}
-use mathlib.Core.List.{List, [], _∷_}
-use lib.Dec.{leb, ltb}
+use mathlib.Core.List.{List}
+use lib.Dec.{ltb}
 use Rattle.value.specs.declared.Value.the-variants.{Present}
-use Rattle.table.specs.Checks.{Check, refuseIf, firstOf}
+use Rattle.table.specs.Checks.{firstOf, refusalCheck}
 use Rattle.table.specs.Tables.{Table}
 use Rattle.term.specs.Processes.{Label, acts}
 use Rattle.term.proofs.Inside.{Labelled}
 use Rattle.choice.specs.declared.Does.{Does}
 use Rattle.choice.specs.declared.Does.the-variants.{Ticking}
 use Rattle.choice.specs.Outcomes.{labelOf}
-use Rattle.state.specs.Layout.{clockOf, residualWords}
+use Rattle.state.specs.Layout.{residualWords}
 use Rattle.evaluation.specs.Situated.{Situated}
-use Rattle.steps.specs.Acts.{valueFor, lacksValue, writesEntry}
+use Rattle.steps.specs.Acts.{valueFor, lastChecks}
 use Rattle.judging.specs.declared.Judgement.{Judgement}
-use Rattle.judging.specs.Judging.{checkOf}
 
 -- what is answered beside a refusal, and where nothing refuses
 abbrev pub refusedBy : ℕ → Judgement
@@ -34,16 +33,8 @@ pub record Doing (t : Table) (was : List ℕ) (x : ℕ) (label : Label) : Type 0
   pub situated : Situated t was x x
   pub labelled : Labelled t label
 
--- the last of an act's checks, by what is done and how many words are left
-abbrev pub lastChecks : Table → List ℕ → ℕ → Label → ℕ → List Check
-lastChecks t was x label size =
-    refuseIf 15 (lacksValue t was x label)
-    ∷ refuseIf 16 (writesEntry t was x label && leb 65535 (clockOf was))
-    ∷ refuseIf 17 (ltb residualWords size)
-    ∷ []
-
--- a judgement of these: where nothing refuses, what is done and the word that it sets
+-- a judgement of the last checks: where nothing refuses, what is done and the word that it sets
 pub record Ends (t : Table) (was : List ℕ) (x : ℕ) (label : Label) (size : ℕ) (r : Judgement) : Type 0 where
-  pub check : checkOf (r .refusal) ≡ firstOf (lastChecks t was x label size)
+  pub check : refusalCheck (r .refusal) ≡ firstOf (lastChecks t was x label size)
   pub does : r .refusal ≡ 0 → labelOf (r .does) ≡ label
   pub value : r .refusal ≡ 0 → (n : ℕ) → label ≡ acts n → valueFor t was x n ≡ Present (r .value)

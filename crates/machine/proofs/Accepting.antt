@@ -12,19 +12,19 @@ use Rattle.table.specs.Checks.{Check, passes, refuses, refuseIf, firstOf}
 use Rattle.table.specs.Tables.{Table, table, sizesOf, tableOf}
 use Rattle.table.specs.Sound.{Limits, Shaped}
 use Rattle.table.proofs.Limits.{kinds-part, length-kinds, length-operands}
-use Rattle.table.proofs.Checks.{append-refuses, append-later, first-refuses, refuseIf-true}
+use Rattle.table.proofs.Checks.{append-refuses, append-later, test-refuses}
 use Rattle.term.specs.Accepted.{Accepted as AcceptedTable}
-use Rattle.term.specs.Acceptance.{stateWords}
+use Rattle.term.specs.Acceptance.{stateWords, tableChecks}
 use Rattle.term.proofs.Acceptance.{accepted-passes}
 use Rattle.accept.specs.declared.Acceptance.{Acceptance}
 use Rattle.accept.specs.declared.Acceptance.the-variants.{Accepted, Refused}
-use Rattle.accept.specs.Answers.{checkOf, Accepts}
+use Rattle.accept.specs.Answers.{acceptanceCheck, Accepts}
 use Rattle.accept.proofs.Answering.{accepted-table, lent-table}
 use Rattle.state.specs.WellFormed.{wellFormed, loaded}
 use Rattle.state.proofs.Frames.{Small}
 use Rattle.state.proofs.Formed.{well-formed-read}
 use Rattle.wellformed.specs.Given.{CheckGiven, LoadGiven}
-use Rattle.steps.specs.Steps.{Outcome, tableChecks, stateChecks, loadOf}
+use Rattle.steps.specs.Steps.{Outcome, stateChecks, loadOf}
 use Rattle.steps.proofs.Steps.{outcome-refused, accepted-load}
 use Rattle.machine.specs.declared.Loaded.the-variants.{Done as LoadDone, Refused as LoadRefused}
 use Rattle.machine.specs.Answers.{Loads}
@@ -36,8 +36,8 @@ module _ (bytes : List ℕ) (n : Sizes) (e : n ≡ sizesOf bytes) where
   same-nodes = ap (λ (m : Sizes). m .nodes) e
 
 module _ (was : List ℕ) {bytes before after : List ℕ} {r : Acceptance} (a : Accepts bytes (length was) before after r) where
-  accepts-is : (x : Acceptance) → r ≡ x → firstOf (tableChecks bytes (length was) (length before)) ≡ checkOf x
-  accepts-is x e = sym (a .check) ∙ ap (λ (y : Acceptance). checkOf y) e
+  accepts-is : (x : Acceptance) → r ≡ x → firstOf (tableChecks bytes (length was) (length before)) ≡ acceptanceCheck x
+  accepts-is x e = sym (a .check) ∙ ap (λ (y : Acceptance). acceptanceCheck y) e
 
   module _ {n : Sizes} (e : r ≡ Accepted n) where
     pub accepted-is : AcceptedTable bytes (length was) (length before)
@@ -76,7 +76,7 @@ module _ (was : List ℕ) {bytes before after : List ℕ} {r : Acceptance} (a : 
     open-broken f =
         record {
           check = sym (append-later (tableChecks bytes (length was) (length before)) (refuseIf 9 (not (wellFormed (tableOf bytes) was)) ∷ []) (accepts-is (Accepted n) e)
-              ∙ first-refuses (refuseIf 9 (not (wellFormed (tableOf bytes) was))) [] (refuseIf-true 9 (not (wellFormed (tableOf bytes) was)) (ap not f)));
+              ∙ test-refuses 9 (not (wellFormed (tableOf bytes) was)) [] (ap not f));
           opened = λ m g. absurd (let z : _≡_ {A = ℕ} 0 1 = cc in omega arith);
         }
 

@@ -7,16 +7,15 @@ use mathlib.Core.List.{List, _++_}
 use lib.ListN.{length, take, drop}
 use borrow.Author.Tests.{ne-eqb}
 use Rattle.table.specs.declared.Sizes.{Sizes}
-use Rattle.table.specs.Checks.{Check, passes, refuses, firstOf}
+use Rattle.table.specs.Checks.{Check, passes, refuses, firstOf, refusalCheck}
 use Rattle.table.specs.Tables.{Table, table, tableOf}
 use Rattle.table.proofs.Checks.{append-refuses, append-later, refuseIf-true}
 use Rattle.accept.specs.declared.Acceptance.{Acceptance}
 use Rattle.accept.specs.declared.Acceptance.the-variants.{Accepted, Refused}
-use Rattle.accept.specs.Answers.{checkOf}
+use Rattle.accept.specs.Answers.{acceptanceCheck}
 use Rattle.accept.proofs.Answering.{lent-table}
 use Rattle.choice.specs.Turns.{Ready}
 use Rattle.state.proofs.Formed.{Proper}
-use Rattle.judging.specs.Judging.{checkOf as refusalCheck}
 use Rattle.steps.specs.Steps.{Outcome, stateChecks, stepIn, stepOf}
 use Rattle.steps.specs.Runs.{stepsOf, scheduleChecks, begun, ran, Progress, runOf}
 use Rattle.steps.proofs.Steps.{step-in}
@@ -45,8 +44,8 @@ module _ {bytes was scratch : List ℕ} {n : Sizes} (o : Open bytes was scratch 
   opened-proper = subst (λ (t : Table). Proper t was) (sym parts-table) (o .proper)
 
 module _ {bytes was before after : List ℕ} {r : Acceptance} (a : Opens bytes was before after r) where
-  opens-is : (x : Acceptance) → r ≡ x → firstOf (stateChecks bytes was (length before)) ≡ checkOf x
-  opens-is x e = sym (a .check) ∙ ap (λ (y : Acceptance). checkOf y) e
+  opens-is : (x : Acceptance) → r ≡ x → firstOf (stateChecks bytes was (length before)) ≡ acceptanceCheck x
+  opens-is x e = sym (a .check) ∙ ap (λ (y : Acceptance). acceptanceCheck y) e
 
   -- STEP
   module _ (kind x number : ℕ) where

@@ -7,15 +7,14 @@ use mathlib.Core.List.{List, [], _∷_}
 use native.Mathlib.Omega.{arith}
 use borrow.Author.Tests.{ne-eqb}
 use Rattle.basis.specs.KeySets.{has}
-use Rattle.table.specs.Checks.{passes, refuses, refuseIf, firstOf}
+use Rattle.table.specs.Checks.{passes, refuses, refuseIf, firstOf, refusalCheck}
 use Rattle.table.specs.Tables.{Table}
-use Rattle.table.proofs.Checks.{first-refuses, first-later, refuseIf-true, refuseIf-false}
+use Rattle.table.proofs.Checks.{test-refuses, test-later, refuseIf-true}
 use Rattle.state.specs.Layout.{zcOf, zpOf}
 use Rattle.steps.specs.Acts.{actChecks, chosen, acted}
 use Rattle.steps.specs.Offers.{takers, propagated, confirmed}
 use Rattle.steps.specs.Steps.{Outcome, done, refused, outcome, outOfRange, ownChecks, takenBy, after, stepIn}
 use Rattle.steps.proofs.Steps.{outcome-check, outcome-done, outcome-refused, propagates, confirms}
-use Rattle.judging.specs.Judging.{checkOf}
 use Rattle.acting.specs.Acting.{Acts}
 use Rattle.machine.specs.declared.Stepped.{Stepped}
 use Rattle.machine.specs.declared.Stepped.the-variants.{Done, Refused}
@@ -34,7 +33,7 @@ module _ (t : Table) (was : List ℕ) where
   module _ (x c : ℕ) {now : List ℕ} where
     pub act-done : {r : ℕ} → Acts t was x c r now → r ≡ 0 → Steps (ownStep t was 0 x c) (Done 0) now
     act-done {r} a e =
-        let p : firstOf (actChecks t was x c) ≡ passes = sym (a .check) ∙ ap checkOf e in
+        let p : firstOf (actChecks t was x c) ≡ passes = sym (a .check) ∙ ap refusalCheck e in
         record {
           check = sym (ap (λ (o : Outcome). o .check) (outcome-done was 0 (acted t was x (chosen t was x c)) (firstOf (actChecks t was x c)) p));
           taken = sym (ap (λ (o : Outcome). o .taken) (outcome-done was 0 (acted t was x (chosen t was x c)) (firstOf (actChecks t was x c)) p));
@@ -66,10 +65,10 @@ module _ (t : Table) (was : List ℕ) where
     pub offer-refused : (asks : Bool) → has (cond asks (zcOf was x) (zpOf was x)) k ≡ false → Steps (ownStep t was (offerKind asks) x k) (Refused 18 0) was
     offer-refused true h =
         steps-refused (outcome-refused was (takers t was x k (t .sizes .agents)) (confirmed t was x k (t .sizes .agents)) (firstOf (ownChecks t was 2 x k))
-        (first-refuses (refuseIf 18 (not (has (zcOf was x) k))) [] (refuseIf-true 18 (not (has (zcOf was x) k)) (ap not h))))
+        (test-refuses 18 (not (has (zcOf was x) k)) [] (ap not h)))
     offer-refused false h =
         steps-refused (outcome-refused was (takers t was x k (t .sizes .agents)) (propagated t was x k (t .sizes .agents)) (firstOf (ownChecks t was 1 x k))
-        (first-refuses (refuseIf 18 (not (has (zpOf was x) k))) [] (refuseIf-true 18 (not (has (zpOf was x) k)) (ap not h))))
+        (test-refuses 18 (not (has (zpOf was x) k)) [] (ap not h)))
 
   -- A STEP
   module _ (kind x number : ℕ) where
@@ -77,10 +76,10 @@ module _ (t : Table) (was : List ℕ) where
     unfolding stepIn
     step-out e =
         steps-refused (outcome-refused was (takenBy t was kind x number) (after t was kind x number) (firstOf (refuseIf 10 (outOfRange t was kind x number) ∷ ownChecks t was kind x number))
-        (first-refuses (refuseIf 10 (outOfRange t was kind x number)) (ownChecks t was kind x number) (refuseIf-true 10 (outOfRange t was kind x number) e)))
+        (test-refuses 10 (outOfRange t was kind x number) (ownChecks t was kind x number) e))
 
     pub step-own : outOfRange t was kind x number ≡ false → stepIn t was kind x number ≡ ownStep t was kind x number
     unfolding stepIn
     step-own e =
         ap (λ c. outcome c was (takenBy t was kind x number) (after t was kind x number))
-        (first-later (refuseIf 10 (outOfRange t was kind x number)) (ownChecks t was kind x number) (refuseIf-false 10 (outOfRange t was kind x number) e))
+        (test-later 10 (outOfRange t was kind x number) (ownChecks t was kind x number) e)

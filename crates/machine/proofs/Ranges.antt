@@ -2,20 +2,15 @@
 -- Assumes nothing.
 use Prim.Native.Nat.{ℕ, zero, suc, _<_, _≤_}
 use mathlib.Core.Bool.{Bool, true, false, not, _&&_, _||_}
-use mathlib.Core.Logic.{⊎-elim}
-use mathlib.Core.Path.{_≡_, refl, sym, ap, _∙_}
+use mathlib.Core.Path.{_≡_, refl, ap}
 use mathlib.Core.List.{List}
 use native.Mathlib.Omega.{arith}
 use lib.Dec.{ltb, leb, eqb}
-use borrow.Author.Tests.{lt-ltb, le-ltb, le-leb, lt-leb}
-use Rattle.basis.proofs.Tests.{or-left, or-right, lt-or-le}
+use borrow.Author.Tests.{lt-ltb, le-ltb}
+use Rattle.basis.proofs.Tests.{or-left, or-right, not-below}
 use Rattle.table.specs.Tables.{Table}
 use Rattle.steps.specs.Steps.{outOfRange}
 use Rattle.machine.specs.Stepping.{offerKind}
-
-not-below : (a b : ℕ) → not (ltb a b) ≡ leb b a
-not-below a b =
-    ⊎-elim (λ (h : a < b). ap not (lt-ltb a b h) ∙ sym (lt-leb b a h)) (λ (h : b ≤ a). ap not (le-ltb a b h) ∙ sym (le-leb b a h)) (lt-or-le a b)
 
 module _ (t : Table) (was : List ℕ) (kind x number : ℕ) where
   abbrev A : ℕ

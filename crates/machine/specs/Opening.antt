@@ -8,7 +8,7 @@ use Rattle.table.specs.Checks.{firstOf}
 use Rattle.table.specs.Tables.{sizesOf, tableOf}
 use Rattle.accept.specs.declared.Acceptance.{Acceptance}
 use Rattle.accept.specs.declared.Acceptance.the-variants.{Accepted}
-use Rattle.accept.specs.Answers.{checkOf}
+use Rattle.accept.specs.Answers.{acceptanceCheck}
 use Rattle.choice.specs.Turns.{Ready}
 use Rattle.state.proofs.Formed.{Proper}
 use Rattle.steps.specs.Steps.{stateChecks}
@@ -22,5 +22,5 @@ pub record Open (bytes was scratch : List ℕ) (n : Sizes) : Type 0 where
 
 -- the answer r by checks 1 to 9; the words before and after
 pub record Opens (bytes was before after : List ℕ) (r : Acceptance) : Type 0 where
-  pub check : checkOf r ≡ firstOf (stateChecks bytes was (length before))
+  pub check : acceptanceCheck r ≡ firstOf (stateChecks bytes was (length before))
   pub opened : (n : Sizes) → r ≡ Accepted n → Open bytes was after n

@@ -39,7 +39,7 @@ pub enum Ran {
     Refused(u8, usize),
 }
 
-// The state becomes that of a fleet which has not stepped yet. Scratch is at least two words for each node.
+// The state becomes that of a fleet which has not stepped yet. Scratch of under two words for each node is refused (8).
 pub fn load(table: &[u8], state: &mut [u32], scratch: &mut [u32]) -> Loaded
     ensures { λ r. ⌜ Loads (loadOf (now (table .entry)) (now (state .entry)) (length (now (scratch .entry)))) r (now (state .exit)) ⌝ }
 {

@@ -7,19 +7,18 @@ use table::Sizes;
 ghost use mathlib.Core.Path.{_≡_};
 ghost use Prim.Native.Nat.{_+_, _*_, _<_, _≤_};
 ghost use lib.ListN.{length};
-ghost use Rattle.table.specs.Checks.{firstOf, numberOf};
+ghost use Rattle.table.specs.Checks.{firstOf, numberOf, refusalCheck};
 ghost use Rattle.table.specs.Tables.{table};
 ghost use Rattle.choice.specs.Turns.{Ready};
 ghost use Rattle.state.proofs.Formed.{Proper};
 ghost use Rattle.steps.specs.Steps.{stepIn};
 ghost use Rattle.steps.specs.Runs.{stepsOf, kindOf, agentOf, numberIn, scheduleChecks, begun, ran};
-ghost use Rattle.judging.specs.Judging.{checkOf};
 ghost use Rattle.machine.specs.Answers.{stepCheck, stepTaken, Steps, Goes};
 ghost use Rattle.machine.specs.Running.{Runnable, Within, added};
 
 // The refusal of a schedule, or 0.
 pub fn judge_schedule(schedule: &[u8], answers: &[u8]) -> u8
-    ensures { λ r. ⌜ checkOf r ≡ firstOf (scheduleChecks (now (schedule .entry)) (now (answers .entry))) ⌝ }
+    ensures { λ r. ⌜ refusalCheck r ≡ firstOf (scheduleChecks (now (schedule .entry)) (now (answers .entry))) ⌝ }
 {
     if schedule.len() < 2 {
         return 19;

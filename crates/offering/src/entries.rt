@@ -33,7 +33,7 @@ pub fn word_of(state: &[u32], agent: usize, key: usize) -> u32
     state[at]
 }
 
-// An agent takes an entry: it no more has to confirm the key, and has to propagate it.
+// An agent takes an entry: it no longer has to confirm the key, and has to propagate it.
 pub fn take_entry(state: &mut [u32], key: usize, value: u32, stamp: u32, agent: usize)
     requires { ⌜ (length (now state) ≡ stateWords) × Pair (Entries agent) key ⌝ }
     ensures { λ _. ⌜ now (state .exit) ≡ takeEntry key value stamp agent (now (state .entry)) ⌝ }

@@ -11,7 +11,7 @@ ghost use Rattle.table.specs.Tables.{table};
 ghost use Rattle.steps.specs.Offers.{takers, propagated, confirmed};
 ghost use Rattle.offering.specs.Passing.{Passing, Passed};
 
-// The agent offers its entry and no more has to propagate the key: how many agents took the entry.
+// The agent offers its entry and no longer has to propagate the key: how many agents took the entry.
 pub fn propagate(
     sizes: Sizes,
     kinds: &[u8],
@@ -28,7 +28,7 @@ pub fn propagate(
     taken
 }
 
-// The agent offers its entry, asks for a newer one, and no more has to confirm the key: how many agents took the entry.
+// The agent offers its entry, asks for a newer one, and no longer has to confirm the key: how many agents took the entry.
 pub fn confirm(
     sizes: Sizes,
     kinds: &[u8],

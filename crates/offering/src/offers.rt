@@ -65,7 +65,7 @@ fn offer(
     false
 }
 
-// Offers an agent's entry to every other: how many take it.
+// Offers an agent's entry to every other: how many take it. A link reads its sender and its receiver alone, and neither has changed when it is asked.
 pub fn offer_all(
     sizes: Sizes,
     kinds: &[u8],

@@ -46,9 +46,15 @@ residualAt a = blockAt a + 67
 abbrev pub residualWords : ℕ
 residualWords = 63
 
--- keys of a store
+-- keys of a store, agent blocks, and the highest stamp
 abbrev pub keyLimit : ℕ
 keyLimit = 16
+
+abbrev pub agentLimit : ℕ
+agentLimit = 32
+
+abbrev pub clockLimit : ℕ
+clockLimit = 65535
 
 -- the word of a pair that says whether there is a value, present or the stamp; and the word of the value.
 -- Environment and attributes: (present, value); stigmergy entries: (value, stamp)

@@ -11,7 +11,7 @@ use Rattle.term.specs.Terms.{areTerms}
 use Rattle.term.specs.Acceptance.{stateWords}
 use Rattle.state.specs.declared.Store.{Store}
 use Rattle.state.specs.declared.Store.the-variants.{Environment, Attributes, Entries}
-use Rattle.state.specs.Layout.{agentsAt, blockAt, lengthAt, residualAt, residualWords, keyLimit, clockOf, markOf, wordOf, stampOf, zcOf, zpOf, lengthOf, residualOf}
+use Rattle.state.specs.Layout.{agentsAt, blockAt, lengthAt, residualAt, residualWords, keyLimit, clockLimit, clockOf, markOf, wordOf, stampOf, zcOf, zpOf, lengthOf, residualOf}
 
 unfoldable pub allZero : List ℕ → Bool
 allZero [] = true
@@ -46,7 +46,7 @@ module _ (t : Table) (s : List ℕ) where
   unfoldable pub wellFormed : Bool
   wellFormed =
       eqb (getD s agentsAt 0) (t .sizes .agents)
-      && (leb (clockOf s) 65535
+      && (leb (clockOf s) clockLimit
       && (every (pairFormed Environment 1 (t .sizes .environment)) keyLimit
       && (every agentFormed (t .sizes .agents)
       && allZero (drop (blockAt (t .sizes .agents)) s))))

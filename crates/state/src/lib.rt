@@ -1,4 +1,4 @@
-// The state's words: layout, stores, evaluation, well-formedness.
+// The state's words: where things stand, and how they are read and changed.
 mod layout; // layout.rt: where things stand
 mod stores; // stores.rt: values of keys, and changes of pairs and of sets of keys
 

@@ -2,13 +2,13 @@
 -- Assumes nothing.
 use Prim.Native.Nat.{ℕ, zero, suc, _<_, _≤_}
 use mathlib.Core.Bool.{false, cond}
-use mathlib.Core.Path.{_≡_, refl, ap, ap₂, _∙_}
+use mathlib.Core.Path.{_≡_, refl, ap, ap₂, subst, _∙_}
 use mathlib.Core.Logic.{⊎-elim}
 use mathlib.Core.List.{List, []}
 use native.Mathlib.Omega.{arith}
 use lib.Dec.{eqb}
 use lib.ListN.{length, set, length-set}
-use borrow.Author.Tests.{ne-eqb}
+use borrow.Author.Tests.{eqb-true, ne-eqb}
 use Rattle.basis.specs.KeySets.{plus, plusAll}
 use Rattle.basis.proofs.Lists.{nth-in}
 use Rattle.basis.proofs.Tests.{cond-cases, same-or-other}
@@ -26,7 +26,7 @@ use Rattle.state.specs.declared.Store.the-variants.{Environment, Attributes, En
 use Rattle.state.specs.Layout.{clockAt, zcAt, zpAt, keyLimit, residualWords, zcOf, zpOf, termIn, put, addKey}
 use Rattle.state.proofs.Places.{Place, Zc, Zp, Clock, Mark, Word, Waits, Length, Residual, Inside, storeKind, same}
 use Rattle.state.proofs.Frames.{wordAt, SameAt, set-other, set-here, set-word, put-length, put-other, put-word, add-length, add-other, add-word}
-use Rattle.steps.specs.Acts.{nextStamp, wordIn, choices, chosen, valueFor, toConfirm, storeOf, setKey, acted}
+use Rattle.steps.specs.Acts.{nextStamp, entered, wordIn, choices, chosen, valueFor, toConfirm, storeOf, setKey, acted}
 use Rattle.steps.proofs.Leave.{leave-length, leave-other, leave-term}
 
 module _ (t : Table) (was : List ℕ) (x : ℕ) where
@@ -93,19 +93,19 @@ module _ (t : Table) (was : List ℕ) (x : ℕ) where
     abbrev v : ℕ
     v = wordIn (valueFor t was x n)
 
-    abbrev entered : List ℕ
-    entered = put (Entries x) k v (nextStamp was) was
+    abbrev put-in : List ℕ
+    put-in = put (Entries x) k v (nextStamp was) was
 
     abbrev queued : List ℕ
-    queued = addKey (zpAt x) k entered
+    queued = addKey (zpAt x) k put-in
 
     pub set-entry : kindAt t n ≡ 3
-        → setKey t was x (acts n) ≡ set (addKey (zpAt x) (pAt t n) (put (Entries x) (pAt t n) (wordIn (valueFor t was x n)) (nextStamp was) was)) clockAt (nextStamp was)
+        → setKey t was x (acts n) ≡ entered was x (pAt t n) (wordIn (valueFor t was x n))
     unfolding setKey
     set-entry e = rw e
 
     queued-length : length queued ≡ length was
-    queued-length = add-length Zp x k entered ∙ put-length (Entries x) k v (nextStamp was) was
+    queued-length = add-length Zp x k put-in ∙ put-length (Entries x) k v (nextStamp was) was
 
     -- the word that is at q after a stigmergy write
     pub entry-word : length was ≡ stateWords → x < 32 → kindAt t n ≡ 3 → pAt t n < keyLimit → (q : Place) → Inside q
@@ -118,7 +118,7 @@ module _ (t : Table) (was : List ℕ) (x : ℕ) where
         ap (λ (s : List ℕ). wordAt s q) (set-entry e)
         ∙ set-word queued Clock (nextStamp was) tt (queued-length ∙ whole) (omega arith) q h
         ∙ ap (λ w. cond (same q Clock) (nextStamp was) w)
-        (add-word Zp x k entered (put-length (Entries x) k v (nextStamp was) was ∙ whole) there q h
+        (add-word Zp x k put-in (put-length (Entries x) k v (nextStamp was) was ∙ whole) there q h
         ∙ ap₂ (λ a b. cond (same q (Waits Zp x)) (plus a k) b)
         (put-other (Entries x) k v (nextStamp was) was key (Waits Zp x) tt refl refl)
         (put-word (Entries x) k v (nextStamp was) was key whole there q h))
@@ -129,8 +129,9 @@ module _ (t : Table) (was : List ℕ) (x : ℕ) where
     unfolding setKey
     set-key-other key q h c z m w =
         cond-cases (λ (u : List ℕ). SameAt u was q) (eqb (kindAt t n) 3)
-        (λ e. set-other (addKey (zpAt x) k (put store k v (nextStamp was) was)) Clock (nextStamp was) tt q h c
-        ∙ add-other Zp x k (put store k v (nextStamp was) was) q h z ∙ put-other store k v (nextStamp was) was key q h m w)
+        (λ e. let f = store-entry n (eqb-true (kindAt t n) 3 e) in
+        set-other queued Clock (nextStamp was) tt q h c ∙ add-other Zp x k put-in q h z
+        ∙ put-other (Entries x) k v (nextStamp was) was key q h (subst (λ (s : Store). same q (Mark s k) ≡ false) f m) (subst (λ (s : Store). same q (Word s k) ≡ false) f w))
         (λ e. put-other store k v 1 was key q h m w)
       where
         store : Store

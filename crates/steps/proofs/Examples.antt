@@ -14,7 +14,8 @@ use Rattle.state.specs.Layout.{valueIn, put, addKey, dropKey}
 use Rattle.state.specs.Evaluation.{valueStep, truthStep}
 use Rattle.state.specs.WellFormed.{allZero, pairFormed, pendingFormed, residualFormed, agentFormed, wellFormed, loaded}
 use Rattle.steps.specs.Offers.{takeEntry, hears, takes, answers, offer}
-use Rattle.steps.specs.Steps.{outcome, tableChecks, stepIn}
+use Rattle.term.specs.Acceptance.{tableChecks}
+use Rattle.steps.specs.Steps.{outcome, stepIn}
 use Rattle.steps.specs.Examples.{example, leftBy, AllGiven}
 
 -- the table is accepted

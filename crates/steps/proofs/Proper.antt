@@ -25,7 +25,8 @@ use Rattle.state.proofs.Load.{loaded-proper}
 use Rattle.steps.specs.Acts.{chosen, actChecks, acted}
 use Rattle.steps.specs.Offers.{offered}
 use Rattle.steps.specs.Runs.{Progress, ran, kindOf, agentOf, numberIn, added}
-use Rattle.steps.specs.Steps.{outcome, outOfRange, ownChecks, after, takenBy, stepIn, tableChecks, stateChecks}
+use Rattle.term.specs.Acceptance.{tableChecks}
+use Rattle.steps.specs.Steps.{outcome, outOfRange, ownChecks, after, takenBy, stepIn, stateChecks}
 use Rattle.steps.proofs.Steps.{InRange, in-range, act-able, propagates, confirms, state-checks}
 use Rattle.steps.proofs.Acts.{chosen-inside}
 use Rattle.steps.proofs.Keep.{dropped-proper, acted-proper}

@@ -13,7 +13,7 @@ use Rattle.basis.specs.KeySets.{has}
 use Rattle.basis.proofs.Tests.{not-both, and-left, and-right, and-fails, or-neither}
 use Rattle.table.specs.Checks.{Check, passes, refuses, refuseIf, firstOf}
 use Rattle.table.specs.Tables.{Table, tableOf}
-use Rattle.table.proofs.Checks.{first-passes, first-both, first-later, first-refuses, append-passes, append-both, refuseIf-passes, refuseIf-false, refuseIf-true}
+use Rattle.table.proofs.Checks.{test-passes, passes-test, none-passes, append-passes, append-both}
 use Rattle.term.specs.Terms.{words}
 use Rattle.term.specs.Processes.{allFew}
 use Rattle.term.specs.Accepted.{Accepted}
@@ -21,7 +21,8 @@ use Rattle.term.proofs.Acceptance.{passes-accepted, accepted-passes}
 use Rattle.state.specs.Layout.{residualWords, clockOf, zcOf, zpOf, termIn}
 use Rattle.state.specs.WellFormed.{wellFormed, loaded}
 use Rattle.steps.specs.Acts.{choices, chosen, allHold, lacksValue, writesEntry, actChecks}
-use Rattle.steps.specs.Steps.{Outcome, done, refused, outcome, tableChecks, loadOf, outOfRange, ownChecks, takenBy, after, stepIn, stateChecks, stepOf}
+use Rattle.term.specs.Acceptance.{tableChecks}
+use Rattle.steps.specs.Steps.{Outcome, done, refused, outcome, loadOf, outOfRange, ownChecks, takenBy, after, stepIn, stateChecks, stepOf}
 
 module _ (was : List ℕ) (taken : ℕ) (s : List ℕ) where
   pub outcome-check : (c : Check) → outcome c was taken s .check ≡ c
@@ -36,25 +37,6 @@ module _ (was : List ℕ) (taken : ℕ) (s : List ℕ) where
   pub outcome-refused : (c : Check) {number place : ℕ} → c ≡ refuses number place → outcome c was taken s ≡ refused number place was
   unfolding outcome
   outcome-refused c e = rw e
-
--- the first of a list of checks is a test
-module _ (number : ℕ) (test : Bool) (cs : List Check) where
-  test-passes : firstOf (refuseIf number test ∷ cs) ≡ passes → (test ≡ false) × (firstOf cs ≡ passes)
-  test-passes e = let w = first-passes (refuseIf number test) cs e in (refuseIf-passes number test (w .0), w .1)
-
-  passes-test : test ≡ false → firstOf cs ≡ passes → firstOf (refuseIf number test ∷ cs) ≡ passes
-  passes-test d e = first-both (refuseIf number test) cs (refuseIf-false number test d) e
-
-  -- it refuses, or the others decide
-  pub test-refuses : test ≡ true → firstOf (refuseIf number test ∷ cs) ≡ refuses number 0
-  test-refuses e = first-refuses (refuseIf number test) cs (refuseIf-true number test e)
-
-  pub test-later : test ≡ false → firstOf (refuseIf number test ∷ cs) ≡ firstOf cs
-  test-later e = first-later (refuseIf number test) cs (refuseIf-false number test e)
-
-pub none-passes : firstOf [] ≡ passes
-unfolding firstOf
-none-passes = refl
 
 -- LOAD is done where the table is accepted for the lent words
 module _ (bytes was : List ℕ) (scratch : ℕ) where

@@ -14,7 +14,7 @@ use Rattle.term.specs.Terms.{Idle, words}
 use Rattle.term.specs.Processes.{Label, ticks, acts, Derivation, derivation, derivations, process, allFew}
 use Rattle.state.specs.declared.Store.{Store}
 use Rattle.state.specs.declared.Store.the-variants.{Environment, Attributes, Entries}
-use Rattle.state.specs.Layout.{clockAt, zcAt, zpAt, lengthAt, residualAt, residualWords, keyLimit, clockOf, stampOf, zcOf, zpOf, termIn, put, addKey}
+use Rattle.state.specs.Layout.{clockAt, zcAt, zpAt, lengthAt, residualAt, residualWords, keyLimit, clockLimit, clockOf, stampOf, zcOf, zpOf, termIn, put, addKey}
 use Rattle.state.specs.Evaluation.{valueOf, holds, reads}
 
 -- absent, and the word of a value that is not
@@ -29,6 +29,10 @@ wordIn (Present v) = v
 -- the stamp that the next write takes
 abbrev pub nextStamp : List ℕ → ℕ
 nextStamp s = clockOf s + 1
+
+-- agent x writes v to stigmergy key k: the entry takes the next stamp, which becomes the clock, and the key waits to be propagated
+abbrev pub entered : List ℕ → ℕ → ℕ → ℕ → List ℕ
+entered s x k v = set (addKey (zpAt x) k (put (Entries x) k v (nextStamp s) s)) clockAt (nextStamp s)
 
 -- the residual of agent x becomes these words, and 0 after them
 unfoldable pub leave : ℕ → List ℕ → List ℕ → List ℕ
@@ -59,6 +63,14 @@ module _ (t : Table) (was : List ℕ) (x : ℕ) where
   writesEntry ticks = false
   writesEntry (acts n) = eqb (kindAt t n) 3
 
+  -- refusals 15 to 17, of what is done and how many words it leaves
+  abbrev pub lastChecks : Label → ℕ → List Check
+  lastChecks label size =
+      refuseIf 15 (lacksValue label)
+      ∷ refuseIf 16 (writesEntry label && leb clockLimit (clockOf was))
+      ∷ refuseIf 17 (ltb residualWords size)
+      ∷ []
+
   -- refusals 11 to 17, of choice c
   abbrev pub actChecks : ℕ → List Check
   actChecks c =
@@ -66,10 +78,7 @@ module _ (t : Table) (was : List ℕ) (x : ℕ) where
       ∷ refuseIf 12 (not (allFew t (termIn was x)))
       ∷ refuseIf 13 (leb (length choices) c)
       ∷ refuseIf 14 (not (allHold (chosen c .guards)))
-      ∷ refuseIf 15 (lacksValue (chosen c .label))
-      ∷ refuseIf 16 (writesEntry (chosen c .label) && leb 65535 (clockOf was))
-      ∷ refuseIf 17 (ltb residualWords (length (words (chosen c .leaving))))
-      ∷ []
+      ∷ lastChecks (chosen c .label) (length (words (chosen c .leaving)))
 
   -- a stigmergy key in the guards or the expression
   abbrev pub guardsRead : List ℕ → ℕ → Bool
@@ -88,12 +97,12 @@ module _ (t : Table) (was : List ℕ) (x : ℕ) where
   abbrev pub storeOf : ℕ → Store
   storeOf n = getD (Attributes x ∷ Entries x ∷ Environment ∷ []) (kindAt t n - 2) Environment
 
-  -- the key is set; a stigmergy write takes the next stamp, which becomes the clock, and puts its key in Zp; a tick sets none
+  -- the key is set; a tick sets none
   unfoldable pub setKey : Label → List ℕ
   setKey ticks = was
   setKey (acts n) =
       cond (eqb (kindAt t n) 3)
-      (set (addKey (zpAt x) (pAt t n) (put (storeOf n) (pAt t n) (wordIn (valueFor n)) (nextStamp was) was)) clockAt (nextStamp was))
+      (entered was x (pAt t n) (wordIn (valueFor n)))
       (put (storeOf n) (pAt t n) (wordIn (valueFor n)) 1 was)
 
   -- then Zc and the residual

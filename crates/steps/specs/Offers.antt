@@ -13,7 +13,7 @@ use Rattle.state.specs.Evaluation.{linkHolds}
 abbrev pub newer : List ℕ → ℕ → ℕ → ℕ → Bool
 newer s k a b = ltb (stampOf s b k) (stampOf s a k)
 
--- agent y takes the entry (v, stamp): it no more has to confirm the key, and has to propagate it
+-- agent y takes the entry (v, stamp): it no longer has to confirm the key, and has to propagate it
 unfoldable pub takeEntry : ℕ → ℕ → ℕ → ℕ → List ℕ → List ℕ
 takeEntry k v stamp y s = addKey (zpAt y) k (dropKey (zcAt y) k (put (Entries y) k v stamp s))
 

@@ -7,7 +7,7 @@ use lib.ListN.{length}
 use Rattle.basis.specs.KeySets.{has}
 use Rattle.table.specs.Checks.{Check, passes, refuses, refuseIf, firstOf}
 use Rattle.table.specs.Tables.{Table, tableOf}
-use Rattle.term.specs.Acceptance.{lengthChecks, contentChecks}
+use Rattle.term.specs.Acceptance.{tableChecks}
 use Rattle.state.specs.Layout.{zcOf, zpOf}
 use Rattle.state.specs.WellFormed.{wellFormed, loaded}
 use Rattle.steps.specs.Acts.{actChecks, chosen, acted}
@@ -29,10 +29,6 @@ refused number place s = record { check = refuses number place; taken = 0; state
 unfoldable pub outcome : Check → List ℕ → ℕ → List ℕ → Outcome
 outcome passes was taken state = done taken state
 outcome (refuses number place) was taken state = refused number place was
-
--- the checks of a table, 1 to 8 (but 8 right after 3), given the lengths of state and scratch
-abbrev pub tableChecks : List ℕ → ℕ → ℕ → List Check
-tableChecks bytes stateLength scratchLength = lengthChecks bytes stateLength scratchLength ++ contentChecks (tableOf bytes)
 
 abbrev pub loadOf : List ℕ → List ℕ → ℕ → Outcome
 loadOf bytes was scratchLength =

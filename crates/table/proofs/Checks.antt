@@ -106,3 +106,22 @@ module _ (number : ℕ) where
 
   pub refuseAt-none : (limit : ℕ) (test : ℕ → Bool) → ((k : ℕ) → k < limit → test k ≡ false) → refuseAt number limit (lowest test limit) ≡ passes
   refuseAt-none limit test f = refuseAt-past limit (lowest test limit) (omega (arith, lowest-none test limit f))
+
+-- the first of a list of checks is a test
+module _ (number : ℕ) (test : Bool) (cs : List Check) where
+  pub test-passes : firstOf (refuseIf number test ∷ cs) ≡ passes → (test ≡ false) × (firstOf cs ≡ passes)
+  test-passes e = let w = first-passes (refuseIf number test) cs e in (refuseIf-passes number test (w .0), w .1)
+
+  pub passes-test : test ≡ false → firstOf cs ≡ passes → firstOf (refuseIf number test ∷ cs) ≡ passes
+  passes-test d e = first-both (refuseIf number test) cs (refuseIf-false number test d) e
+
+  -- it refuses, or the others decide
+  pub test-refuses : test ≡ true → firstOf (refuseIf number test ∷ cs) ≡ refuses number 0
+  test-refuses e = first-refuses (refuseIf number test) cs (refuseIf-true number test e)
+
+  pub test-later : test ≡ false → firstOf (refuseIf number test ∷ cs) ≡ firstOf cs
+  test-later e = first-later (refuseIf number test) cs (refuseIf-false number test e)
+
+pub none-passes : firstOf [] ≡ passes
+unfolding firstOf
+none-passes = refl

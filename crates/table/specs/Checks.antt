@@ -1,8 +1,8 @@
 -- Refusals in order: a call's checks are a list, and the first that refuses decides.
 use Prim.Native.Nat.{ℕ}
-use mathlib.Core.Bool.{Bool, true, false, cond}
+use mathlib.Core.Bool.{Bool, true, false, cond, not}
 use mathlib.Core.List.{List, [], _∷_}
-use lib.Dec.{ltb}
+use lib.Dec.{eqb, ltb}
 
 -- what a check comes to: it passes, or refuses with the paper's number and a place
 pub data Check : Type 0 where
@@ -39,3 +39,7 @@ numberOf (refuses number place) = number
 abbrev pub placeOf : Check → ℕ
 placeOf passes = 0
 placeOf (refuses number place) = place
+
+-- a refusal's number with no place, where 0 stands for none
+abbrev pub refusalCheck : ℕ → Check
+refusalCheck number = refuseIf number (not (eqb number 0))

@@ -5,7 +5,7 @@ use mathlib.Core.List.{List, [], _∷_, _++_}
 use lib.Dec.{ltb, eqb}
 use Rattle.basis.specs.Numbers.{lowest}
 use Rattle.table.specs.Checks.{Check, refuseIf, refuseAt}
-use Rattle.table.specs.Tables.{Table, sizesOf, kindAt}
+use Rattle.table.specs.Tables.{Table, sizesOf, tableOf, kindAt}
 use Rattle.table.specs.Measuring.{sizeChecks}
 use Rattle.table.specs.Nodes.{isProcess, badNode}
 use Rattle.table.specs.Reach.{wrongKey}
@@ -42,3 +42,7 @@ contentChecks t =
     refuseAt 4 (t .sizes .nodes) (lowest (badNode t) (t .sizes .nodes))
     ∷ refuseAt 5 (t .sizes .nodes) (lowest (wrongKey t) (t .sizes .nodes))
     ∷ termChecks t
+
+-- all of them
+abbrev pub tableChecks : List ℕ → ℕ → ℕ → List Check
+tableChecks bytes stateLength scratchLength = lengthChecks bytes stateLength scratchLength ++ contentChecks (tableOf bytes)

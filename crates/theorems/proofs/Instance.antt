@@ -21,13 +21,13 @@ use Rattle.table.specs.Reach.{reachStep, reachedFrom, wrongKey}
 use Rattle.term.specs.Terms.{words, termsOf, areTerms}
 use Rattle.term.specs.Processes.{keep, joins, derivations, nodeStep, nodeWith, defined, nodeProcess, process, allFew}
 use Rattle.term.specs.Exposure.{canTick, callsBelow}
-use Rattle.term.specs.Acceptance.{stateWords}
+use Rattle.term.specs.Acceptance.{stateWords, tableChecks}
 use Rattle.state.specs.Layout.{valueIn, put, addKey, dropKey}
 use Rattle.state.specs.Evaluation.{valueStep, truthStep, readsStep}
 use Rattle.state.specs.WellFormed.{allZero, pairFormed, pendingFormed, residualFormed, agentFormed, wellFormed, loaded}
 use Rattle.steps.specs.Acts.{leave, setKey, acted}
 use Rattle.steps.specs.Offers.{takeEntry, hears, takes, answers, offer}
-use Rattle.steps.specs.Steps.{Outcome, done, outcome, tableChecks, stepIn, stepOf}
+use Rattle.steps.specs.Steps.{Outcome, done, outcome, stepIn, stepOf}
 use Rattle.labs.specs.Agents.{System}
 use Rattle.labs.specs.Reading.{systemOf}
 use Rattle.theorems.specs.Demand2.{Allowed, Bytes, Ready}

@@ -18,7 +18,7 @@ use Rattle.table.specs.Checks.{passes, firstOf}
 use Rattle.table.specs.Tables.{Table, tableOf, startAt}
 use Rattle.table.specs.Sound.{Limits}
 use Rattle.table.proofs.Promises.{start-process}
-use Rattle.term.specs.Acceptance.{stateWords}
+use Rattle.term.specs.Acceptance.{stateWords, tableChecks}
 use Rattle.term.specs.Accepted.{Accepted}
 use Rattle.term.proofs.Acceptance.{passes-accepted, accepted-passes}
 use Rattle.term.specs.Terms.{Node}
@@ -28,7 +28,7 @@ use Rattle.state.specs.WellFormed.{loaded}
 use Rattle.state.proofs.Places.{Zc, Zp}
 use Rattle.state.proofs.Formed.{Proper, well-formed-read, well-formed-test}
 use Rattle.state.proofs.Load.{loaded-clock, loaded-mark, loaded-value, loaded-set, loaded-term}
-use Rattle.steps.specs.Steps.{Outcome, tableChecks, loadOf, stepOf}
+use Rattle.steps.specs.Steps.{Outcome, loadOf, stepOf}
 use Rattle.steps.proofs.Proper.{load-proper, proper-passes}
 use Rattle.steps.proofs.Steps.{state-checks, done-step, load-accepted, accepted-load}
 use Rattle.labs.specs.Agents.{⟨_⸴_⸴_⸴_⸴_⟩, Entry, System}

@@ -1,8 +1,8 @@
 -- `act` meets its contract. Assumes nothing.
-use mathlib.Core.Path.{refl}
 use denote.Ref.{now}
 use Rattle.table.specs.Tables.{Table, table}
-use Rattle.acting.proofs.Answers.{zeros-unmarked, acts-done, acts-refused}
+use Rattle.judging.proofs.Asking.{zeros-unmarked}
+use Rattle.acting.proofs.Answers.{acts-done, acts-refused}
 use borrow.Author.Needs.{needs}
 use Rattle.acting.proofs.act.Statement.{statement}
 use Rattle.acting.proofs.act.Tie as tie
@@ -16,7 +16,7 @@ slice-aggregate-judge c = search needs
 judge-requires : tie.Need-judge-requires
 judge-requires c κs =
     let a = c .before .before .before .before .before .before in
-    (a .pre .0, (a .pre .1 .0, (a .pre .1 .1, zeros-unmarked (tb a) (a .pre .0 .checked .sound .shaped) _ refl)))
+    (a .pre .0, (a .pre .1 .0, (a .pre .1 .1, zeros-unmarked (tb a) 4096 (a .pre .0 .checked .sound .shaped .limits .nodes))))
 
 same-length : tie.Need-same-length
 same-length c = search needs

@@ -3,7 +3,7 @@
 use mathlib.Core.Path.{sym, ap, _∙_}
 use native.Mathlib.Omega.{arith}
 use denote.Ref.{now}
-use Rattle.judging.specs.Judging.{checkOf}
+use Rattle.table.specs.Checks.{refusalCheck}
 use Rattle.machine.proofs.Schedules.{passes-runnable}
 use Rattle.machine.proofs.Opened.{opened-nodes, opened-ready, opened-proper, run-refused, run-unscheduled, run-opened}
 use borrow.Author.Needs.{needs}
@@ -58,7 +58,7 @@ run-steps-requires : tie.Need-run-steps-requires
 run-steps-requires c κs =
     let o = c .before .before .before .before .before .before .before .before .before .before .before .before .before .before .«open» .ensures .opened _ (c .before .before .before .before .before .before .before .before .before .before .opened .given .1) in
     let a = c .before .before .before .before .before .before .before .before .before .before .before .before .before .before .before .before .before .before .before .before .before .before .args in
-    (opened-ready o, (opened-proper o, passes-runnable (now (a .schedule)) (now (a .answers)) (sym (c .before .before .before .before .before .before .before .judge-schedule .ensures) ∙ ap checkOf (c .before .before .before .before .before .before .if1 .left))))
+    (opened-ready o, (opened-proper o, passes-runnable (now (a .schedule)) (now (a .answers)) (sym (c .before .before .before .before .before .before .before .judge-schedule .ensures) ∙ ap refusalCheck (c .before .before .before .before .before .before .if1 .left))))
 
 enum-known-opened-2 : tie.Need-enum-known-opened-2
 enum-known-opened-2 c = search needs
@@ -75,7 +75,7 @@ same-length-6 c = search needs
 returns-2 : tie.Need-returns-2
 returns-2 c =
     let a = c .before .before .before .before .before .before .before .before .before .before .before .before .before .before .before .before .before .before .before .before .before .before .before .before .before .before .before .args in
-    run-opened (c .before .before .before .before .before .before .before .before .before .before .before .before .before .before .before .before .before .before .before .«open» .ensures) (now (a .schedule)) (now (a .answers)) (c .before .before .before .before .before .before .before .before .before .before .before .before .before .before .before .opened .given .1) (sym (c .before .before .before .before .before .before .before .before .before .before .before .before .judge-schedule .ensures) ∙ ap checkOf (c .before .before .before .before .before .before .before .before .before .before .before .if1 .left)) (c .before .before .before .before .run-steps .ensures)
+    run-opened (c .before .before .before .before .before .before .before .before .before .before .before .before .before .before .before .before .before .before .before .«open» .ensures) (now (a .schedule)) (now (a .answers)) (c .before .before .before .before .before .before .before .before .before .before .before .before .before .before .before .opened .given .1) (sym (c .before .before .before .before .before .before .before .before .before .before .before .before .judge-schedule .ensures) ∙ ap refusalCheck (c .before .before .before .before .before .before .before .before .before .before .before .if1 .left)) (c .before .before .before .before .run-steps .ensures)
 
 same-length-7 : tie.Need-same-length-7
 same-length-7 c = search needs

@@ -1,7 +1,6 @@
 -- `write_entry` meets its contract. Assumes nothing.
 use mathlib.Core.Path.{_∙_}
 use lib.ListN.{length-set}
-use Rattle.acting.specs.Acting.{entered}
 use borrow.Author.Needs.{needs}
 use Rattle.acting.proofs.setting.write_entry.Statement.{statement}
 use Rattle.acting.proofs.setting.write_entry.Tie as tie
@@ -28,7 +27,6 @@ same-length : tie.Need-same-length
 same-length c = simp length-set (c .before .before .add-key .kept .0 ∙ c .before .before .before .before .before .before .put .kept .0)
 
 returns : tie.Need-returns
-unfolding entered
 returns c =
     rw (c .before .before .add-key .ensures, c .before .before .before .before .before .before .put .ensures, c .before .before .before .before .before .before .before .before .before .zp-at .ensures .is)
 
