@@ -1,0 +1,18 @@
+-- Where the table ends in an input.
+use Prim.Native.Nat.{ℕ, _+_, _*_, _≤_}
+use mathlib.Core.Bool.{cond}
+use mathlib.Core.Path.{_≡_}
+use mathlib.Core.List.{List}
+use lib.Dec.{ltb}
+use lib.ListN.{length}
+use Rattle.basis.specs.Bytes.{u16At}
+
+-- the first 12 + 5N bytes, or all if fewer; where there is no whole header, all
+abbrev pub tableEnd : List ℕ → ℕ
+tableEnd input =
+    cond (ltb (length input) 12) (length input)
+    (cond (ltb (12 + 5 * u16At input 0) (length input)) (12 + 5 * u16At input 0) (length input))
+
+pub record TableEnd (input : List ℕ) (r : ℕ) : Type 0 where
+  pub is : r ≡ tableEnd input
+  pub fits : r ≤ length input

@@ -1,0 +1,20 @@
+-- What is printed of a state, and of a number.
+use Prim.Native.Nat.{ℕ, suc, _≤_}
+use mathlib.Core.Bool.{true, false}
+use mathlib.Core.Path.{_≡_}
+use mathlib.Core.List.{List}
+use lib.IntN.{ℤ, pos, negsuc}
+use lib.ListN.{length, getD}
+use Rattle.term.specs.Acceptance.{stateWords}
+use Rattle.state.specs.Layout.{agentsAt}
+use Rattle.labs_show.specs.declared.lines.Decimal.{Decimal}
+
+-- words of a state, with a number of agents that they have room for
+pub record Fleet (state : List ℕ) : Type 0 where
+  pub whole : length state ≡ stateWords
+  pub agents : getD state agentsAt 0 ≤ 32
+
+-- `negsuc n` is -(n + 1)
+abbrev pub decimalOf : ℤ → Decimal
+decimalOf (pos n) = record { minus = false; size = n }
+decimalOf (negsuc n) = record { minus = true; size = suc n }
