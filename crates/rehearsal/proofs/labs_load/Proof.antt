@@ -1,50 +1,52 @@
+-- `rehearsal::labs_load` meets its contract.
+-- Assumes nothing.
+use mathlib.Core.Path.{sym, ap, _∙_}
+use denote.Ref.{now}
+use lib.ListN.{length}
+use Rattle.machine.specs.declared.Loaded.{Loaded}
+use Rattle.machine.specs.Answers.{loadCheck}
+use Rattle.rehearsal.specs.Packing.{packed}
+use Rattle.rehearsal.proofs.Places.{load-near}
+use Rattle.rehearsal.proofs.Packed.{load-packs, load-place}
 use borrow.Author.Needs.{needs}
 use Rattle.rehearsal.proofs.labs_load.Statement.{statement}
 use Rattle.rehearsal.proofs.labs_load.Tie as tie
-use Rattle.rehearsal.proofs.labs_load.Reads as reads
-use Rattle.rehearsal.proofs.labs_load.Lts as lts
-use Rattle.machine.proofs.load.Reads as load-reads
-use Rattle.rehearsal.proofs.packing.pack_refusal.Reads as pack-refusal-reads
 
--- src/lib.rt:19:9
 load-requires : tie.Need-load-requires
 load-requires c κs = search needs
 
--- src/lib.rt:21:25
 enum-told : tie.Need-enum-told
 enum-told c = search needs
 
--- src/lib.rt:22:25
 enum-known-answer : tie.Need-enum-known-answer
 enum-known-answer c = search needs
 
--- src/lib.rt:22:43
 pack-refusal-requires : tie.Need-pack-refusal-requires
-pack-refusal-requires c κs = ?
+pack-refusal-requires c κs =
+    let a = c .before .before .before .before .before .before .before .before .before .before .before .before .before .args in
+    load-place (c .before .before .before .before .before .before .before .load .ensures) (c .before .answer .given .1) (load-near (now (a .table)) (now (a .state)) (length (now (a .scratch))))
 
--- src/lib.rt:15:1
 same-length : tie.Need-same-length
 same-length c = search needs
 
--- src/lib.rt:15:1
 same-length-2 : tie.Need-same-length-2
 same-length-2 c = search needs
 
--- src/lib.rt:15:1
 returns : tie.Need-returns
-returns c = ?
+returns c =
+    let e = c .enum-told .given .1 in
+    load-packs (c .before .before .before .before .before .before .load .ensures) (sym (ap (λ (x : Loaded). packed (loadCheck x) 0) e))
 
--- src/lib.rt:15:1
 same-length-3 : tie.Need-same-length-3
 same-length-3 c = search needs
 
--- src/lib.rt:15:1
 same-length-4 : tie.Need-same-length-4
 same-length-4 c = search needs
 
--- src/lib.rt:15:1
 returns-2 : tie.Need-returns-2
-returns-2 c = ?
+returns-2 c =
+    let e = c .before .before .answer .given .1 in
+    load-packs (c .before .before .before .before .before .before .before .before .load .ensures) (c .pack-refusal .ensures ∙ sym (ap (λ (x : Loaded). packed (loadCheck x) 0) e))
 
 pub labs-load-spec : {M : Type 1} → statement M
 labs-load-spec =
