@@ -14,8 +14,8 @@ use reference::table::MAX_NODES;
 /// Seed, whether small, and how many cases.
 const LISTS: [(u64, bool, u64); 3] = [(1, false, 40_000), (2, true, 40_000), (3, false, 20_000)];
 
-/// A stack on which chains of about 4,000 nodes are loaded and stepped.
-const SMALL_STACK: usize = 1 << 20;
+/// The stack of a Rust thread, on which chains of about 4,000 nodes are loaded and stepped.
+const THREAD_STACK: usize = 2 << 20;
 
 /// How often load, step and run answer done (0) and each refusal, and the bytes of runs that are done.
 #[derive(Default)]
@@ -117,11 +117,11 @@ fn load_and_act(table: Vec<u8>, stack: usize, make: fn(&Case) -> Outcome) -> [Ou
 }
 
 #[test]
-fn deep_tables_need_a_small_stack() {
+fn deep_tables_fit_the_stack_of_a_thread() {
     for kind in 0..5 {
         let table = deep_chain(kind).bytes();
         let expected = load_and_act(table.clone(), 64 << 20, Case::outcome);
-        let proved = load_and_act(table, SMALL_STACK, call);
+        let proved = load_and_act(table, THREAD_STACK, call);
         assert!(proved == expected, "deep table of kind {kind}");
         assert_eq!(proved[1].packed, 0, "the act of kind {kind} is done");
     }

@@ -1,6 +1,6 @@
 //! labs_show prints what the second implementation prints.
 
-use std::io::Write;
+use std::io::{stderr, Write};
 use std::path::{Path, PathBuf};
 use std::process::{Command, Stdio};
 
@@ -80,7 +80,8 @@ fn inputs() -> Vec<Vec<u8>> {
 #[test]
 fn labs_show_prints_what_the_reference_prints() {
     let Some(program) = program() else {
-        println!("skipped: target/bin/labs_show is not built");
+        // Past the capture of tests, so that it is seen.
+        writeln!(stderr(), "skipped: target/bin/labs_show is not built").unwrap();
         return;
     };
     on_deep_stack(move || {
