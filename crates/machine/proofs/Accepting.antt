@@ -76,7 +76,7 @@ module _ (was : List ℕ) {bytes before after : List ℕ} {r : Acceptance} (a : 
     open-broken f =
         record {
           check = sym (append-later (tableChecks bytes (length was) (length before)) (refuseIf 9 (not (wellFormed (tableOf bytes) was)) ∷ []) (accepts-is (Accepted n) e)
-              ∙ first-refuses (refuseIf 9 (not (wellFormed (tableOf bytes) was))) [] (refuseIf-true 9 (not (wellFormed (tableOf bytes) was)) (ap not f)));
+          ∙ first-refuses (refuseIf 9 (not (wellFormed (tableOf bytes) was))) [] (refuseIf-true 9 (not (wellFormed (tableOf bytes) was)) (ap not f)));
           opened = λ m g. absurd (let z : _≡_ {A = ℕ} 0 1 = cc in omega arith);
         }
 
@@ -85,7 +85,7 @@ module _ (was : List ℕ) {bytes before after : List ℕ} {r : Acceptance} (a : 
     open-formed small f =
         record {
           check = sym (append-later (tableChecks bytes (length was) (length before)) (refuseIf 9 (not (wellFormed (tableOf bytes) was)) ∷ []) (accepts-is (Accepted n) e)
-              ∙ rw f);
+          ∙ rw f);
           opened = λ m g. let h : m ≡ n = cc in record {
             sizes = h ∙ a .sizes n e;
             size = let f = ap (λ (k : Sizes). k .nodes) h in let g = accepted-size in omega arith;

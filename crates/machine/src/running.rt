@@ -1,8 +1,8 @@
 // A schedule: refusals 19 and 20, and its steps in turn.
+use basis::u16_at;
 use crate::Stepped;
 use crate::Totals;
 use crate::stepping::step_in;
-use basis::u16_at;
 use table::Sizes;
 ghost use mathlib.Core.Path.{_≡_};
 ghost use Prim.Native.Nat.{_+_, _*_, _<_, _≤_};

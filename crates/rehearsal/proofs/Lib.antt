@@ -2,3 +2,4 @@
 mod Places
 mod Totals
 mod Packed
+mod Unpacked

@@ -73,10 +73,9 @@ add-requires c κs =
     let a = c .before .before .before .before .before .before .before .before .before .before .before .before .before .before in
     let h = c .before .before .before .before .before .before .loop .inv in
     let u : c .before .before .before .before .before .before .before .u16-at .result ≡ stepsOf (schedule a) = c .before .before .before .before .before .before .before .u16-at .ensures .is in
-    let r = a .pre .1 .1 .steps in (
-      within-more _ (c .before .before .before .before .before .before .loop .i) 8192 (omega arith) (h .0 .within),
-      taken-few (T a) (schedule a) (was a) (bytes a) (c .before .before .before .before .before .before .loop .i) _ _ _ (h .0) _ _ (c .before .before .before .step-at .ensures) (a .pre .0 .checked .sound .shaped .limits .agents),
-    )
+    let r = a .pre .1 .1 .steps in
+    (within-more _ (c .before .before .before .before .before .before .loop .i) 8192 (omega arith) (h .0 .within),
+      taken-few (T a) (schedule a) (was a) (bytes a) (c .before .before .before .before .before .before .loop .i) _ _ _ (h .0) _ _ (c .before .before .before .step-at .ensures) (a .pre .0 .checked .sound .shaped .limits .agents))
 
 add-i : tie.Need-add-i Inv-loop μ-loop
 add-i c = search needs
@@ -93,11 +92,10 @@ loop-again c =
     let out = c .before .before .before .before .before .before .before .loop .answers in
     let left = c .before .before .before .before .step-at .last .1 .1 .1 .1 .0 in
     let n = next-done (T a) (schedule a) (was a) (bytes a) i (c .before .before .before .before .before .before .before .loop .state) out (c .before .before .before .before .before .before .before .loop .totals) (h .0) (c .before .before .before .before .step-at .result) left (c .before .before .before .before .step-at .ensures)
-    (a .pre .0 .checked .sound) (narrow a (c .before .before .before .before .before .before .before .before .before .before .before .before .before .shared-slice-known2 .given)) l in (
-      subst (λ (d : Totals). Halfway (T a) (schedule a) (was a) (bytes a) (i + 1) left (set out i (c .before .answer-byte .result)) d) (sym (c .add .ensures))
-          (subst (λ (w : ℕ). Halfway (T a) (schedule a) (was a) (bytes a) (i + 1) left (set out i w) (added (c .before .before .before .before .before .before .before .loop .totals) (c .before .before .before .before .step-at .result))) (sym (c .before .answer-byte .ensures)) n),
-      omega arith,
-    )
+        (a .pre .0 .checked .sound) (narrow a (c .before .before .before .before .before .before .before .before .before .before .before .before .before .shared-slice-known2 .given)) l in
+    (subst (λ (d : Totals). Halfway (T a) (schedule a) (was a) (bytes a) (i + 1) left (set out i (c .before .answer-byte .result)) d) (sym (c .add .ensures))
+      (subst (λ (w : ℕ). Halfway (T a) (schedule a) (was a) (bytes a) (i + 1) left (set out i w) (added (c .before .before .before .before .before .before .before .loop .totals) (c .before .before .before .before .step-at .result))) (sym (c .before .answer-byte .ensures)) n),
+      omega arith)
 
 same-length : tie.Need-same-length Inv-loop μ-loop
 same-length c = let a = c .before .before .before .before .before .before .before .before .before in let w = c .before .loop .inv .0 .proper .whole in let v = a .pre .1 .0 .whole in omega arith
