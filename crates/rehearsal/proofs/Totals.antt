@@ -1,16 +1,16 @@
--- The totals of a run are small: it has at most 8,192 steps, and each is taken by at most 32 agents.
+-- What is reported is small: a step is taken by at most 32 agents, and a run has at most 8,192 steps.
 -- Assumes nothing.
 use Prim.Native.Nat.{ℕ, zero, suc, _≤_}
-use mathlib.Core.Path.{_≡_}
+use mathlib.Core.Path.{_≡_, refl, ap}
 use mathlib.Core.List.{List, _++_}
 use native.Mathlib.Omega.{arith}
 use Rattle.basis.specs.Numbers.{forEach}
 use Rattle.table.specs.Checks.{Check, passes, refuses, firstOf}
 use Rattle.table.specs.Tables.{Table, tableOf}
 use Rattle.table.proofs.Checks.{append-passes}
-use Rattle.steps.specs.Steps.{Outcome, stateChecks, stepIn}
+use Rattle.steps.specs.Steps.{Outcome, stateChecks, stepIn, stepOf}
 use Rattle.steps.specs.Runs.{Progress, begun, added, ran, kindOf, agentOf, numberIn, stepsOf, scheduleChecks, runOf}
-use Rattle.steps.proofs.Steps.{state-checks}
+use Rattle.steps.proofs.Steps.{state-checks, step-in}
 use Rattle.machine.specs.declared.Totals.{Totals}
 use Rattle.machine.specs.Answers.{totals}
 use Rattle.machine.specs.Running.{Within}
@@ -47,3 +47,19 @@ module _ (bytes was : List ℕ) (scratch : ℕ) (schedule answers : List ℕ) wh
       let a = state-checks bytes was scratch .0 (w .0) .0 in
       let c = ran-within (tableOf bytes) (a .table .sound .shaped .limits .agents) schedule was answers (stepsOf schedule) in
       rw (runOf, e) (within-more _ (stepsOf schedule) 8192 (passes-runnable schedule answers (w .1) .steps) c)
+
+module _ (bytes was : List ℕ) (scratch kind x number : ℕ) where
+  stopped : {n place : ℕ} → firstOf (stateChecks bytes was scratch) ≡ refuses n place → stepOf bytes was scratch kind x number .taken ≤ 32
+  unfolding stepOf
+  stopped e = rw (stepOf, e) (omega arith)
+
+  pub step-within : stepOf bytes was scratch kind x number .taken ≤ 32
+  step-within = by (firstOf (stateChecks bytes was scratch)) refl
+    where
+      by : (c : Check) → firstOf (stateChecks bytes was scratch) ≡ c → stepOf bytes was scratch kind x number .taken ≤ 32
+      by passes e =
+          let a = state-checks bytes was scratch .0 e .0 .table .sound .shaped .limits .agents in
+          let b = step-bound (tableOf bytes) was kind x number in
+          let f = ap (λ (o : Outcome). o .taken) (step-in bytes was scratch kind x number e) in
+          omega arith
+      by (refuses n place) e = stopped e
