@@ -1,0 +1,148 @@
+//! The proved library, called as C calls it, on cases that the second implementation generates.
+
+use reference::cases::{Call, Case, Outcome, ANSWER_FILL};
+
+extern "C" {
+    fn labs_load(
+        table: *const u8,
+        table_len: usize,
+        state: *mut u32,
+        state_len: usize,
+        scratch: *mut u32,
+        scratch_len: usize,
+    ) -> u64;
+
+    fn labs_step(
+        table: *const u8,
+        table_len: usize,
+        state: *mut u32,
+        state_len: usize,
+        scratch: *mut u32,
+        scratch_len: usize,
+        kind: u8,
+        agent: u16,
+        number: u16,
+    ) -> u64;
+
+    fn labs_run(
+        table: *const u8,
+        table_len: usize,
+        state: *mut u32,
+        state_len: usize,
+        scratch: *mut u32,
+        scratch_len: usize,
+        schedule: *const u8,
+        schedule_len: usize,
+        answers: *mut u8,
+        answers_len: usize,
+    ) -> u64;
+}
+
+/// Elements on either side of what is lent.
+const MARGIN: usize = 64;
+
+/// A lent slice between elements that no call may touch.
+struct Lent<T> {
+    all: Vec<T>,
+    mark: T,
+}
+
+impl<T: Copy + PartialEq> Lent<T> {
+    fn new(content: &[T], mark: T) -> Lent<T> {
+        let margin = vec![mark; MARGIN];
+        Lent {
+            all: [&margin, content, &margin].concat(),
+            mark,
+        }
+    }
+
+    fn slice(&mut self) -> &mut [T] {
+        let end = self.all.len() - MARGIN;
+        &mut self.all[MARGIN..end]
+    }
+
+    /// What the call left, with nothing around it changed.
+    fn content(mut self) -> Vec<T> {
+        let end = self.all.len() - MARGIN;
+        let around = self.all[..MARGIN].iter().chain(&self.all[end..]);
+        assert!(
+            around.copied().all(|x| x == self.mark),
+            "written outside what is lent"
+        );
+        self.slice().to_vec()
+    }
+}
+
+/// Scratch holds whatever was there.
+fn scratch_words(length: usize) -> Vec<u32> {
+    (0..length as u32)
+        .map(|i| i.wrapping_mul(2_654_435_769) ^ 0x5bd1_e995)
+        .collect()
+}
+
+/// Makes a case's call on the proved library.
+pub fn call(case: &Case) -> Outcome {
+    let table = case.table.clone();
+    let mut state = Lent::new(&case.state, 0xdead_beef);
+    let mut scratch = Lent::new(&scratch_words(case.scratch), 0xdead_beef);
+    let answers = match &case.call {
+        Call::Run { answers, .. } => *answers,
+        _ => 0,
+    };
+    let mut answers = Lent::new(&vec![ANSWER_FILL; answers], 77);
+    let packed = call_on(
+        &table,
+        state.slice(),
+        scratch.slice(),
+        &case.call,
+        answers.slice(),
+    );
+    assert!(table == case.table, "the table was written");
+    scratch.content();
+    Outcome {
+        packed,
+        state: state.content(),
+        answers: answers.content(),
+    }
+}
+
+fn call_on(
+    table: &[u8],
+    state: &mut [u32],
+    scratch: &mut [u32],
+    call: &Call,
+    answers: &mut [u8],
+) -> u64 {
+    let (t, t_len) = (table.as_ptr(), table.len());
+    let (s, s_len) = (state.as_mut_ptr(), state.len());
+    let (w, w_len) = (scratch.as_mut_ptr(), scratch.len());
+    // Each pointer is that of a slice of the length beside it, and no two of them overlap.
+    unsafe {
+        match call {
+            Call::Load => labs_load(t, t_len, s, s_len, w, w_len),
+            Call::Step(step) => labs_step(
+                t,
+                t_len,
+                s,
+                s_len,
+                w,
+                w_len,
+                step.kind,
+                step.agent,
+                step.number,
+            ),
+            Call::Run { schedule, .. } => labs_run(
+                t,
+                t_len,
+                s,
+                s_len,
+                w,
+                w_len,
+                schedule.as_ptr(),
+                schedule.len(),
+                answers.as_mut_ptr(),
+                answers.len(),
+            ),
+        }
+    }
+}

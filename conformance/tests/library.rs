@@ -1,0 +1,128 @@
+//! labs_load, labs_step and labs_run answer as the second implementation does.
+
+use conformance::call;
+use reference::cases::{Call, Case, Outcome, ANSWER_FILL};
+use reference::describe::describe;
+use reference::generate::case;
+use reference::generate::edges::deep_chain;
+use reference::on_deep_stack;
+use reference::state::STATE_WORDS;
+use reference::stats::Tally;
+use reference::step::Step;
+use reference::table::MAX_NODES;
+
+/// Seed, whether small, and how many cases.
+const LISTS: [(u64, bool, u64); 3] = [(1, false, 40_000), (2, true, 40_000), (3, false, 20_000)];
+
+/// The stack of a Rust thread, on which chains of about 4,000 nodes are loaded and stepped.
+const THREAD_STACK: usize = 2 << 20;
+
+/// How often load, step and run answer done (0) and each refusal, and the bytes of runs that are done.
+#[derive(Default)]
+struct Seen {
+    calls: [Tally; 3],
+    inside: Tally,
+}
+
+impl Seen {
+    fn add(&mut self, case: &Case, outcome: &Outcome) {
+        let refusal = usize::from(outcome.refusal());
+        let call = match &case.call {
+            Call::Load => 0,
+            Call::Step(_) => 1,
+            Call::Run { .. } => 2,
+        };
+        self.calls[call][refusal] += 1;
+        if let (Call::Run { schedule, .. }, 0) = (&case.call, refusal) {
+            for &answer in &outcome.answers[..schedule.len() / 5] {
+                self.inside[usize::from(answer)] += 1;
+            }
+        }
+    }
+
+    /// Every answer that a call can have occurred.
+    fn complete(&self) -> bool {
+        let [load, step, run] = &self.calls;
+        let reached = |tally: &Tally, mut answers: Vec<usize>| {
+            answers.retain(|&answer| tally[answer] == 0);
+            answers.is_empty()
+        };
+        reached(load, (0..=8).collect())
+            && reached(step, (0..=18).collect())
+            && reached(run, (0..=9).chain(19..=20).collect())
+            && reached(&self.inside, (0..=0).chain(10..=18).collect())
+    }
+}
+
+/// The outcome of the library, which is that of the second implementation.
+fn agreed(case: &Case, which: &str) -> Outcome {
+    let (proved, expected) = (call(case), case.outcome());
+    if proved != expected {
+        let same = [
+            proved.state == expected.state,
+            proved.answers == expected.answers,
+        ];
+        panic!(
+            "{which}: answer {} and not {}; state, answer bytes the same: {same:?}\n{}",
+            proved.packed,
+            expected.packed,
+            describe(case)
+        );
+    }
+    proved
+}
+
+#[test]
+fn every_call_answers_as_the_reference_does() {
+    on_deep_stack(|| {
+        for (seed, small, count) in LISTS {
+            let mut seen = Seen::default();
+            for index in 0..count {
+                let case = case(seed, index, small);
+                let outcome = agreed(&case, &format!("seed {seed}, case {index}"));
+                if outcome.refusal() != 0 {
+                    assert!(
+                        outcome.state == case.state,
+                        "a refused call wrote the state"
+                    );
+                    assert!(outcome.answers.iter().all(|&byte| byte == ANSWER_FILL));
+                }
+                seen.add(&case, &outcome);
+            }
+            assert!(
+                seen.complete(),
+                "an answer never occurred under seed {seed}"
+            );
+        }
+    });
+}
+
+/// What load and then a first act give, on a stack of this size.
+fn load_and_act(table: Vec<u8>, stack: usize, make: fn(&Case) -> Outcome) -> [Outcome; 2] {
+    let thread = std::thread::Builder::new().stack_size(stack);
+    let work = move || {
+        let mut case = Case {
+            table,
+            state: vec![0; STATE_WORDS],
+            fill: 0,
+            scratch: 2 * MAX_NODES,
+            call: Call::Load,
+        };
+        let loaded = make(&case);
+        case.state = loaded.state.clone();
+        case.call = Call::Step(Step::act(0, 0));
+        [loaded, make(&case)]
+    };
+    thread.spawn(work).unwrap().join().unwrap()
+}
+
+#[test]
+fn deep_tables_fit_the_stack_of_a_thread() {
+    for kind in 0..5 {
+        let table = deep_chain(kind).bytes();
+        let expected = load_and_act(table.clone(), 64 << 20, Case::outcome);
+        let proved = load_and_act(table, THREAD_STACK, call);
+        assert!(proved == expected, "deep table of kind {kind}");
+        assert_eq!(proved[1].packed, 0, "the act of kind {kind} is done");
+    }
+}

@@ -1,0 +1,62 @@
+-- Nothing is lost in packing: the number tells whether a call was refused, and with what number and place, or else what it reports.
+-- Assumes nothing.
+use Prim.Native.Nat.{ℕ, _+_, _*_, _^_, _<_, _≤_}
+use mathlib.Core.Bool.{true}
+use mathlib.Core.Logic.{⊎-elim}
+use mathlib.Core.Path.{_≡_, refl}
+use mathlib.Core.List.{List}
+use native.Mathlib.Omega.{arith}
+use Rattle.basis.proofs.Tests.{lt-or-le}
+use Rattle.table.specs.Checks.{Check, passes, refuses, passed}
+use Rattle.steps.specs.Steps.{stepOf}
+use Rattle.steps.specs.Runs.{runOf}
+use Rattle.machine.specs.declared.Totals.{Totals}
+use Rattle.machine.specs.Running.{Within}
+use Rattle.rehearsal.specs.Packing.{packed, packedTotals, reportOf}
+use Rattle.rehearsal.proofs.Places.{Near}
+use Rattle.rehearsal.proofs.Totals.{step-within, run-within}
+
+-- two pairs of a lower part, below a limit, and an upper one, packed by that limit
+module _ (a b : ℕ) {m n : ℕ} where
+  upper-16 : m < 65536 → n < 65536 → 65536 * a + m ≡ 65536 * b + n → a ≡ b
+  upper-16 l k e = ⊎-elim (λ (h : a < b). absurd (omega arith)) (λ (h : b ≤ a). ⊎-elim (λ (g : b < a). absurd (omega arith)) (λ (g : a ≤ b). omega arith) (lt-or-le b a)) (lt-or-le a b)
+
+  upper-32 : m < 2 ^ 32 → n < 2 ^ 32 → 2 ^ 32 * a + m ≡ 2 ^ 32 * b + n → a ≡ b
+  upper-32 l k e = ⊎-elim (λ (h : a < b). absurd (omega arith)) (λ (h : b ≤ a). ⊎-elim (λ (g : b < a). absurd (omega arith)) (λ (g : a ≤ b). omega arith) (lt-or-le b a)) (lt-or-le a b)
+
+-- a refusal
+module _ {number place other at : ℕ} (l : Near (refuses number place)) (k : Near (refuses other at)) (e : 2 ^ 63 + 65536 * place + number ≡ 2 ^ 63 + 65536 * at + other) where
+  same-place : place ≡ at
+  same-place = let f = l .number in let g = k .number in upper-16 place at {m = number} {n = other} (omega arith) (omega arith) (omega arith)
+
+  same-number : number ≡ other
+  same-number = let f = same-place in omega arith
+
+-- two calls that answer the same number
+pub told : (c d : Check) → Near c → Near d → (m n : ℕ) → m < 2 ^ 63 → n < 2 ^ 63 → packed c m ≡ packed d n → (c ≡ d) × (passed c ≡ true → m ≡ n)
+told passes passes p q m n l k e = (refl, λ h. e)
+told passes (refuses other at) p q m n l k e = absurd (omega arith)
+told (refuses number place) passes p q m n l k e = absurd (omega arith)
+told (refuses number place) (refuses other at) p q m n l k e = (λ i. refuses (same-number p q e i) (same-place p q e i), λ h. absurd (let z : _≡_ {A = ℕ} 0 1 = cc in omega arith))
+
+-- what they report is below 2^63, as `told` asks
+module _ (bytes was : List ℕ) (scratch : ℕ) where
+  pub step-report : (kind x number : ℕ) → stepOf bytes was scratch kind x number .taken < 2 ^ 63
+  step-report kind x number = let h = step-within bytes was scratch kind x number in omega arith
+
+  pub run-report : (schedule answers : List ℕ) → runOf bytes was scratch schedule answers .check ≡ passes → reportOf (runOf bytes was scratch schedule answers .progress) < 2 ^ 63
+  run-report schedule answers e = let w = run-within bytes was scratch schedule answers e in omega (arith, w .done, w .refused, w .taken)
+
+-- two runs that report the same number
+module _ (c d : Totals) (v : Within 8192 c) (w : Within 8192 d) (e : packedTotals (c .done) (c .refused) (c .taken) ≡ packedTotals (d .done) (d .refused) (d .taken)) where
+  same-taken : c .taken ≡ d .taken
+  same-taken =
+      upper-32 (c .taken) (d .taken) {m = c .done + 65536 * c .refused} {n = d .done + 65536 * d .refused}
+      (omega (arith, v .done, v .refused)) (omega (arith, w .done, w .refused)) (omega (arith, e))
+
+  same-refused : c .refused ≡ d .refused
+  same-refused =
+      upper-16 (c .refused) (d .refused) {m = c .done} {n = d .done} (omega (arith, v .done)) (omega (arith, w .done)) (omega (arith, e, same-taken))
+
+  pub totals-told : (c .done ≡ d .done) × (c .refused ≡ d .refused) × (c .taken ≡ d .taken)
+  totals-told = (omega (arith, e, same-refused, same-taken), same-refused, same-taken)

@@ -1,0 +1,61 @@
+// The machine for C and Rust: each function calls the machine's and packs its answer into one number. A slice is a pointer and a count.
+mod packing; // packing.rt: answers as one number
+
+use machine::Loaded;
+use machine::Ran;
+use machine::Stepped;
+use packing::pack_refusal;
+use packing::pack_totals;
+ghost use lib.ListN.{length};
+ghost use Rattle.steps.specs.Steps.{loadOf, stepOf};
+ghost use Rattle.steps.specs.Runs.{runOf};
+ghost use Rattle.rehearsal.specs.Packing.{LoadPacked, StepPacked, RunPacked};
+
+// The state becomes that of a fleet which has not stepped yet. Reports 0.
+#[no_mangle]
+pub extern "C" fn labs_load(table: &[u8], state: &mut [u32], scratch: &mut [u32]) -> u64
+    ensures { λ r. ⌜ LoadPacked (loadOf (now (table .entry)) (now (state .entry)) (length (now (scratch .entry)))) r (now (state .exit)) ⌝ }
+{
+    let answer = machine::load(table, state, scratch);
+    match answer {
+        Loaded::Done => 0,
+        Loaded::Refused(number, place) => pack_refusal(number, place),
+    }
+}
+
+// One step: act (kind 0; number is a choice), propagate (1) or confirm (2; number is a key). Reports how many agents took the entry.
+#[no_mangle]
+pub extern "C" fn labs_step(
+    table: &[u8],
+    state: &mut [u32],
+    scratch: &mut [u32],
+    kind: u8,
+    agent: u16,
+    number: u16,
+) -> u64
+    ensures { λ r. ⌜ StepPacked (stepOf (now (table .entry)) (now (state .entry)) (length (now (scratch .entry))) kind agent number) r (now (state .exit)) ⌝ }
+{
+    let answer = machine::step(table, state, scratch, kind, agent, number);
+    match answer {
+        Stepped::Done(taken) => taken as u64,
+        Stepped::Refused(number, place) => pack_refusal(number, place),
+    }
+}
+
+// The steps of a schedule, each in turn, with an answer byte for each: 0, or its refusal. Reports the totals.
+#[no_mangle]
+pub extern "C" fn labs_run(
+    table: &[u8],
+    state: &mut [u32],
+    scratch: &mut [u32],
+    schedule: &[u8],
+    answers: &mut [u8],
+) -> u64
+    ensures { λ r. ⌜ RunPacked (runOf (now (table .entry)) (now (state .entry)) (length (now (scratch .entry))) (now (schedule .entry)) (now (answers .entry))) r (now (state .exit)) (now (answers .exit)) ⌝ }
+{
+    let answer = machine::run(table, state, scratch, schedule, answers);
+    match answer {
+        Ran::Done(totals) => pack_totals(totals),
+        Ran::Refused(number, place) => pack_refusal(number, place),
+    }
+}

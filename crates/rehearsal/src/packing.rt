@@ -1,0 +1,26 @@
+// Answers as one number.
+use machine::Totals;
+ghost use mathlib.Core.Path.{_≡_};
+ghost use Prim.Native.Nat.{_≤_};
+ghost use Rattle.table.specs.Checks.{refuses};
+ghost use Rattle.machine.specs.Running.{Within};
+ghost use Rattle.rehearsal.specs.Packing.{packed, packedTotals};
+
+// 2^63, which marks a refusal.
+const REFUSED: u64 = 0x8000_0000_0000_0000;
+
+// A refusal and its place.
+pub fn pack_refusal(number: u8, place: usize) -> u64
+    requires { ⌜ place ≤ 4096 ⌝ }
+    ensures { λ r. ⌜ r ≡ packed (refuses number place) 0 ⌝ }
+{
+    REFUSED + 65536 * place as u64 + number as u64
+}
+
+// The totals of a run.
+pub fn pack_totals(totals: Totals) -> u64
+    requires { ⌜ Within 8192 totals ⌝ }
+    ensures { λ r. ⌜ r ≡ packedTotals (totals .done) (totals .refused) (totals .taken) ⌝ }
+{
+    totals.done as u64 + 65536 * totals.refused as u64 + 4294967296 * totals.taken as u64
+}
