@@ -14,7 +14,6 @@ use states::fill_bytes;
 use states::fill_words;
 use states::patch;
 ghost use mathlib.Core.Path.{_≡_};
-ghost use mathlib.Core.Bool.{true};
 ghost use Prim.Native.Nat.{_+_, _≤_, _<_};
 ghost use lib.ListN.{length};
 ghost use Rattle.basis.specs.Bytes.{u32At};
@@ -70,13 +69,10 @@ fn size_at(header: &[u8], at: usize) -> usize
     u32_at(header, at) as usize
 }
 
-// The next bytes of the input, so many, at the front of a buffer; false where there are fewer, or no room for them.
+// The next bytes of the input, so many, at the front of a buffer; false where there are fewer.
 fn read_next(buffer: &mut [u8], size: usize) -> bool
-    ensures { λ r. ⌜ (r ≡ true → size ≤ length (now (buffer .exit))) ⌝ }
+    requires { ⌜ size ≤ length (now buffer) ⌝ }
 {
-    if buffer.len() < size {
-        return false;
-    }
     io::read_full(INPUT, &mut buffer[..size]) == size
 }
 
@@ -85,7 +81,11 @@ fn read_state(header: &[u8], part: &mut [u8], state: &mut [u32]) -> bool
     requires { ⌜ 31 < length (now header) ⌝ }
 {
     let count = u16_at(header, 6);
-    if !read_next(part, 6 * count) {
+    let size = 6 * count;
+    if part.len() < size {
+        return false;
+    }
+    if !read_next(part, size) {
         return false;
     }
     fill_words(state, u32_at(header, 16));
@@ -93,44 +93,84 @@ fn read_state(header: &[u8], part: &mut [u8], state: &mut [u32]) -> bool
     true
 }
 
-// The next case; false where the input ends, or does not fit.
+// The call, with scratch and answers as long as the header says; false where that is too long.
+fn answer_within(
+    header: &[u8],
+    table: &[u8],
+    state: &mut [u32],
+    scratch: &mut [u32],
+    schedule: &[u8],
+    answers: &mut [u8],
+) -> bool
+    requires { ⌜ 31 < length (now header) ⌝ }
+{
+    let scratch_size = size_at(header, 20);
+    let answers_size = size_at(header, 28);
+    if scratch.len() < scratch_size || answers.len() < answers_size {
+        return false;
+    }
+    answer_case(
+        header,
+        table,
+        state,
+        &mut scratch[..scratch_size],
+        schedule,
+        &mut answers[..answers_size],
+    );
+    true
+}
+
+// The case of a table that is read: its state and schedule are the next bytes.
+fn answer_table(
+    header: &[u8],
+    table: &[u8],
+    part: &mut [u8],
+    state: &mut [u32],
+    scratch: &mut [u32],
+    answers: &mut [u8],
+) -> bool
+    requires { ⌜ 31 < length (now header) ⌝ }
+{
+    if !read_state(header, part, state) {
+        return false;
+    }
+    let size = size_at(header, 24);
+    if part.len() < size {
+        return false;
+    }
+    if !read_next(part, size) {
+        return false;
+    }
+    answer_within(header, table, state, scratch, &part[..size], answers)
+}
+
+// The case with this header; false where the input ends, or a part of it is longer than its buffer.
 fn answer_next(
+    header: &[u8],
     table: &mut [u8],
     part: &mut [u8],
     state: &mut [u32],
     scratch: &mut [u32],
     answers: &mut [u8],
-) -> bool {
-    let mut header = [0u8; 32];
-    if !read_next(&mut header, 32) {
+) -> bool
+    requires { ⌜ 31 < length (now header) ⌝ }
+{
+    let table_size = size_at(header, 8);
+    let state_size = size_at(header, 12);
+    if table.len() < table_size || state.len() < state_size {
         return false;
     }
-    let table_size = size_at(&header, 8);
-    let state_size = size_at(&header, 12);
-    let scratch_size = size_at(&header, 20);
-    let schedule_size = size_at(&header, 24);
-    let answers_size = size_at(&header, 28);
     if !read_next(table, table_size) {
         return false;
     }
-    if state.len() < state_size || scratch.len() < scratch_size || answers.len() < answers_size {
-        return false;
-    }
-    if !read_state(&header, part, &mut state[..state_size]) {
-        return false;
-    }
-    if !read_next(part, schedule_size) {
-        return false;
-    }
-    answer_case(
-        &header,
+    answer_table(
+        header,
         &table[..table_size],
+        part,
         &mut state[..state_size],
-        &mut scratch[..scratch_size],
-        &part[..schedule_size],
-        &mut answers[..answers_size],
-    );
-    true
+        scratch,
+        answers,
+    )
 }
 
 fn answer_all(
@@ -143,7 +183,11 @@ fn answer_all(
 ) {
     let mut i: u32 = 0;
     while i < count {
-        if !answer_next(table, part, state, scratch, answers) {
+        let mut header = [0u8; 32];
+        if !read_next(&mut header, 32) {
+            return;
+        }
+        if !answer_next(&header, table, part, state, scratch, answers) {
             return;
         }
         i += 1;
