@@ -245,3 +245,16 @@ pub fn read_all(bytes: &[u8]) -> Option<Vec<Case>> {
     }
     rest.is_empty().then_some(cases)
 }
+
+/// Writes a whole stream.
+pub fn write_all(
+    out: &mut impl Write,
+    count: u32,
+    cases: impl Iterator<Item = Case>,
+) -> io::Result<()> {
+    out.write_all(&count.to_le_bytes())?;
+    for case in cases {
+        case.write(out)?;
+    }
+    Ok(())
+}

@@ -53,8 +53,8 @@ module _ (header table was : List ℕ) (scratch : ℕ) (schedule answers : List 
       → Runs (callOf header table was scratch schedule answers) q after answers
   called-step {q} {kind} {agent} {number} {after} e k a n r h f =
       let o = subst (λ (x : ℕ). Steps (stepOf table was scratch (getD header 1 0) (u16At header 2) x) r after) n
-          (subst (λ (x : ℕ). Steps (stepOf table was scratch (getD header 1 0) x number) r after) a
-          (subst (λ (x : ℕ). Steps (stepOf table was scratch x agent number) r after) k h)) in
+      (subst (λ (x : ℕ). Steps (stepOf table was scratch (getD header 1 0) x number) r after) a
+      (subst (λ (x : ℕ). Steps (stepOf table was scratch x agent number) r after) k h)) in
       subst (λ (b : Ran). Called (getD header 0 0) b after answers) (sym f)
       (subst (λ (call : ℕ). Called call (ofStep r) after answers) (sym e) (step-alone _ after answers r o))
 

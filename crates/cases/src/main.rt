@@ -19,6 +19,7 @@ ghost use lib.ListN.{length};
 ghost use Rattle.basis.specs.Bytes.{u32At};
 
 const INPUT: i32 = 0;
+
 const OUTPUT: i32 = 1;
 
 fn print_number(n: u64) {

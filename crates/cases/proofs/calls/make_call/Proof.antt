@@ -24,7 +24,7 @@ same-length-2 : tie.Need-same-length-2
 same-length-2 c = search needs
 
 returns : tie.Need-returns
-returns c = 
+returns c =
     let a = c .before .before .before .before .before .before .before .before .before .before .before .before .before .before .before .before .args in
     let l = c .before .before .before .before .before .load in
     called-load (now (a .header)) (now (a .table)) (now (a .state)) (length (now (a .scratch))) (now (a .schedule)) (now (a .answers)) (c .before .before .before .before .before .before .before .before .if1 .taken) (l .result) (l .ensures) (c .of-load .ensures)
@@ -57,7 +57,7 @@ same-length-4 : tie.Need-same-length-4
 same-length-4 c = search needs
 
 returns-2 : tie.Need-returns-2
-returns-2 c = 
+returns-2 c =
     let a = c .before .before .before .before .before .before .before .before .before .before .before .before .before .before .before .before .before .before .before .before .args in
     let s = c .before .before .before .before .before .step in
     called-step (now (a .header)) (now (a .table)) (now (a .state)) (length (now (a .scratch))) (now (a .schedule)) (now (a .answers)) (c .before .before .before .before .before .before .before .before .before .before .before .if2 .taken) refl (c .before .before .before .before .before .before .before .before .before .u16-at .ensures .is) (c .before .before .before .before .before .before .before .before .u16-at2 .ensures .is) (s .result) (s .ensures)
@@ -76,7 +76,7 @@ same-length-7 : tie.Need-same-length-7
 same-length-7 c = search needs
 
 returns-3 : tie.Need-returns-3
-returns-3 c = 
+returns-3 c =
     let a = c .before .before .before .before .before .before .before .before .before .before .before .before .before .before .before .before .before .before .before .args in
     let r = c .before .before .before .before .before .before .run in
     called-run (now (a .header)) (now (a .table)) (now (a .state)) (length (now (a .scratch))) (now (a .schedule)) (now (a .answers)) (c .before .before .before .before .before .before .before .before .before .before .before .if1 .left) (c .before .before .before .before .before .before .before .before .before .before .if2 .left) (r .result) (r .ensures)
