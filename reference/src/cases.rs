@@ -22,14 +22,14 @@
 //! everywhere but at the patches. Every byte of the answer buffer is 238
 //! before the call. What the scratch holds is free.
 //!
-//! The printed line of a case is the packed answer, the 32-bit FNV-1a of the
-//! state afterwards (each word as four bytes, low first) and that of the whole
-//! answer buffer, in decimal with one blank between and a newline.
+//! The printed line of a case is the answer in words, then the digest of the
+//! state afterwards and that of the whole answer buffer, with one blank between
+//! and a newline.
 
 use std::io::{self, Write};
 
 use crate::machine;
-use crate::refusal::pack;
+use crate::refusal::{pack, say, Answer, Report};
 use crate::step::Step;
 
 /// The word that fills a state that is not zero.
@@ -68,6 +68,8 @@ pub struct Case {
 #[derive(Clone, Debug, PartialEq, Eq)]
 pub struct Outcome {
     pub packed: u64,
+    /// The answer in words.
+    pub said: String,
     pub state: Vec<u32>,
     pub answers: Vec<u8>,
 }
@@ -83,17 +85,22 @@ impl Outcome {
     }
 
     pub fn line(&self) -> String {
-        let state = fnv(self.state.iter().flat_map(|word| word.to_le_bytes()));
-        let answers = fnv(self.answers.iter().copied());
-        format!("{} {state} {answers}\n", self.packed)
+        let state = digest(self.state.iter().copied());
+        let answers = digest(self.answers.iter().map(|&byte| u32::from(byte)));
+        format!("{} {state} {answers}\n", self.said)
     }
 }
 
-/// 32-bit FNV-1a.
-pub fn fnv(bytes: impl Iterator<Item = u8>) -> u32 {
-    bytes.fold(2_166_136_261, |hash, byte| {
-        (hash ^ u32::from(byte)).wrapping_mul(16_777_619)
+/// A polynomial in the words, modulo a prime above every word: a change of one
+/// word always shows.
+pub fn digest(words: impl Iterator<Item = u32>) -> u64 {
+    words.fold(1, |sum, word| {
+        (16_777_619 * sum + u64::from(word)) % 4_294_967_311
     })
+}
+
+fn told<T: Report>(answer: &Answer<T>) -> (u64, String) {
+    (pack(answer), say(answer))
 }
 
 impl Case {
@@ -101,13 +108,13 @@ impl Case {
     pub fn outcome(&self) -> Outcome {
         let mut state = self.state.clone();
         let mut answers = Vec::new();
-        let packed = match &self.call {
-            Call::Load => pack(&machine::load(&self.table, &mut state, self.scratch)),
+        let (packed, said) = match &self.call {
+            Call::Load => told(&machine::load(&self.table, &mut state, self.scratch)),
             Call::Step(Step {
                 kind,
                 agent,
                 number,
-            }) => pack(&machine::step(
+            }) => told(&machine::step(
                 &self.table,
                 &mut state,
                 self.scratch,
@@ -120,7 +127,7 @@ impl Case {
                 answers: length,
             } => {
                 answers = vec![ANSWER_FILL; *length];
-                pack(&machine::run(
+                told(&machine::run(
                     &self.table,
                     &mut state,
                     self.scratch,
@@ -131,6 +138,7 @@ impl Case {
         };
         Outcome {
             packed,
+            said,
             state,
             answers,
         }
@@ -236,4 +244,17 @@ pub fn read_all(bytes: &[u8]) -> Option<Vec<Case>> {
         rest = next;
     }
     rest.is_empty().then_some(cases)
+}
+
+/// Writes a whole stream.
+pub fn write_all(
+    out: &mut impl Write,
+    count: u32,
+    cases: impl Iterator<Item = Case>,
+) -> io::Result<()> {
+    out.write_all(&count.to_le_bytes())?;
+    for case in cases {
+        case.write(out)?;
+    }
+    Ok(())
 }

@@ -4,10 +4,10 @@ use std::fs;
 use std::io::{self, BufWriter, Read, Write};
 use std::process::ExitCode;
 
-use reference::cases::read_all;
+use reference::cases::{read_all, write_all};
 use reference::describe::describe;
 use reference::equations::equations;
-use reference::generate::{case, edges};
+use reference::generate::{edges, Mix};
 use reference::show::show;
 use reference::stats::Stats;
 use reference::tables::{lines, tables};
@@ -24,7 +24,8 @@ usage: reference show                      table and schedule on standard input
        reference equations SEED            small rehearsals, as definitions to compute
        reference tables SEED               tables for the program tables
        reference tables --expected SEED    what it must print
---small, with cases, describe and stats: at most 24 nodes";
+--small, with cases, describe and stats: at most 24 nodes
+--mixed, with the same: small, but for every eighth case";
 
 fn main() -> ExitCode {
     let arguments: Vec<String> = std::env::args().skip(1).collect();
@@ -39,7 +40,7 @@ fn main() -> ExitCode {
 }
 
 fn command(mut arguments: Vec<String>) -> io::Result<()> {
-    let small = take_flag(&mut arguments, "--small");
+    let mix = take_mix(&mut arguments);
     let expected = take_flag(&mut arguments, "--expected");
     let words: Vec<&str> = arguments.iter().map(String::as_str).collect();
     match words[..] {
@@ -50,13 +51,13 @@ fn command(mut arguments: Vec<String>) -> io::Result<()> {
             print(&bytes)
         }
         ["cases", seed, count] if expected => {
-            write_lines(number(seed)?, number(count)?, small, io::stdout().lock())
+            write_lines(number(seed)?, number(count)?, mix, io::stdout().lock())
         }
-        ["cases", seed, count] => write_cases(number(seed)?, number(count)?, small),
+        ["cases", seed, count] => write_cases(number(seed)?, number(count)?, mix),
         ["cases", seed, count, file] if !expected => {
             let (seed, count) = (number(seed)?, number(count)?);
-            write_cases(seed, count, small)?;
-            write_lines(seed, count, small, fs::File::create(file)?)
+            write_cases(seed, count, mix)?;
+            write_lines(seed, count, mix, fs::File::create(file)?)
         }
         ["answer"] => {
             let cases = read_all(&input()?).ok_or_else(|| fault("not a stream of cases"))?;
@@ -67,14 +68,14 @@ fn command(mut arguments: Vec<String>) -> io::Result<()> {
             out.flush()
         }
         ["describe", seed, index] => {
-            let case = case(number(seed)?, number(index)?, small);
+            let case = mix.case(number(seed)?, number(index)?);
             print(describe(&case).as_bytes())
         }
         ["stats", seed, count] => {
             let (seed, count) = (number(seed)?, number(count)?);
             let mut stats = Stats::default();
-            for index in 0..count {
-                stats.add(&case(seed, index, small));
+            for case in mix.cases(seed, count) {
+                stats.add(&case);
             }
             print(stats.to_string().as_bytes())
         }
@@ -89,6 +90,16 @@ fn take_flag(arguments: &mut Vec<String>, flag: &str) -> bool {
     let before = arguments.len();
     arguments.retain(|argument| argument != flag);
     arguments.len() < before
+}
+
+fn take_mix(arguments: &mut Vec<String>) -> Mix {
+    if take_flag(arguments, "--small") {
+        Mix::Small
+    } else if take_flag(arguments, "--mixed") {
+        Mix::Mixed
+    } else {
+        Mix::Full
+    }
 }
 
 fn fault(message: &str) -> io::Error {
@@ -111,20 +122,17 @@ fn print(bytes: &[u8]) -> io::Result<()> {
     out.flush()
 }
 
-fn write_cases(seed: u64, count: u64, small: bool) -> io::Result<()> {
+fn write_cases(seed: u64, count: u64, mix: Mix) -> io::Result<()> {
     let size = u32::try_from(count).map_err(|_| fault("too many cases"))?;
     let mut out = BufWriter::new(io::stdout().lock());
-    out.write_all(&size.to_le_bytes())?;
-    for index in 0..count {
-        case(seed, index, small).write(&mut out)?;
-    }
+    write_all(&mut out, size, mix.cases(seed, count))?;
     out.flush()
 }
 
-fn write_lines(seed: u64, count: u64, small: bool, out: impl Write) -> io::Result<()> {
+fn write_lines(seed: u64, count: u64, mix: Mix, out: impl Write) -> io::Result<()> {
     let mut out = BufWriter::new(out);
-    for index in 0..count {
-        out.write_all(case(seed, index, small).outcome().line().as_bytes())?;
+    for case in mix.cases(seed, count) {
+        out.write_all(case.outcome().line().as_bytes())?;
     }
     out.flush()
 }

@@ -64,15 +64,20 @@ pub struct Totals {
     pub taken: u32,
 }
 
-/// What a done call reports, as one number.
+/// What a done call reports: as one number, and as totals.
 pub trait Report {
     fn number(&self) -> u64;
+    fn totals(&self) -> Totals;
 }
 
 /// Load reports 0.
 impl Report for () {
     fn number(&self) -> u64 {
         0
+    }
+
+    fn totals(&self) -> Totals {
+        Totals::default()
     }
 }
 
@@ -81,11 +86,22 @@ impl Report for u32 {
     fn number(&self) -> u64 {
         u64::from(*self)
     }
+
+    fn totals(&self) -> Totals {
+        Totals {
+            taken: *self,
+            ..Totals::default()
+        }
+    }
 }
 
 impl Report for Totals {
     fn number(&self) -> u64 {
         u64::from(self.done) + (u64::from(self.refused) << 16) + (u64::from(self.taken) << 32)
+    }
+
+    fn totals(&self) -> Totals {
+        *self
     }
 }
 
@@ -97,5 +113,20 @@ pub fn pack<T: Report>(answer: &Answer<T>) -> u64 {
         Err(refusal) => {
             (1 << 63) + (u64::from(refusal.place) << 16) + u64::from(refusal.reason.number())
         }
+    }
+}
+
+/// The answer in words: `done` and the totals, or `refused` and number and place.
+pub fn say<T: Report>(answer: &Answer<T>) -> String {
+    match answer {
+        Ok(report) => {
+            let Totals {
+                done,
+                refused,
+                taken,
+            } = report.totals();
+            format!("done {done} {refused} {taken}")
+        }
+        Err(refusal) => format!("refused {} {}", refusal.reason.number(), refusal.place),
     }
 }

@@ -98,7 +98,7 @@ fn cases_fit_the_format_and_come_back() {
 }
 
 #[test]
-fn lines_say_answer_and_checksums() {
+fn lines_say_answer_and_digests() {
     let table = reference::generate::edges::example().bytes();
     let schedule = schedule::write(&reference::generate::edges::example_steps());
     let case = Case {
@@ -115,8 +115,8 @@ fn lines_say_answer_and_checksums() {
     assert_eq!(outcome.answers, [15, 0, 11, 0, 0, 0, 0, ANSWER_FILL]);
     let line = outcome.line();
     let words: Vec<&str> = line.trim_end().split(' ').collect();
-    assert_eq!(words[0], (5 + 2 * 65_536 + (1u64 << 32)).to_string());
-    assert_eq!(words.len(), 3);
+    assert_eq!(words[..4], ["done", "5", "2", "1"]);
+    assert_eq!(words.len(), 6);
     let load = Case {
         state: vec![FILL; 2],
         fill: FILL,
@@ -124,12 +124,13 @@ fn lines_say_answer_and_checksums() {
         ..case
     };
     let line = load.outcome().line();
-    assert!(line.starts_with(&format!("{} ", (1u64 << 63) + 8)));
-    assert!(line.ends_with(" 2166136261\n"), "the FNV-1a of nothing");
-    // The usual test value of FNV-1a.
+    assert!(line.starts_with("refused 8 0 "));
+    assert!(line.ends_with(" 1\n"), "the digest of nothing");
+    // From 1: times 16,777,619 and plus the word, modulo 4,294,967,311.
+    assert_eq!(reference::cases::digest([7].into_iter()), 16_777_626);
     assert_eq!(
-        reference::cases::fnv(b"foobar".iter().copied()),
-        0xbf9c_f968
+        reference::cases::digest([7, u32::MAX].into_iter()),
+        (16_777_626 * 16_777_619 + 4_294_967_295) % 4_294_967_311
     );
 }
 

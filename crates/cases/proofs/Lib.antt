@@ -1,0 +1,4 @@
+pub mod Filling
+pub mod Patching
+pub mod Mixing
+pub mod Calling
