@@ -11,7 +11,8 @@ use Rattle.table.specs.Tables.{Table, sizesOf, tableOf}
 use Rattle.table.specs.Sound.{Limits}
 use Rattle.state.specs.WellFormed.{loaded}
 use Rattle.state.proofs.Formed.{Proper}
-use Rattle.steps.specs.Steps.{Outcome, tableChecks, loadOf}
+use Rattle.term.specs.Acceptance.{tableChecks}
+use Rattle.steps.specs.Steps.{Outcome, loadOf}
 use Rattle.steps.specs.Runs.{stepsOf, begun, ran, Progress, Rehearsal, runOf}
 use Rattle.steps.proofs.Steps.{outcome-check, outcome-refused, load-accepted, accepted-load}
 use Rattle.steps.proofs.Proper.{ran-proper, load-proper}
