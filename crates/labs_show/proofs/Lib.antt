@@ -1,1 +1,2 @@
 pub mod Rehearsals
+pub mod Enough

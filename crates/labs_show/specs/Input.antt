@@ -13,6 +13,10 @@ tableEnd input =
     cond (ltb (length input) 12) (length input)
     (cond (ltb (12 + 5 * u16At input 0) (length input)) (12 + 5 * u16At input 0) (length input))
 
+-- one byte more than the longest input that can be done: a table of 4,096 nodes and a schedule of 8,192 steps
+abbrev pub inputBytes : ℕ
+inputBytes = 12 + 5 * 4096 + 2 + 5 * 8192 + 1
+
 pub record TableEnd (input : List ℕ) (r : ℕ) : Type 0 where
   pub is : r ≡ tableEnd input
   pub fits : r ≤ length input

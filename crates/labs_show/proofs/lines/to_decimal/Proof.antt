@@ -25,10 +25,10 @@ add-t5 : tie.Need-add-t5
 add-t5 c = search needs
 
 returns : tie.Need-returns
-returns c = low (c .before .args .word) (c .if1 .taken)
+returns c = low (c .before .args .word) (omega arith)
 
 returns-2 : tie.Need-returns-2
-returns-2 c = high (c .before .args .word) (c .if1 .left) (omega arith)
+returns-2 c = high (c .before .args .word) (omega arith) (omega arith)
 
 pub to-decimal-spec : {M : Type 1} → statement M
 to-decimal-spec = tie.close (tie.spec sub-t4 add-t5 returns returns-2)
