@@ -2,7 +2,7 @@
 -- Assumes nothing.
 use Prim.Native.Nat.{ℕ, zero, suc, _≤_}
 use mathlib.Core.Bool.{Bool, true, false, not, cond}
-use mathlib.Core.Path.{_≡_, refl, sym, ap, subst}
+use mathlib.Core.Path.{_≡_, refl, sym, subst}
 use mathlib.Core.List.{List, [], _∷_, _++_}
 use native.Mathlib.Omega.{arith}
 use lib.Dec.{ltb}
@@ -16,7 +16,7 @@ use Rattle.table.proofs.Limits.{within-limits}
 use Rattle.term.specs.Acceptance.{lengthChecks, contentChecks}
 use Rattle.term.proofs.Each.{Each}
 use Rattle.state.specs.WellFormed.{loaded}
-use Rattle.steps.specs.Steps.{stateChecks, outOfRange, ownChecks, takenBy, after, stepIn, loadOf, stepOf}
+use Rattle.steps.specs.Steps.{refused, stateChecks, outOfRange, ownChecks, takenBy, after, stepIn, loadOf, stepOf}
 use Rattle.steps.specs.Runs.{scheduleChecks, runOf}
 use Rattle.steps.proofs.Steps.{outcome-check, step-in}
 
@@ -94,13 +94,13 @@ module _ (t : Table) (was : List ℕ) where
       (then-near (refuseIf 10 (outOfRange t was kind x number)) (firstOf (ownChecks t was kind x number)) (search (if-near 10 (omega arith))) (λ e. own-near kind x number))
 
 module _ (bytes was : List ℕ) (scratch kind x number : ℕ) where
-  stopped : {n place : ℕ} → firstOf (stateChecks bytes was scratch) ≡ refuses n place → stepOf bytes was scratch kind x number .check ≡ firstOf (stateChecks bytes was scratch)
+  pub step-stopped : {n place : ℕ} → firstOf (stateChecks bytes was scratch) ≡ refuses n place → stepOf bytes was scratch kind x number ≡ refused n place was
   unfolding stepOf
-  stopped e = rw (stepOf, e)
+  step-stopped e = rw (stepOf, e)
 
   pub step-near : Near (stepOf bytes was scratch kind x number .check)
   step-near = by (firstOf (stateChecks bytes was scratch)) refl
     where
       by : (c : Check) → firstOf (stateChecks bytes was scratch) ≡ c → Near (stepOf bytes was scratch kind x number .check)
       by passes e = subst (λ o. Near (o .check)) (sym (step-in bytes was scratch kind x number e)) (in-near (tableOf bytes) was kind x number)
-      by (refuses n place) e = subst Near (sym (stopped e)) (state-near bytes was scratch)
+      by (refuses n place) e = subst (λ o. Near (o .check)) (sym (step-stopped e)) (subst Near e (state-near bytes was scratch))

@@ -16,6 +16,7 @@ use Rattle.machine.specs.Answers.{totals}
 use Rattle.machine.specs.Running.{Within}
 use Rattle.machine.proofs.Going.{step-bound, within-more}
 use Rattle.machine.proofs.Schedules.{passes-runnable}
+use Rattle.rehearsal.proofs.Places.{step-stopped}
 
 abbrev pub totalsOf : Progress → Totals
 totalsOf p = totals (p .done) (p .refused) (p .taken)
@@ -49,10 +50,6 @@ module _ (bytes was : List ℕ) (scratch : ℕ) (schedule answers : List ℕ) wh
       rw (runOf, e) (within-more _ (stepsOf schedule) 8192 (passes-runnable schedule answers (w .1) .steps) c)
 
 module _ (bytes was : List ℕ) (scratch kind x number : ℕ) where
-  stopped : {n place : ℕ} → firstOf (stateChecks bytes was scratch) ≡ refuses n place → stepOf bytes was scratch kind x number .taken ≤ 32
-  unfolding stepOf
-  stopped e = rw (stepOf, e) (omega arith)
-
   pub step-within : stepOf bytes was scratch kind x number .taken ≤ 32
   step-within = by (firstOf (stateChecks bytes was scratch)) refl
     where
@@ -62,4 +59,4 @@ module _ (bytes was : List ℕ) (scratch kind x number : ℕ) where
           let b = step-bound (tableOf bytes) was kind x number in
           let f = ap (λ (o : Outcome). o .taken) (step-in bytes was scratch kind x number e) in
           omega arith
-      by (refuses n place) e = stopped e
+      by (refuses n place) e = let f = ap (λ (o : Outcome). o .taken) (step-stopped bytes was scratch kind x number e) in omega arith

@@ -5,6 +5,7 @@ use mathlib.Core.Bool.{true}
 use mathlib.Core.Logic.{⊎-elim}
 use mathlib.Core.Path.{_≡_, refl}
 use mathlib.Core.List.{List}
+use native.Mathlib.Nat.{mul-suc, mul-le-mul-left}
 use native.Mathlib.Omega.{arith}
 use Rattle.basis.proofs.Tests.{lt-or-le}
 use Rattle.table.specs.Checks.{Check, passes, refuses, passed}
@@ -16,18 +17,19 @@ use Rattle.rehearsal.specs.Packing.{packed, packedTotals, reportOf}
 use Rattle.rehearsal.proofs.Places.{Near}
 use Rattle.rehearsal.proofs.Totals.{step-within, run-within}
 
--- two pairs of a lower part, below a limit, and an upper one, packed by that limit
-module _ (a b : ℕ) {m n : ℕ} where
-  upper-16 : m < 65536 → n < 65536 → 65536 * a + m ≡ 65536 * b + n → a ≡ b
-  upper-16 l k e = ⊎-elim (λ (h : a < b). absurd (omega arith)) (λ (h : b ≤ a). ⊎-elim (λ (g : b < a). absurd (omega arith)) (λ (g : a ≤ b). omega arith) (lt-or-le b a)) (lt-or-le a b)
+-- two numbers of an upper part and a lower one, which is below w
+not-less : (w c d k : ℕ) → k < w → w * d ≤ w * c + k → c < d → ⊥
+not-less w c d k l e h = let f = mul-le-mul-left w h in let g = mul-suc w c in omega arith
 
-  upper-32 : m < 2 ^ 32 → n < 2 ^ 32 → 2 ^ 32 * a + m ≡ 2 ^ 32 * b + n → a ≡ b
-  upper-32 l k e = ⊎-elim (λ (h : a < b). absurd (omega arith)) (λ (h : b ≤ a). ⊎-elim (λ (g : b < a). absurd (omega arith)) (λ (g : a ≤ b). omega arith) (lt-or-le b a)) (lt-or-le a b)
+same-upper : (w a b m n : ℕ) → m < w → n < w → w * a + m ≡ w * b + n → a ≡ b
+same-upper w a b m n l k e =
+    ⊎-elim (λ (h : a < b). absurd (not-less w a b m l (omega arith) h))
+    (λ (h : b ≤ a). ⊎-elim (λ (g : b < a). absurd (not-less w b a n k (omega arith) g)) (λ (g : a ≤ b). omega arith) (lt-or-le b a)) (lt-or-le a b)
 
 -- a refusal
 module _ {number place other at : ℕ} (l : Near (refuses number place)) (k : Near (refuses other at)) (e : 2 ^ 63 + 65536 * place + number ≡ 2 ^ 63 + 65536 * at + other) where
   same-place : place ≡ at
-  same-place = let f = l .number in let g = k .number in upper-16 place at {m = number} {n = other} (omega arith) (omega arith) (omega arith)
+  same-place = let f = l .number in let g = k .number in same-upper 65536 place at number other (omega arith) (omega arith) (omega arith)
 
   same-number : number ≡ other
   same-number = let f = same-place in omega arith
@@ -51,12 +53,12 @@ module _ (bytes was : List ℕ) (scratch : ℕ) where
 module _ (c d : Totals) (v : Within 8192 c) (w : Within 8192 d) (e : packedTotals (c .done) (c .refused) (c .taken) ≡ packedTotals (d .done) (d .refused) (d .taken)) where
   same-taken : c .taken ≡ d .taken
   same-taken =
-      upper-32 (c .taken) (d .taken) {m = c .done + 65536 * c .refused} {n = d .done + 65536 * d .refused}
+      same-upper (2 ^ 32) (c .taken) (d .taken) (c .done + 65536 * c .refused) (d .done + 65536 * d .refused)
       (omega (arith, v .done, v .refused)) (omega (arith, w .done, w .refused)) (omega (arith, e))
 
   same-refused : c .refused ≡ d .refused
   same-refused =
-      upper-16 (c .refused) (d .refused) {m = c .done} {n = d .done} (omega (arith, v .done)) (omega (arith, w .done)) (omega (arith, e, same-taken))
+      same-upper 65536 (c .refused) (d .refused) (c .done) (d .done) (omega (arith, v .done)) (omega (arith, w .done)) (omega (arith, e, same-taken))
 
   pub totals-told : (c .done ≡ d .done) × (c .refused ≡ d .refused) × (c .taken ≡ d .taken)
   totals-told = (omega (arith, e, same-refused, same-taken), same-refused, same-taken)
