@@ -1,6 +1,6 @@
 //! The proved library, called as C calls it, on cases that the second implementation generates.
 
-use reference::cases::{Call, Case, Outcome, ANSWER_FILL};
+use reference::cases::{Call, Case, ANSWER_FILL};
 
 extern "C" {
     fn labs_load(
@@ -36,6 +36,32 @@ extern "C" {
         answers: *mut u8,
         answers_len: usize,
     ) -> u64;
+}
+
+/// What a call gives back: the packed answer, the state and the answer bytes.
+#[derive(Clone, Debug, PartialEq, Eq)]
+pub struct Given {
+    pub packed: u64,
+    pub state: Vec<u32>,
+    pub answers: Vec<u8>,
+}
+
+impl Given {
+    /// The refusal, or 0.
+    pub fn refusal(&self) -> usize {
+        let refused = self.packed >> 63 == 1;
+        usize::from(refused) * (self.packed & 0xffff) as usize
+    }
+}
+
+/// What the second implementation gives back.
+pub fn expected(case: &Case) -> Given {
+    let outcome = case.outcome();
+    Given {
+        packed: outcome.packed,
+        state: outcome.state,
+        answers: outcome.answers,
+    }
 }
 
 /// Elements on either side of what is lent.
@@ -81,7 +107,7 @@ fn scratch_words(length: usize) -> Vec<u32> {
 }
 
 /// Makes a case's call on the proved library.
-pub fn call(case: &Case) -> Outcome {
+pub fn call(case: &Case) -> Given {
     let table = case.table.clone();
     let mut state = Lent::new(&case.state, 0xdead_beef);
     let mut scratch = Lent::new(&scratch_words(case.scratch), 0xdead_beef);
@@ -99,7 +125,7 @@ pub fn call(case: &Case) -> Outcome {
     );
     assert!(table == case.table, "the table was written");
     scratch.content();
-    Outcome {
+    Given {
         packed,
         state: state.content(),
         answers: answers.content(),

@@ -1,7 +1,7 @@
 //! labs_load, labs_step and labs_run answer as the second implementation does.
 
-use conformance::call;
-use reference::cases::{Call, Case, Outcome, ANSWER_FILL};
+use conformance::{call, expected, Given};
+use reference::cases::{Call, Case, ANSWER_FILL};
 use reference::describe::describe;
 use reference::generate::case;
 use reference::generate::edges::deep_chain;
@@ -25,8 +25,8 @@ struct Seen {
 }
 
 impl Seen {
-    fn add(&mut self, case: &Case, outcome: &Outcome) {
-        let refusal = usize::from(outcome.refusal());
+    fn add(&mut self, case: &Case, given: &Given) {
+        let refusal = given.refusal();
         let call = match &case.call {
             Call::Load => 0,
             Call::Step(_) => 1,
@@ -34,7 +34,7 @@ impl Seen {
         };
         self.calls[call][refusal] += 1;
         if let (Call::Run { schedule, .. }, 0) = (&case.call, refusal) {
-            for &answer in &outcome.answers[..schedule.len() / 5] {
+            for &answer in &given.answers[..schedule.len() / 5] {
                 self.inside[usize::from(answer)] += 1;
             }
         }
@@ -54,9 +54,9 @@ impl Seen {
     }
 }
 
-/// The outcome of the library, which is that of the second implementation.
-fn agreed(case: &Case, which: &str) -> Outcome {
-    let (proved, expected) = (call(case), case.outcome());
+/// What the library gives back, which is what the second implementation does.
+fn agreed(case: &Case, which: &str) -> Given {
+    let (proved, expected) = (call(case), expected(case));
     if proved != expected {
         let same = [
             proved.state == expected.state,
@@ -79,15 +79,12 @@ fn every_call_answers_as_the_reference_does() {
             let mut seen = Seen::default();
             for index in 0..count {
                 let case = case(seed, index, small);
-                let outcome = agreed(&case, &format!("seed {seed}, case {index}"));
-                if outcome.refusal() != 0 {
-                    assert!(
-                        outcome.state == case.state,
-                        "a refused call wrote the state"
-                    );
-                    assert!(outcome.answers.iter().all(|&byte| byte == ANSWER_FILL));
+                let given = agreed(&case, &format!("seed {seed}, case {index}"));
+                if given.refusal() != 0 {
+                    assert!(given.state == case.state, "a refused call wrote the state");
+                    assert!(given.answers.iter().all(|&byte| byte == ANSWER_FILL));
                 }
-                seen.add(&case, &outcome);
+                seen.add(&case, &given);
             }
             assert!(
                 seen.complete(),
@@ -98,7 +95,7 @@ fn every_call_answers_as_the_reference_does() {
 }
 
 /// What load and then a first act give, on a stack of this size.
-fn load_and_act(table: Vec<u8>, stack: usize, make: fn(&Case) -> Outcome) -> [Outcome; 2] {
+fn load_and_act(table: Vec<u8>, stack: usize, make: fn(&Case) -> Given) -> [Given; 2] {
     let thread = std::thread::Builder::new().stack_size(stack);
     let work = move || {
         let mut case = Case {
@@ -120,9 +117,9 @@ fn load_and_act(table: Vec<u8>, stack: usize, make: fn(&Case) -> Outcome) -> [Ou
 fn deep_tables_fit_the_stack_of_a_thread() {
     for kind in 0..5 {
         let table = deep_chain(kind).bytes();
-        let expected = load_and_act(table.clone(), 64 << 20, Case::outcome);
+        let wanted = load_and_act(table.clone(), 64 << 20, expected);
         let proved = load_and_act(table, THREAD_STACK, call);
-        assert!(proved == expected, "deep table of kind {kind}");
+        assert!(proved == wanted, "deep table of kind {kind}");
         assert_eq!(proved[1].packed, 0, "the act of kind {kind} is done");
     }
 }
