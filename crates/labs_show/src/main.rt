@@ -7,11 +7,20 @@ use lines::print_state;
 use lines::print_totals;
 use machine::Ran;
 use rehearsal::rehearse_input;
+ghost use mathlib.Core.Path.{_≡_};
+ghost use lib.ListN.{length};
+ghost use Rattle.labs_show.specs.Input.{inputBytes};
+
+const INPUT_BYTES: usize = 61455;
 
 // One byte more than the longest input that can be done: a table of 4,096 nodes and a schedule of 8,192 steps, 12 + 5 * 4,096 + 2 + 5 * 8,192 bytes.
-// What follows need not be read. Where N is over 4,096 the table is refused with 2 whatever its length is; else the table is read whole, and the
-// schedule, of which over 2 + 5 * 8,192 bytes are read, is refused with 19, as all of it would be.
-const INPUT_BYTES: usize = 61455;
+// What follows need not be read, since it changes nothing (proofs/Enough). Where N is over 4,096 the table is refused with 2 whatever its length is; else the
+// table is read whole, and the schedule, of which over 2 + 5 * 8,192 bytes are read, is refused with 19, as all of it would be.
+fn input_buffer() -> [u8; INPUT_BYTES]
+    ensures { λ r. ⌜ inputBytes ≡ length r ⌝ }
+{
+    [0; INPUT_BYTES]
+}
 
 fn show(input: &[u8]) {
     let mut state = [0u32; 4194];
@@ -28,7 +37,7 @@ fn show(input: &[u8]) {
 }
 
 fn main() {
-    let mut input = [0u8; INPUT_BYTES];
+    let mut input = input_buffer();
     let n = io::read_full(0, &mut input);
     show(&input[..n]);
 }
