@@ -10,8 +10,8 @@ use borrow.Author.Tests.{eq-eqb}
 use Rattle.basis.specs.KeySets.{plusAll}
 use Rattle.table.specs.Tables.{Table, kindAt, pAt}
 use Rattle.term.specs.Terms.{Term, words}
-use Rattle.term.specs.Processes.{Label, ticks, acts, Derivation}
-use Rattle.term.proofs.Inside.{ActionNode, Labelled, Inside as InsideTable}
+use Rattle.term.specs.Processes.{Label, ticks, acts, Derivation, ActionNode, Labelled}
+use Rattle.term.proofs.Inside.{Inside as InsideTable}
 use Rattle.choice.specs.declared.Does.{Does}
 use Rattle.choice.specs.declared.Does.the-variants.{Ticking, Acting}
 use Rattle.choice.specs.Outcomes.{labelOf}

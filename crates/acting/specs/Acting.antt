@@ -9,8 +9,7 @@ use Rattle.table.specs.Tables.{Table, kindAt, pAt}
 use Rattle.table.specs.Sound.{Shaped}
 use Rattle.term.specs.Terms.{words}
 use Rattle.term.specs.Acceptance.{stateWords}
-use Rattle.term.specs.Processes.{allFew}
-use Rattle.term.proofs.Inside.{ActionNode}
+use Rattle.term.specs.Processes.{allFew, ActionNode}
 use Rattle.state.specs.declared.Store.{Store}
 use Rattle.state.specs.declared.Store.the-variants.{Entries}
 use Rattle.state.specs.Layout.{clockAt, zpAt, keyLimit, residualWords, clockOf, termIn, put, addKey}

@@ -11,8 +11,8 @@ use borrow.Author.Tests.{eqb-true, not-false}
 use Rattle.basis.proofs.Tests.{and-left, and-right, not-and}
 use Rattle.table.specs.Tables.{Table}
 use Rattle.term.specs.Terms.{Term, words, termOf, areTerms}
-use Rattle.term.specs.Processes.{Derivation, allFew}
-use Rattle.term.proofs.Inside.{Labelled, Inside}
+use Rattle.term.specs.Processes.{Derivation, allFew, Labelled}
+use Rattle.term.proofs.Inside.{Inside}
 use Rattle.choice.specs.declared.Outcome.{Outcome}
 use Rattle.choice.specs.Marking.{Marked}
 use Rattle.choice.specs.Outcomes.{labelOf, Tells}

@@ -18,10 +18,10 @@ use Rattle.table.specs.Tables.{Table, kindAt, pAt, qAt}
 use Rattle.table.specs.Sound.{Limits, Sound}
 use Rattle.table.proofs.Promises.{attribute-set-operands, stigmergy-set-operands, environment-set-operands}
 use Rattle.term.specs.Acceptance.{stateWords}
-use Rattle.term.specs.Terms.{Term, words}
-use Rattle.term.specs.Processes.{Label, ticks, acts, Derivation}
-use Rattle.term.proofs.Inside.{ActionNode, Labelled, Inside as DerivationInside}
-use Rattle.term.proofs.Words.{Over, over-low, words-small}
+use Rattle.term.specs.Terms.{Term, words, Over}
+use Rattle.term.specs.Processes.{Label, ticks, acts, Derivation, ActionNode, Labelled}
+use Rattle.term.proofs.Inside.{Inside as DerivationInside}
+use Rattle.term.proofs.Words.{over-low, words-small}
 use Rattle.state.specs.declared.Store.{Store}
 use Rattle.state.specs.declared.Store.the-variants.{Environment, Attributes, Entries}
 use Rattle.state.specs.Layout.{blockAt, keyLimit, residualWords, clockOf, stampOf, wordOf, zcAt, zpAt, zcOf, put, addKey, dropKey}
