@@ -14,7 +14,7 @@ use Rattle.state.specs.declared.Store.{Store}
 use Rattle.state.specs.declared.Store.the-variants.{Entries}
 use Rattle.state.specs.Layout.{clockAt, zpAt, keyLimit, residualWords, clockOf, termIn, put, addKey}
 use Rattle.state.specs.Standing.{storeAgent}
-use Rattle.state.proofs.Formed.{ResidualFormed}
+use Rattle.state.specs.WellFormed.{residualFormed}
 use Rattle.steps.specs.Acts.{nextStamp, wordIn, valueFor, choices, actChecks, chosen, storeOf, acted}
 use Rattle.steps.specs.Steps.{outcome}
 
@@ -27,7 +27,7 @@ pub record Acts (t : Table) (was : List ℕ) (x c r : ℕ) (s : List ℕ) : Type
 pub record Leaving (t : Table) (s : List ℕ) (x c : ℕ) : Type 0 where
   pub whole : length s ≡ stateWords
   pub agent : x < 32
-  pub formed : ResidualFormed t s x
+  pub formed : residualFormed t s x ≡ true
   pub few : allFew t (termIn s x) ≡ true
   pub there : c < length (choices t s x)
   pub short : length (words (chosen t s x c .leaving)) ≤ residualWords

@@ -26,7 +26,7 @@ use Rattle.state.specs.WellFormed.{started, loaded}
 use Rattle.state.proofs.Places.{Place, KeySet, Clock, Agents, Mark, Word, Waits, Length, Residual, placeAt, Inside, placeAgent, same, other-agent, past-agent, placed}
 use Rattle.state.proofs.Frames.{wordAt, Small, SameAt, set-small, set-other, set-here}
 use Rattle.state.proofs.Residuals.{term-read}
-use Rattle.state.proofs.Formed.{WellFormed, Proper, residual-formed}
+use Rattle.state.proofs.Formed.{WellFormed, ProperFacts, residual-formed}
 
 abbrev zeros : ℕ → List ℕ
 zeros n = replicate n 0
@@ -160,5 +160,5 @@ module _ (t : Table) where
           };
         }
 
-    pub loaded-proper : Proper t (loaded t)
+    pub loaded-proper : ProperFacts t (loaded t)
     loaded-proper = record { whole = loaded-length; small = loaded-small; formed = formed }
