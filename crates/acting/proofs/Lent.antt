@@ -5,7 +5,7 @@ use mathlib.Core.Path.{_≡_, refl}
 use mathlib.Core.List.{List, _++_}
 use native.Mathlib.Omega.{arith}
 use lib.ListN.{length, set, take, drop}
-use Rattle.table.specs.Tables.{Table, firstRoot}
+use Rattle.table.specs.Tables.{Table}
 use Rattle.term.specs.Terms.{words}
 use Rattle.residual.specs.Wholes.{Whole, Taking, Rewritten, residualTerm, taken}
 use Rattle.state.specs.Layout.{residualAt, residualWords, lengthAt, lengthOf, residualOf}
@@ -19,7 +19,7 @@ use Rattle.acting.specs.Acting.{Leaving}
 abbrev pub Lends : Table → ℕ → ℕ → List ℕ → Type 0
 Lends t c size ws = Whole t size ws × (Taking t (residualTerm size ws) c × (length (words (taken t (residualTerm size ws) c .leaving)) ≤ length ws))
 
-module _ (t : Table) (few : firstRoot t ≤ 65532) (s : List ℕ) (x c : ℕ) (l : Leaving t s x c) where
+module _ (t : Table) (s : List ℕ) (x c : ℕ) (l : Leaving t s x c) where
   long : length (residualOf s x) ≡ residualWords
   long = residual-length s x (l .whole) (l .agent)
 
@@ -28,7 +28,7 @@ module _ (t : Table) (few : firstRoot t ≤ 65532) (s : List ℕ) (x c : ℕ) (l
     pub lends : Lends t c size (take n (drop at s))
     lends =
         rw (begins, all, sized) (
-          formed-whole t few s x (l .whole) (l .agent) (l .formed) (lengthOf s x) (residualOf s x) refl refl,
+          formed-whole t s x (l .whole) (l .agent) (l .formed) (lengthOf s x) (residualOf s x) refl refl,
           (record { few = l .few; choice = l .there }, omega (arith, long, l .short)),
         )
 

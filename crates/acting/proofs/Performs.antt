@@ -1,6 +1,6 @@
 -- What an act that can be done asks of its parts, and that they come to the whole act.
 -- Assumes nothing.
-use Prim.Native.Nat.{ℕ, _<_}
+use Prim.Native.Nat.{ℕ, _<_, _≤_}
 use mathlib.Core.Bool.{false}
 use mathlib.Core.Path.{_≡_, refl, sym, ap, ap₂, subst, _∙_}
 use mathlib.Core.List.{List}
@@ -8,10 +8,10 @@ use native.Mathlib.Omega.{arith}
 use lib.ListN.{length, set, length-set}
 use borrow.Author.Tests.{eq-eqb}
 use Rattle.basis.specs.KeySets.{plusAll}
-use Rattle.table.specs.Tables.{Table, kindAt, pAt}
+use Rattle.table.specs.Tables.{Table, kindAt, pAt, firstRoot}
 use Rattle.term.specs.Terms.{Term, words}
-use Rattle.term.specs.Processes.{Label, ticks, acts, Derivation}
-use Rattle.term.proofs.Inside.{ActionNode, Labelled, Inside as InsideTable}
+use Rattle.term.specs.Processes.{Label, ticks, acts, Derivation, ActionNode, Labelled}
+use Rattle.term.proofs.Inside.{Inside as InsideTable}
 use Rattle.choice.specs.declared.Does.{Does}
 use Rattle.choice.specs.declared.Does.the-variants.{Ticking, Acting}
 use Rattle.choice.specs.Outcomes.{labelOf}
@@ -21,9 +21,11 @@ use Rattle.state.specs.declared.Store.{Store}
 use Rattle.state.specs.Layout.{zcAt, keyLimit, residualWords, zcOf, termIn}
 use Rattle.state.proofs.Places.{Place, Zc, Zp, Clock, Mark, Word, Waits, Length, Residual, Inside, same}
 use Rattle.state.proofs.Frames.{SameAt, wordAt, set-other, term-same}
-use Rattle.state.proofs.Formed.{Proper}
+use Rattle.state.specs.WellFormed.{Proper}
+use Rattle.state.proofs.Formed.{ResidualFormed, proper-facts, residual-test}
 use Rattle.state.proofs.Keep.{residual-kept}
 use Rattle.steps.specs.Acts.{wordIn, writesEntry, chosen, toConfirm, storeOf, setKey, leave, acted}
+use Rattle.steps.proofs.Steps.{Able, act-able}
 use Rattle.steps.proofs.Acts.{chosen-inside, action-key, set-tick, set-key-other, set-length}
 use Rattle.judging.specs.Judging.{Decided}
 use Rattle.acting.specs.Acting.{Leaving, Setting}
@@ -41,6 +43,12 @@ module _ (t : Table) (scratch : List ℕ) (ready : Ready t scratch) (was : List 
   low : x < 32
   low = omega (arith, ready .checked .sound .shaped .limits .agents)
 
+  few : firstRoot t ≤ 65532
+  few = omega (arith, ready .checked .sound .shaped .limits .nodes)
+
+  formed : ResidualFormed t was x
+  formed = proper-facts t (ready .checked .sound .shaped .limits) was proper .formed .formed .residuals x there
+
   -- WHAT A LABEL'S KEY LEAVES
   label-other : (l : Label) → Labelled t l → (q : Place) → Still x q → SameAt (setKey t was x l) was q
   label-other ticks h q s = ap (λ (u : List ℕ). wordAt u q) (set-tick t was x)
@@ -50,8 +58,11 @@ module _ (t : Table) (scratch : List ℕ) (ready : Ready t scratch) (was : List 
     abbrev D : Derivation
     D = chosen t was x c
 
+    able : Able t was x c
+    able = act-able t was x c .0 (d .able)
+
     inside : InsideTable t D
-    inside = chosen-inside t was x (ready .checked .sound) (proper .formed .formed .residuals x there .over) c (d .able .there)
+    inside = chosen-inside t was x (ready .checked .sound) (formed .over) c (able .there)
 
     labelled : Labelled t (labelOf does)
     labelled = subst (Labelled t) (sym (d .label)) (inside .label)
@@ -74,7 +85,7 @@ module _ (t : Table) (scratch : List ℕ) (ready : Ready t scratch) (was : List 
           agent = low;
           action = a;
           key = action-key t was x (ready .checked .sound) n a;
-          room = λ k. d .able .room (ap (writesEntry t was x) (sym l) ∙ eq-eqb (kindAt t n) 3 k);
+          room = λ k. able .room (ap (writesEntry t was x) (sym l) ∙ eq-eqb (kindAt t n) 3 k);
           value = sym (ap wordIn (d .value n e));
         }
 
@@ -105,14 +116,14 @@ module _ (t : Table) (scratch : List ℕ) (ready : Ready t scratch) (was : List 
       decided-leaving = record {
         whole = long ∙ proper .whole;
         agent = low;
-        formed = residual-kept t was s x long same-size same-words (proper .formed .formed .residuals x there);
-        few = rw same-term (d .able .few);
-        there = rw same-term (d .able .there);
-        short = rw same-chosen (d .able .short);
+        formed = residual-test t few s (long ∙ proper .whole) x low (residual-kept t was s x long same-size same-words formed);
+        few = rw same-term (able .few);
+        there = rw same-term (able .there);
+        short = rw same-chosen (able .short);
       }
 
       zc-empty : zcOf keySet x ≡ 0
-      zc-empty = key-still (Waits Zc x) (record { inside = tt; clock = refl; waits = refl; mark = λ store k. refl; word = λ store k. refl }) ∙ d .able .confirmed
+      zc-empty = key-still (Waits Zc x) (record { inside = tt; clock = refl; waits = refl; mark = λ store k. refl; word = λ store k. refl }) ∙ able .confirmed
 
       is-key-set : keySet ≡ setKey t was x (D .label)
       is-key-set = set-key ∙ ap (setKey t was x) (d .label)

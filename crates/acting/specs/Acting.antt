@@ -9,13 +9,12 @@ use Rattle.table.specs.Tables.{Table, kindAt, pAt}
 use Rattle.table.specs.Sound.{Shaped}
 use Rattle.term.specs.Terms.{words}
 use Rattle.term.specs.Acceptance.{stateWords}
-use Rattle.term.specs.Processes.{allFew}
-use Rattle.term.proofs.Inside.{ActionNode}
+use Rattle.term.specs.Processes.{allFew, ActionNode}
 use Rattle.state.specs.declared.Store.{Store}
 use Rattle.state.specs.declared.Store.the-variants.{Entries}
 use Rattle.state.specs.Layout.{clockAt, zpAt, keyLimit, residualWords, clockOf, termIn, put, addKey}
 use Rattle.state.specs.Standing.{storeAgent}
-use Rattle.state.proofs.Formed.{ResidualFormed}
+use Rattle.state.specs.WellFormed.{residualFormed}
 use Rattle.steps.specs.Acts.{nextStamp, wordIn, valueFor, choices, actChecks, chosen, storeOf, acted}
 use Rattle.steps.specs.Steps.{outcome}
 
@@ -28,7 +27,7 @@ pub record Acts (t : Table) (was : List ℕ) (x c r : ℕ) (s : List ℕ) : Type
 pub record Leaving (t : Table) (s : List ℕ) (x c : ℕ) : Type 0 where
   pub whole : length s ≡ stateWords
   pub agent : x < 32
-  pub formed : ResidualFormed t s x
+  pub formed : residualFormed t s x ≡ true
   pub few : allFew t (termIn s x) ≡ true
   pub there : c < length (choices t s x)
   pub short : length (words (chosen t s x c .leaving)) ≤ residualWords

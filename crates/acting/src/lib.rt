@@ -10,7 +10,7 @@ use writing::perform;
 ghost use Prim.Native.Nat.{_<_};
 ghost use Rattle.table.specs.Tables.{table};
 ghost use Rattle.choice.specs.Turns.{Ready};
-ghost use Rattle.state.proofs.Formed.{Proper};
+ghost use Rattle.state.specs.WellFormed.{Proper};
 ghost use Rattle.acting.specs.Acting.{Acts};
 
 // Choice c of an agent is done, or refused: the answer is the refusal, or 0.

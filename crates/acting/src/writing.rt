@@ -12,7 +12,7 @@ ghost use Rattle.table.specs.Tables.{table};
 ghost use Rattle.term.specs.Acceptance.{stateWords};
 ghost use Rattle.choice.specs.Turns.{Ready};
 ghost use Rattle.state.specs.Layout.{zcAt};
-ghost use Rattle.state.proofs.Formed.{Proper};
+ghost use Rattle.state.specs.WellFormed.{Proper};
 ghost use Rattle.steps.specs.Acts.{chosen, acted};
 ghost use Rattle.judging.specs.Judging.{Decided};
 

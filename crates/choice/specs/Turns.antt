@@ -8,11 +8,10 @@ use Rattle.table.specs.Tables.{Table, firstRoot, bodyAt}
 use Rattle.term.specs.declared.Mode.{Mode}
 use Rattle.term.specs.declared.Mode.the-variants.{Actions, Ticks}
 use Rattle.term.specs.Terms.{Tick, Idle, words, parWord}
-use Rattle.term.specs.Processes.{ticks, acts, Derivation, derivation, under, join, nodeProcess}
+use Rattle.term.specs.Processes.{ticks, acts, Derivation, derivation, under, join, nodeProcess, GuardNode}
 use Rattle.term.specs.Choices.{count}
 use Rattle.term.specs.Exposure.{callsBelow}
 use Rattle.term.specs.Accepted.{Checked}
-use Rattle.term.proofs.Inside.{GuardNode}
 use Rattle.accept.specs.Scratch.{Counted}
 use Rattle.choice.specs.declared.Pick.{Pick}
 use Rattle.choice.specs.declared.Pick.the-variants.{LeftActs, RightActs, LeftTicks, RightTicks}

@@ -9,10 +9,10 @@ use lib.Dec.{eqb}
 use lib.ListN.{length, getD, take, drop}
 use borrow.Author.Tests.{eqb-true, not-false}
 use Rattle.basis.proofs.Tests.{and-left, and-right, not-and}
-use Rattle.table.specs.Tables.{Table}
+use Rattle.table.specs.Tables.{Table, firstRoot}
 use Rattle.term.specs.Terms.{Term, words, termOf, areTerms}
-use Rattle.term.specs.Processes.{Derivation, allFew}
-use Rattle.term.proofs.Inside.{Labelled, Inside}
+use Rattle.term.specs.Processes.{Derivation, allFew, Labelled}
+use Rattle.term.proofs.Inside.{Inside}
 use Rattle.choice.specs.declared.Outcome.{Outcome}
 use Rattle.choice.specs.Marking.{Marked}
 use Rattle.choice.specs.Outcomes.{labelOf, Tells}
@@ -20,7 +20,8 @@ use Rattle.choice.specs.Turns.{Ready}
 use Rattle.residual.specs.declared.Choices.{Choices}
 use Rattle.residual.specs.Wholes.{Whole, Taking, Offered, residualTerm, taken}
 use Rattle.state.specs.Layout.{zcAt, zpAt, lengthAt, residualAt, residualWords, zcOf, zpOf, lengthOf, termIn}
-use Rattle.state.proofs.Formed.{Proper, ResidualFormed}
+use Rattle.state.specs.WellFormed.{Proper}
+use Rattle.state.proofs.Formed.{ResidualFormed, proper-facts, residual-test}
 use Rattle.evaluation.specs.Situated.{Situated}
 use Rattle.steps.specs.Acts.{choices, chosen, allHold}
 use Rattle.steps.proofs.Acts.{chosen-inside}
@@ -65,7 +66,7 @@ module _ (t : Table) (was : List ℕ) (x zc zp : ℕ) (confirm : zc ≡ zcAt x) 
 -- 12 and 13, by what is found of the residual's choices
 module _ {t : Table} {scratch was : List ℕ} {x size : ℕ} {ws : List ℕ} (posed : Posed t scratch was x size ws) where
   formed : ResidualFormed t was x
-  formed = posed .proper .formed .formed .residuals x (posed .agent)
+  formed = proper-facts t (posed .ready .checked .sound .shaped .limits) was (posed .proper) .formed .formed .residuals x (posed .agent)
 
   there : x < 32
   there = omega (arith, posed .agent, posed .ready .checked .sound .shaped .limits .agents)
@@ -78,7 +79,8 @@ module _ {t : Table} {scratch was : List ℕ} {x size : ℕ} {ws : List ℕ} (po
 
   pub whole-residual : Whole t size ws
   whole-residual =
-      formed-whole t (omega (arith, posed .ready .checked .sound .shaped .limits .nodes)) was x (posed .proper .whole) there formed size ws (posed .long) (posed .words)
+      let few : firstRoot t ≤ 65532 = omega (arith, posed .ready .checked .sound .shaped .limits .nodes) in
+      formed-whole t was x (posed .proper .whole) there (residual-test t few was (posed .proper .whole) x there formed) size ws (posed .long) (posed .words)
 
   module _ (all : Choices) (offered : Offered t (residualTerm size ws) all) where
     offers : Offered t (termIn was x) all

@@ -17,7 +17,6 @@ use Rattle.choice.specs.declared.Outcome.{Outcome}
 use Rattle.choice.specs.Outcomes.{labelOf, Tells}
 use Rattle.state.specs.Layout.{zcOf, zpOf, termIn}
 use Rattle.steps.specs.Acts.{choices, chosen, allHold, actChecks, lastChecks}
-use Rattle.steps.proofs.Steps.{act-able}
 use Rattle.judging.specs.declared.Judgement.{Judgement}
 use Rattle.judging.specs.Judging.{Collected, Judges}
 use Rattle.judging.specs.Outcomes.{refusedBy, Ends}
@@ -76,7 +75,7 @@ module _ (t : Table) (was : List ℕ) (x c : ℕ) where
             record {
               check = check;
               decided = λ z. record {
-                able = act-able t was x c .0 (sym check ∙ ap refusalCheck z);
+                able = sym check ∙ ap refusalCheck z;
                 label = ends .does z ∙ tells .label;
                 value = λ n d. ends .value z n (sym (ends .does z) ∙ ap labelOf d);
                 guards = guards;

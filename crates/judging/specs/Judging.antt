@@ -6,7 +6,7 @@ use mathlib.Core.List.{List}
 use lib.Dec.{eqb}
 use lib.ListN.{length, getD}
 use Rattle.value.specs.declared.Value.the-variants.{Present}
-use Rattle.table.specs.Checks.{Check, refuseIf, firstOf, refusalCheck}
+use Rattle.table.specs.Checks.{passes, firstOf, refusalCheck}
 use Rattle.table.specs.Tables.{Table, kindAt}
 use Rattle.table.specs.Nodes.{isGuard}
 use Rattle.choice.specs.declared.Does.{Does}
@@ -14,7 +14,6 @@ use Rattle.choice.specs.declared.Does.the-variants.{Acting}
 use Rattle.choice.specs.Marking.{isMarked, isIn}
 use Rattle.choice.specs.Outcomes.{labelOf}
 use Rattle.steps.specs.Acts.{actChecks, chosen, valueFor}
-use Rattle.steps.proofs.Steps.{Able}
 use Rattle.judging.specs.declared.Judgement.{Judgement}
 
 -- there is a byte for each node, and none is marked
@@ -30,7 +29,7 @@ pub record Collected (t : Table) (gs marks : List ℕ) : Type 0 where
 
 -- choice c of agent x can be done: what it does, the word that it sets, and its guards
 pub record Decided (t : Table) (was : List ℕ) (x c : ℕ) (marks : List ℕ) (does : Does) (word : ℕ) : Type 0 where
-  pub able : Able t was x c
+  pub able : firstOf (actChecks t was x c) ≡ passes
   pub label : labelOf does ≡ chosen t was x c .label
   pub value : (n : ℕ) → does ≡ Acting n → valueFor t was x n ≡ Present word
   pub guards : Collected t (chosen t was x c .guards) marks

@@ -7,8 +7,7 @@ use lib.Dec.{ltb}
 use Rattle.value.specs.declared.Value.the-variants.{Present}
 use Rattle.table.specs.Checks.{firstOf, refusalCheck}
 use Rattle.table.specs.Tables.{Table}
-use Rattle.term.specs.Processes.{Label, acts}
-use Rattle.term.proofs.Inside.{Labelled}
+use Rattle.term.specs.Processes.{Label, acts, Labelled}
 use Rattle.choice.specs.declared.Does.{Does}
 use Rattle.choice.specs.declared.Does.the-variants.{Ticking}
 use Rattle.choice.specs.Outcomes.{labelOf}

@@ -5,7 +5,7 @@ use mathlib.Core.List.{List}
 use Rattle.table.specs.Tables.{Table}
 use Rattle.choice.specs.Turns.{Ready}
 use Rattle.state.specs.Layout.{zcOf, zpOf, lengthOf, residualOf}
-use Rattle.state.proofs.Formed.{Proper}
+use Rattle.state.specs.WellFormed.{Proper}
 
 -- 11 has passed for agent x, whose residual is so many of these words
 pub record Posed (t : Table) (scratch was : List ℕ) (x size : ℕ) (ws : List ℕ) : Type 0 where

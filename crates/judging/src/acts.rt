@@ -15,7 +15,7 @@ use table::Sizes;
 ghost use Prim.Native.Nat.{_<_};
 ghost use Rattle.table.specs.Tables.{table};
 ghost use Rattle.choice.specs.Turns.{Ready};
-ghost use Rattle.state.proofs.Formed.{Proper};
+ghost use Rattle.state.specs.WellFormed.{Proper};
 ghost use Rattle.judging.specs.Judging.{Unmarked, Judges};
 ghost use Rattle.judging.specs.Residuals.{Posed};
 

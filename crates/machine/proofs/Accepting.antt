@@ -22,7 +22,6 @@ use Rattle.accept.specs.Answers.{acceptanceCheck, Accepts}
 use Rattle.accept.proofs.Answering.{accepted-table, lent-table}
 use Rattle.state.specs.WellFormed.{wellFormed, loaded}
 use Rattle.state.proofs.Frames.{Small}
-use Rattle.state.proofs.Formed.{well-formed-read}
 use Rattle.wellformed.specs.Given.{CheckGiven, LoadGiven}
 use Rattle.steps.specs.Steps.{Outcome, stateChecks, loadOf}
 use Rattle.steps.proofs.Steps.{outcome-refused, accepted-load}
@@ -90,11 +89,7 @@ module _ (was : List ℕ) {bytes before after : List ℕ} {r : Acceptance} (a : 
             sizes = h ∙ a .sizes n e;
             size = let f = ap (λ (k : Sizes). k .nodes) h in let g = accepted-size in omega arith;
             ready = record { checked = accepted-is .table; counted = a .counted n e };
-            proper = record {
-              whole = accepted-is .state;
-              small = small;
-              formed = well-formed-read (tableOf bytes) (accepted-is .table .sound .shaped .limits) was (accepted-is .state) f;
-            };
+            proper = record { whole = accepted-is .state; small = small; formed = f };
           };
         }
 

@@ -11,7 +11,8 @@ use Rattle.basis.proofs.Numbers.{forEach-more, howMany-bound}
 use Rattle.table.specs.Checks.{Check, passes, refuses, refuseIf, firstOf, passed, numberOf}
 use Rattle.table.specs.Tables.{Table}
 use Rattle.table.specs.Sound.{Sound}
-use Rattle.state.proofs.Formed.{Proper}
+use Rattle.state.specs.WellFormed.{Proper}
+use Rattle.state.proofs.Formed.{proper-facts, facts-proper}
 use Rattle.steps.specs.Offers.{takes}
 use Rattle.steps.specs.Steps.{Outcome, outcome, outOfRange, ownChecks, takenBy, after, stepIn}
 use Rattle.steps.specs.Runs.{Progress, begun, ran, kindOf, agentOf, numberIn, added as addedTo}
@@ -92,7 +93,8 @@ module _ (t : Table) (schedule was bytes : List ℕ) where
               state = e .state ∙ ap (λ (o : Outcome). o .state) same-step;
               answers = (λ j. set (h .goes .answers j) i (numberOf (check-is j)));
             });
-            proper = subst (λ (v : List ℕ). Proper t v) (sym (e .state)) (step-proper t sound narrow s (h .proper) (kindOf schedule i) (agentOf schedule i) (numberIn schedule i));
+            proper = subst (λ (v : List ℕ). Proper t v) (sym (e .state)) (facts-proper t (sound .shaped .limits) (stepped s .state)
+                (step-proper t sound narrow s (proper-facts t (sound .shaped .limits) s (h .proper)) (kindOf schedule i) (agentOf schedule i) (numberIn schedule i)));
             within = added-within c i (h .within) r (taken-few l);
             same = length-set out i (numberOf (stepCheck r)) ∙ h .same;
           }

@@ -15,7 +15,7 @@ use Rattle.accept.specs.declared.Acceptance.the-variants.{Accepted, Refused}
 use Rattle.accept.specs.Answers.{acceptanceCheck}
 use Rattle.accept.proofs.Answering.{lent-table}
 use Rattle.choice.specs.Turns.{Ready}
-use Rattle.state.proofs.Formed.{Proper}
+use Rattle.state.specs.WellFormed.{Proper}
 use Rattle.steps.specs.Steps.{Outcome, stateChecks, stepIn, stepOf}
 use Rattle.steps.specs.Runs.{stepsOf, scheduleChecks, begun, ran, Progress, runOf}
 use Rattle.steps.proofs.Steps.{step-in}

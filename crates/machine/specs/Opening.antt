@@ -10,7 +10,7 @@ use Rattle.accept.specs.declared.Acceptance.{Acceptance}
 use Rattle.accept.specs.declared.Acceptance.the-variants.{Accepted}
 use Rattle.accept.specs.Answers.{acceptanceCheck}
 use Rattle.choice.specs.Turns.{Ready}
-use Rattle.state.proofs.Formed.{Proper}
+use Rattle.state.specs.WellFormed.{Proper}
 use Rattle.steps.specs.Steps.{stateChecks}
 
 -- a table, a state, and the words that hold the counts of its nodes

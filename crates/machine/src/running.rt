@@ -10,7 +10,7 @@ ghost use lib.ListN.{length};
 ghost use Rattle.table.specs.Checks.{firstOf, numberOf, refusalCheck};
 ghost use Rattle.table.specs.Tables.{table};
 ghost use Rattle.choice.specs.Turns.{Ready};
-ghost use Rattle.state.proofs.Formed.{Proper};
+ghost use Rattle.state.specs.WellFormed.{Proper};
 ghost use Rattle.steps.specs.Steps.{stepIn};
 ghost use Rattle.steps.specs.Runs.{stepsOf, kindOf, agentOf, numberIn, scheduleChecks, begun, ran};
 ghost use Rattle.machine.specs.Answers.{stepCheck, stepTaken, Steps, Goes};

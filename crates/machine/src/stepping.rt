@@ -15,7 +15,7 @@ ghost use Rattle.table.specs.Tables.{table};
 ghost use Rattle.term.specs.Acceptance.{stateWords};
 ghost use Rattle.choice.specs.Turns.{Ready};
 ghost use Rattle.state.specs.Layout.{zcOf, zpOf};
-ghost use Rattle.state.proofs.Formed.{Proper};
+ghost use Rattle.state.specs.WellFormed.{Proper};
 ghost use Rattle.steps.specs.Steps.{outOfRange, stepIn};
 ghost use Rattle.offering.specs.Passing.{Passing};
 ghost use Rattle.machine.specs.Answers.{Steps};

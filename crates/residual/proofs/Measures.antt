@@ -11,11 +11,11 @@ use lib.ListN.{length, getD, drop}
 use borrow.Author.Tests.{ltb-true, lt-ltb, le-ltb, ne-eqb, le-leb, lt-leb}
 use Rattle.basis.proofs.Tests.{lt-or-le, not-both, cond-cases}
 use Rattle.table.specs.Tables.{Table, firstRoot}
-use Rattle.term.specs.Terms.{Term, Seq, Par, Tick, Idle, Node, words, tickWord, idleWord}
+use Rattle.term.specs.Terms.{Term, Seq, Par, Tick, Idle, Node, words, tickWord, idleWord, Over}
 use Rattle.term.specs.Processes.{Process, seq, par, process, few, allFew, nodeProcess}
 use Rattle.term.specs.Choices.{actionCount, tickCount}
 use Rattle.term.proofs.Counting.{few-count}
-use Rattle.term.proofs.Words.{Over, words-some}
+use Rattle.term.proofs.Words.{words-some}
 use Rattle.accept.specs.declared.Counts.{Counts}
 use Rattle.accept.specs.Counts.{counts, Small, trueCounts, countsOf, seqCounts, parCounts}
 use Rattle.accept.specs.Scratch.{pairAt, Counted}

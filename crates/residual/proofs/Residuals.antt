@@ -10,11 +10,11 @@ use lib.Seq.{drop-drop, take-add, length-take-le}
 use Rattle.basis.proofs.Lists.{take-rest}
 use Rattle.table.specs.Tables.{Table, firstRoot}
 use Rattle.term.specs.declared.Mode.the-variants.{Any}
-use Rattle.term.specs.Terms.{Term, words}
+use Rattle.term.specs.Terms.{Term, words, Over}
 use Rattle.term.specs.Processes.{Derivation, process}
 use Rattle.term.specs.Choices.{count}
 use Rattle.term.proofs.Counting.{length-derivations}
-use Rattle.term.proofs.Words.{Over, whole-read}
+use Rattle.term.proofs.Words.{whole-read}
 use Rattle.choice.specs.declared.Gap.{Gap}
 use Rattle.choice.specs.Picks.{totalOf}
 use Rattle.choice.specs.Turns.{Ready}

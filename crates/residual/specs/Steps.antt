@@ -8,10 +8,9 @@ use lib.ListN.{length, drop}
 use Rattle.table.specs.Tables.{Table}
 use Rattle.term.specs.declared.Mode.{Mode}
 use Rattle.term.specs.declared.Mode.the-variants.{Actions, Ticks}
-use Rattle.term.specs.Terms.{Term, Tick, Node, words, seqWord, parWord}
+use Rattle.term.specs.Terms.{Term, Tick, Node, words, seqWord, parWord, Over}
 use Rattle.term.specs.Processes.{Derivation, join, process, allFew}
 use Rattle.term.specs.Choices.{count}
-use Rattle.term.proofs.Words.{Over}
 use Rattle.accept.specs.declared.Counts.{Counts}
 use Rattle.choice.specs.declared.Pick.{Pick}
 use Rattle.choice.specs.declared.Pick.the-variants.{LeftActs, RightActs, LeftTicks, RightTicks}

@@ -17,12 +17,12 @@ use Rattle.basis.proofs.Tests.{and-left, and-right, and-both, or-left, or-right
 use Rattle.table.specs.Tables.{Table, firstRoot}
 use Rattle.table.specs.Sound.{Limits}
 use Rattle.term.specs.Acceptance.{stateWords}
-use Rattle.term.specs.Terms.{Term, words, areTerms}
-use Rattle.term.proofs.Words.{Over, over-low, over-whole, whole-read}
+use Rattle.term.specs.Terms.{Term, words, areTerms, Over}
+use Rattle.term.proofs.Words.{over-low, over-whole, whole-read}
 use Rattle.state.specs.declared.Store.{Store}
 use Rattle.state.specs.declared.Store.the-variants.{Environment, Attributes, Entries}
 use Rattle.state.specs.Layout.{agentsAt, blockAt, keyLimit, residualWords, clockOf, markOf, wordOf, stampOf, zcOf, zpOf, lengthOf, residualOf, termIn}
-use Rattle.state.specs.WellFormed.{allZero, pairFormed, pendingFormed, residualFormed, agentFormed, wellFormed}
+use Rattle.state.specs.WellFormed.{allZero, pairFormed, pendingFormed, residualFormed, agentFormed, wellFormed, Proper}
 use Rattle.state.proofs.Places.{KeySet, Zc, Zp, Waits, Residual}
 use Rattle.state.proofs.Frames.{wordAt, Small}
 use Rattle.state.proofs.Residuals.{zero-at, at-zero, residual-length, residual-front, residual-rest, residual-reads, term-read}
@@ -73,8 +73,8 @@ pub record WellFormed (t : Table) (s : List ℕ) : Type 0 where
   pub clock : clockOf s ≤ 65535
   pub formed : Formed t (clockOf s) s
 
--- and of the right length, each word of 32 bits
-pub record Proper (t : Table) (s : List ℕ) : Type 0 where
+-- `Proper`, with the facts of a well-formed state
+pub record ProperFacts (t : Table) (s : List ℕ) : Type 0 where
   pub whole : length s ≡ stateWords
   pub small : Small s
   pub formed : WellFormed t s
@@ -129,7 +129,7 @@ module _ (t : Table) (s : List ℕ) (a : ℕ) where
 
 -- RESIDUALS
 module _ (t : Table) (few : firstRoot t ≤ 65532) (s : List ℕ) (whole : length s ≡ stateWords) (a : ℕ) (there : a < 32) where
-  residual-read : residualFormed t s a ≡ true → ResidualFormed t s a
+  pub residual-read : residualFormed t s a ≡ true → ResidualFormed t s a
   unfolding residualFormed
   residual-read e =
       let n = lengthOf s a in
@@ -155,7 +155,7 @@ module _ (t : Table) (few : firstRoot t ≤ 65532) (s : List ℕ) (whole : lengt
       let e = term-read s a whole there T (over-low t few T o) m l r in
       record { over = rw e o; long = rw e l; short = omega arith; reads = rw e r }
 
-  residual-test : ResidualFormed t s a → residualFormed t s a ≡ true
+  pub residual-test : ResidualFormed t s a → residualFormed t s a ≡ true
   unfolding residualFormed
   residual-test r =
       let n = lengthOf s a in
@@ -249,3 +249,11 @@ module _ (t : Table) (limits : Limits (t .sizes)) (s : List ℕ) (whole : length
 
   pub well-formed-iff : (wellFormed t s ≡ true) ↔ WellFormed t s
   well-formed-iff = (well-formed-read, well-formed-test)
+
+-- PROPER WORDS
+module _ (t : Table) (limits : Limits (t .sizes)) (s : List ℕ) where
+  pub proper-facts : Proper t s → ProperFacts t s
+  proper-facts p = record { whole = p .whole; small = p .small; formed = well-formed-read t limits s (p .whole) (p .formed) }
+
+  pub facts-proper : ProperFacts t s → Proper t s
+  facts-proper p = record { whole = p .whole; small = p .small; formed = well-formed-test t limits s (p .whole) (p .formed) }

@@ -21,7 +21,7 @@ use Rattle.state.specs.declared.Store.the-variants.{Environment, Attribu
 use Rattle.state.specs.Layout.{blockAt, keyLimit, residualWords, clockAt, clockOf, stampOf, termIn, put, addKey, dropKey}
 use Rattle.state.proofs.Places.{settled, Place, KeySet, Clock, Agents, Mark, Word, Waits, Length, Residual, placeAt, Inside, placeAgent, storeAgent, same, same-one, place-bound}
 use Rattle.state.proofs.Frames.{wordAt, Small, SameAt, set-small, set-other, set-here, set-settled, set-word, put-other, put-word, put-mark, put-length, put-small, term-same}
-use Rattle.state.proofs.Formed.{PairFormed, SetFormed, ResidualFormed, There, highestIn, keysIn, Formed, Proper}
+use Rattle.state.proofs.Formed.{PairFormed, SetFormed, ResidualFormed, There, highestIn, keysIn, Formed, ProperFacts}
 
 -- WHAT STAYS where the words stay
 pub pair-kept : (s u : List ℕ) (store : Store) (highest keys k : ℕ) → SameAt u s (Mark store k) → SameAt u s (Word store k) → PairFormed s store highest keys k → PairFormed u store highest keys k
@@ -154,12 +154,12 @@ pub record Kept (t : Table) (c n : ℕ) (was s : List ℕ) : Type 0 where
   pub formed : Formed t c s
   pub stamps : (a k : ℕ) → k < keyLimit → 0 < stampOf was a k → 0 < stampOf s a k
 
-pub kept-proper : (t : Table) (c : ℕ) (was s : List ℕ) → c ≤ 65535 → Kept t c c was s → Proper t s
+pub kept-proper : (t : Table) (c : ℕ) (was s : List ℕ) → c ≤ 65535 → Kept t c c was s → ProperFacts t s
 kept-proper t c was s l h =
     record { whole = h .whole; small = h .small; formed = record { clock = rw (h .clock) l; formed = rw (h .clock) (h .formed) } }
 
 module _ (t : Table) (limits : Limits (t .sizes)) (was : List ℕ) where
-  pub kept-start : Proper t was → Kept t (clockOf was) (clockOf was) was was
+  pub kept-start : ProperFacts t was → Kept t (clockOf was) (clockOf was) was was
   kept-start p = record { whole = p .whole; small = p .small; clock = refl; formed = p .formed .formed; stamps = λ a k l h. h }
 
   module _ (c n : ℕ) (s : List ℕ) (h : Kept t c n was s) where

@@ -19,15 +19,14 @@ use Rattle.value.specs.declared.Value.the-variants.{Absent}
 use Rattle.table.specs.Tables.{Table, startAt}
 use Rattle.table.specs.Sound.{Limits}
 use Rattle.term.specs.Acceptance.{stateWords}
-use Rattle.term.specs.Terms.{Node, words}
-use Rattle.term.proofs.Words.{Over}
+use Rattle.term.specs.Terms.{Node, words, Over}
 use Rattle.state.specs.declared.Store.{Store}
 use Rattle.state.specs.Layout.{agentsAt, blockAt, lengthAt, residualAt, residualWords, keyLimit, clockOf, markOf, lengthOf, termIn, valueIn}
 use Rattle.state.specs.WellFormed.{started, loaded}
 use Rattle.state.proofs.Places.{Place, KeySet, Clock, Agents, Mark, Word, Waits, Length, Residual, placeAt, Inside, placeAgent, same, other-agent, past-agent, placed}
 use Rattle.state.proofs.Frames.{wordAt, Small, SameAt, set-small, set-other, set-here}
 use Rattle.state.proofs.Residuals.{term-read}
-use Rattle.state.proofs.Formed.{WellFormed, Proper, residual-formed}
+use Rattle.state.proofs.Formed.{WellFormed, ProperFacts, residual-formed}
 
 abbrev zeros : ℕ → List ℕ
 zeros n = replicate n 0
@@ -161,5 +160,5 @@ module _ (t : Table) where
           };
         }
 
-    pub loaded-proper : Proper t (loaded t)
+    pub loaded-proper : ProperFacts t (loaded t)
     loaded-proper = record { whole = loaded-length; small = loaded-small; formed = formed }

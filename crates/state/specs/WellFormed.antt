@@ -1,9 +1,10 @@
 -- Refusal 9, and the state that load leaves.
-use Prim.Native.Nat.{ℕ, _^_}
+use Prim.Native.Nat.{ℕ, _^_, _<_}
+use mathlib.Core.Path.{_≡_}
 use mathlib.Core.Bool.{Bool, true, cond, not, _&&_, _||_}
 use mathlib.Core.List.{List, [], _∷_}
 use lib.Dec.{ltb, leb, eqb}
-use lib.ListN.{getD, set, take, drop, replicate}
+use lib.ListN.{length, getD, set, take, drop, replicate}
 use Rattle.basis.specs.Numbers.{every, forEach}
 use Rattle.basis.specs.KeySets.{has}
 use Rattle.table.specs.Tables.{Table, startAt}
@@ -50,6 +51,12 @@ module _ (t : Table) (s : List ℕ) where
       && (every (pairFormed Environment 1 (t .sizes .environment)) keyLimit
       && (every agentFormed (t .sizes .agents)
       && allZero (drop (blockAt (t .sizes .agents)) s))))
+
+-- the words of a state: of the right length, each of 32 bits, and well formed
+pub record Proper (t : Table) (s : List ℕ) : Type 0 where
+  pub whole : length s ≡ stateWords
+  pub small : (i : ℕ) → getD s i 0 < 2 ^ 32
+  pub formed : wellFormed t s ≡ true
 
 -- LOAD: clock 0, A, for each agent length 1 and the node that its root names; every other word is 0
 abbrev pub started : Table → ℕ → List ℕ → List ℕ

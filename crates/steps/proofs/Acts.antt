@@ -15,12 +15,12 @@ use Rattle.basis.proofs.Tests.{cond-cases, same-or-other}
 use Rattle.table.specs.Tables.{Table, kindAt, pAt}
 use Rattle.table.specs.Sound.{Sound}
 use Rattle.table.proofs.Promises.{attribute-set-operands, stigmergy-set-operands, environment-set-operands}
-use Rattle.term.specs.Terms.{words, Idle}
-use Rattle.term.specs.Processes.{Label, ticks, acts, Derivation, derivation}
+use Rattle.term.specs.Terms.{words, Idle, Over}
+use Rattle.term.specs.Processes.{Label, ticks, acts, Derivation, derivation, ActionNode}
 use Rattle.term.specs.Acceptance.{stateWords}
-use Rattle.term.proofs.Words.{Low, Over}
+use Rattle.term.proofs.Words.{Low}
 use Rattle.term.proofs.Members.{place-in}
-use Rattle.term.proofs.Inside.{ActionNode, Inside as InsideTable, derivation-inside}
+use Rattle.term.proofs.Inside.{Inside as InsideTable, derivation-inside}
 use Rattle.state.specs.declared.Store.{Store}
 use Rattle.state.specs.declared.Store.the-variants.{Environment, Attributes, Entries}
 use Rattle.state.specs.Layout.{clockAt, zcAt, zpAt, keyLimit, residualWords, zcOf, zpOf, termIn, put, addKey}

@@ -18,17 +18,17 @@ use Rattle.table.specs.Tables.{Table, kindAt, pAt, qAt}
 use Rattle.table.specs.Sound.{Limits, Sound}
 use Rattle.table.proofs.Promises.{attribute-set-operands, stigmergy-set-operands, environment-set-operands}
 use Rattle.term.specs.Acceptance.{stateWords}
-use Rattle.term.specs.Terms.{Term, words}
-use Rattle.term.specs.Processes.{Label, ticks, acts, Derivation}
-use Rattle.term.proofs.Inside.{ActionNode, Labelled, Inside as DerivationInside}
-use Rattle.term.proofs.Words.{Over, over-low, words-small}
+use Rattle.term.specs.Terms.{Term, words, Over}
+use Rattle.term.specs.Processes.{Label, ticks, acts, Derivation, ActionNode, Labelled}
+use Rattle.term.proofs.Inside.{Inside as DerivationInside}
+use Rattle.term.proofs.Words.{over-low, words-small}
 use Rattle.state.specs.declared.Store.{Store}
 use Rattle.state.specs.declared.Store.the-variants.{Environment, Attributes, Entries}
 use Rattle.state.specs.Layout.{blockAt, keyLimit, residualWords, clockOf, stampOf, wordOf, zcAt, zpAt, zcOf, put, addKey, dropKey}
 use Rattle.state.proofs.Places.{Place, KeySet, Zc, Zp, Clock, Agents, Mark, Word, Waits, Length, Residual, placeAt, Inside, placeAgent, other-agent, past-agent, placed}
 use Rattle.state.proofs.Frames.{wordAt, SameAt, put-mark, drop-other}
 use Rattle.state.proofs.Evaluation.{SmallValue, valueOf-small}
-use Rattle.state.proofs.Formed.{ResidualFormed, Proper, There, highestIn, keysIn, residual-formed}
+use Rattle.state.proofs.Formed.{ResidualFormed, ProperFacts, There, highestIn, keysIn, residual-formed}
 use Rattle.state.proofs.Keep.{Kept, kept-proper, kept-start, kept-later, kept-clock, kept-keys, kept-add, kept-drop, kept-put, pair-kept, set-kept, residual-kept, set-plusAll}
 use Rattle.steps.specs.Acts.{wordIn, nextStamp, leave, valueFor, writesEntry, guardsRead, labelReads, toConfirm, setKey, acted}
 use Rattle.steps.specs.Offers.{newer, takeEntry, hears, takes, answers, offer, offered, confirmed}
@@ -84,7 +84,7 @@ module _ (t : Table) (limits : Limits (t .sizes)) (was : List ℕ) where
     }
 
   -- OFFERS of x's entry for key k
-  module _ (proper : Proper t was) (x k : ℕ) (there : x < agents) (key : k < t .sizes .stigmergy) (entered : 0 < stampOf was x k) (asks : Bool) where
+  module _ (proper : ProperFacts t was) (x k : ℕ) (there : x < agents) (key : k < t .sizes .stigmergy) (entered : 0 < stampOf was x k) (asks : Bool) where
     abbrev now : ℕ
     now = clockOf was
 
@@ -124,7 +124,7 @@ module _ (t : Table) (limits : Limits (t .sizes)) (was : List ℕ) where
     offers-kept = forEach-keeps (offer t was x k asks) (Kept t now now was) agents offer-kept was (kept-start t limits was proper)
 
     -- the key then leaves one of x's sets
-    pub dropped-proper : (z : KeySet) → Proper t (dropKey (placeAt (Waits z x)) k (offered t was x k asks agents))
+    pub dropped-proper : (z : KeySet) → ProperFacts t (dropKey (placeAt (Waits z x)) k (offered t was x k asks agents))
     dropped-proper z = kept-proper t now was _ (proper .formed .clock) (kept-drop t limits was now now (offered t was x k asks agents) offers-kept z x k there)
 
 -- ACTS
@@ -132,7 +132,7 @@ word-small : (v : Value) → SmallValue v → wordIn v < 2 ^ 32
 word-small Absent h = omega arith
 word-small (Present v) h = h
 
-module _ (t : Table) (sound : Sound t) (bytes : (i : ℕ) → getD (t .operands) i 0 < 256) (was : List ℕ) (proper : Proper t was) (x : ℕ) (there : x < t .sizes .agents) where
+module _ (t : Table) (sound : Sound t) (bytes : (i : ℕ) → getD (t .operands) i 0 < 256) (was : List ℕ) (proper : ProperFacts t was) (x : ℕ) (there : x < t .sizes .agents) where
   limits : Limits (t .sizes)
   limits = sound .shaped .limits
 
@@ -198,7 +198,7 @@ module _ (t : Table) (sound : Sound t) (bytes : (i : ℕ) → getD (t .operands)
   label-set (acts n) h room = node-set n h room
 
   module _ (d : Derivation) (inside : DerivationInside t d) (room : writesEntry t was x (d .label) ≡ true → clockOf was < 65535) (short : length (words (d .leaving)) ≤ residualWords) where
-    pub acted-proper : Proper t (acted t was x d)
+    pub acted-proper : ProperFacts t (acted t was x d)
     unfolding acted
     acted-proper =
         let s = setKey t was x (d .label) in

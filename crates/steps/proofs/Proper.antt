@@ -20,7 +20,7 @@ use Rattle.state.specs.Layout.{dropKey}
 use Rattle.state.specs.WellFormed.{loaded}
 use Rattle.state.proofs.Places.{KeySet, Zc, Zp, Waits, placeAt}
 use Rattle.state.proofs.Frames.{wordAt, Small}
-use Rattle.state.proofs.Formed.{Proper, well-formed-read, well-formed-test}
+use Rattle.state.proofs.Formed.{ProperFacts, well-formed-read, well-formed-test}
 use Rattle.state.proofs.Load.{loaded-proper}
 use Rattle.steps.specs.Acts.{chosen, actChecks, acted}
 use Rattle.steps.specs.Offers.{offered}
@@ -32,11 +32,11 @@ use Rattle.steps.proofs.Acts.{chosen-inside}
 use Rattle.steps.proofs.Keep.{dropped-proper, acted-proper}
 
 -- STEPS
-module _ (t : Table) (sound : Sound t) (bytes : (i : ℕ) → getD (t .operands) i 0 < 256) (was : List ℕ) (proper : Proper t was) where
+module _ (t : Table) (sound : Sound t) (bytes : (i : ℕ) → getD (t .operands) i 0 < 256) (was : List ℕ) (proper : ProperFacts t was) where
   bounds : Limits (t .sizes)
   bounds = sound .shaped .limits
 
-  act-proper : (x c : ℕ) → x < t .sizes .agents → firstOf (actChecks t was x c) ≡ passes → Proper t (acted t was x (chosen t was x c))
+  act-proper : (x c : ℕ) → x < t .sizes .agents → firstOf (actChecks t was x c) ≡ passes → ProperFacts t (acted t was x (chosen t was x c))
   act-proper x c there e =
       let a = act-able t was x c .0 e in
       acted-proper t sound bytes was proper x there (chosen t was x c)
@@ -44,42 +44,42 @@ module _ (t : Table) (sound : Sound t) (bytes : (i : ℕ) → getD (t .operands)
 
   -- an offer of a key in one of x's sets
   offer-proper : (z : KeySet) (asks : Bool) (x k : ℕ) → x < t .sizes .agents → k < t .sizes .stigmergy → has (wordAt was (Waits z x)) k ≡ true
-      → Proper t (dropKey (placeAt (Waits z x)) k (offered t was x k asks (t .sizes .agents)))
+      → ProperFacts t (dropKey (placeAt (Waits z x)) k (offered t was x k asks (t .sizes .agents)))
   offer-proper z asks x k there key e = dropped-proper t bounds was proper x k there key (proper .formed .formed .sets z x there .entered k (omega arith) e) asks z
 
-  after-proper : (kind x number : ℕ) → InRange t kind x number → firstOf (ownChecks t was kind x number) ≡ passes → Proper t (after t was kind x number)
+  after-proper : (kind x number : ℕ) → InRange t kind x number → firstOf (ownChecks t was kind x number) ≡ passes → ProperFacts t (after t was kind x number)
   after-proper zero x c r e = act-proper x c (r .agent-below) e
   after-proper (suc zero) x k r e = offer-proper Zp false x k (r .agent-below) (r .key-below (omega arith)) (propagates t was x k .0 e)
   after-proper (suc (suc kind)) x k r e = offer-proper Zc true x k (r .agent-below) (r .key-below (omega arith)) (confirms t was x k .0 e)
 
   -- a step, done or refused
-  pub step-proper : (kind x number : ℕ) → Proper t (stepIn t was kind x number .state)
+  pub step-proper : (kind x number : ℕ) → ProperFacts t (stepIn t was kind x number .state)
   unfolding stepIn outcome
   step-proper kind x number = by (firstOf (refuseIf 10 (outOfRange t was kind x number) ∷ ownChecks t was kind x number)) refl
     where
       by : (c : Check) → firstOf (refuseIf 10 (outOfRange t was kind x number) ∷ ownChecks t was kind x number) ≡ c
-          → Proper t (outcome c was (takenBy t was kind x number) (after t was kind x number) .state)
+          → ProperFacts t (outcome c was (takenBy t was kind x number) (after t was kind x number) .state)
       by passes e = let r = first-passes (refuseIf 10 (outOfRange t was kind x number)) (ownChecks t was kind x number) e in
           after-proper kind x number (in-range t was kind x number .0 (refuseIf-passes 10 (outOfRange t was kind x number) (r .0))) (r .1)
       by (refuses n place) e = proper
 
 -- THE STEPS OF A RUN
 pub ran-proper : (t : Table) → Sound t → ((i : ℕ) → getD (t .operands) i 0 < 256) → (schedule : List ℕ) (n : ℕ) (start : Progress)
-    → Proper t (start .state) → Proper t (ran t schedule n start .state)
+    → ProperFacts t (start .state) → ProperFacts t (ran t schedule n start .state)
 unfolding ran
 ran-proper t sound bytes schedule n start h =
     forEach-keeps (λ (i : ℕ) (p : Progress). added i p (stepIn t (p .state) (kindOf schedule i) (agentOf schedule i) (numberIn schedule i)))
-    (λ (p : Progress). Proper t (p .state)) n
+    (λ (p : Progress). ProperFacts t (p .state)) n
     (λ i l p q. step-proper t sound bytes (p .state) q (kindOf schedule i) (agentOf schedule i) (numberIn schedule i)) start h
 
 -- CALLS. A load that is done
-pub load-proper : (bytes : List ℕ) (stateLength scratch : ℕ) → firstOf (tableChecks bytes stateLength scratch) ≡ passes → Proper (tableOf bytes) (loaded (tableOf bytes))
+pub load-proper : (bytes : List ℕ) (stateLength scratch : ℕ) → firstOf (tableChecks bytes stateLength scratch) ≡ passes → ProperFacts (tableOf bytes) (loaded (tableOf bytes))
 load-proper bytes stateLength scratch e =
     let sound = passes-accepted bytes stateLength scratch e .table .sound in
     loaded-proper (tableOf bytes) (sound .shaped .limits) (start-process (tableOf bytes) sound)
 
 -- checks 1 to 9 pass of an accepted table and a proper state
-pub proper-passes : (bytes : List ℕ) (stateLength scratch : ℕ) → Accepted bytes stateLength scratch → (s : List ℕ) → Proper (tableOf bytes) s
+pub proper-passes : (bytes : List ℕ) (stateLength scratch : ℕ) → Accepted bytes stateLength scratch → (s : List ℕ) → ProperFacts (tableOf bytes) s
     → firstOf (stateChecks bytes s scratch) ≡ passes
 proper-passes bytes stateLength scratch a s p =
     state-checks bytes s scratch .1
@@ -93,7 +93,7 @@ module _ (bytes : List ℕ) (narrow : (i : ℕ) → getD bytes i 0 < 256) (was :
   pub checks-accepted : Accepted bytes (length was) scratch
   checks-accepted = state-checks bytes was scratch .0 e .0
 
-  pub checks-proper : Proper (tableOf bytes) was
+  pub checks-proper : ProperFacts (tableOf bytes) was
   checks-proper =
       let w = state-checks bytes was scratch .0 e in
       record { whole = w .0 .state; small = small; formed = well-formed-read table (w .0 .table .sound .shaped .limits) was (w .0 .state) (w .1) }
@@ -101,7 +101,7 @@ module _ (bytes : List ℕ) (narrow : (i : ℕ) → getD bytes i 0 < 256) (was :
   operands-narrow : (i : ℕ) → getD (tableOf bytes .operands) i 0 < 256
   operands-narrow i = rw (getD-drop (12 + sizesOf bytes .nodes) bytes i 0) (narrow (12 + sizesOf bytes .nodes + i))
 
-  pub step-checked : (kind x number : ℕ) → Proper (tableOf bytes) (stepIn (tableOf bytes) was kind x number .state)
+  pub step-checked : (kind x number : ℕ) → ProperFacts (tableOf bytes) (stepIn (tableOf bytes) was kind x number .state)
   step-checked = step-proper table (checks-accepted .table .sound) operands-narrow was checks-proper
 
   pub step-passes : (kind x number : ℕ) → firstOf (stateChecks bytes (stepIn (tableOf bytes) was kind x number .state) scratch) ≡ passes

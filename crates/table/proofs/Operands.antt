@@ -11,19 +11,9 @@ use Rattle.basis.proofs.Tests.{not-both, and-left, and-right, and-both, or-left
 use Rattle.table.specs.declared.Field.{Field}
 use Rattle.table.specs.declared.Field.the-variants.{Never, Zero, Attribute, Stigmergy, Environment, Party, Definition, Process, Guard, Expression, Value}
 use Rattle.table.specs.Tables.{Table, kindAt, pAt, qAt}
-use Rattle.table.specs.Nodes.{isNode, isProcess, isGuard, isExpression, fieldsAt, fits, fitting, leftNode, rightNode, names}
+use Rattle.table.specs.Nodes.{isNode, isProcess, isGuard, isExpression, fieldsAt, fits, fitting, leftNode, rightNode, names, LowerProcess, LowerGuard, LowerExpression}
 
 module _ (t : Table) where
-  -- x is lower than n, and a process, a guard, an expression
-  abbrev pub LowerProcess : ℕ → ℕ → Type 0
-  LowerProcess n x = (x < n) × (isProcess (kindAt t x) ≡ true)
-
-  abbrev pub LowerGuard : ℕ → ℕ → Type 0
-  LowerGuard n x = (x < n) × (isGuard (kindAt t x) ≡ true)
-
-  abbrev pub LowerExpression : ℕ → ℕ → Type 0
-  LowerExpression n x = (x < n) × (isExpression (kindAt t x) ≡ true)
-
   -- what a field of node n says of its number
   abbrev pub Holds : ℕ → Field → ℕ → Type 0
   Holds n Never x = ⊥
@@ -33,9 +23,9 @@ module _ (t : Table) where
   Holds n Environment x = x < t .sizes .environment
   Holds n Party x = x ≤ 2
   Holds n Definition x = x < t .sizes .definitions
-  Holds n Process x = LowerProcess n x
-  Holds n Guard x = LowerGuard n x
-  Holds n Expression x = LowerExpression n x
+  Holds n Process x = LowerProcess t n x
+  Holds n Guard x = LowerGuard t n x
+  Holds n Expression x = LowerExpression t n x
   Holds n Value x = Unit
 
   lower-fact : (n x : ℕ) (sort : Bool) → (ltb x n && sort) ≡ true → (x < n) × (sort ≡ true)

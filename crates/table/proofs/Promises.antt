@@ -17,12 +17,12 @@ use Rattle.table.specs.declared.Field.the-variants.{Never, Zero, Process
 use Rattle.table.specs.declared.Fields.{Fields}
 use Rattle.table.specs.Checks.{passes, refuseAt}
 use Rattle.table.specs.Tables.{Table, sizesOf, withinLimits, tableOf, kindAt, pAt, qAt, firstRoot, firstLinkRoot, firstAgentRoot, bodyAt, linkAt, startAt}
-use Rattle.table.specs.Nodes.{processRows, guardRows, expressionRows, lookup, fields, fieldsOf, fieldsHere, fieldsAt, rootNames, isProcess, isGuard, isExpression, inner, fitting, leftNode, rightNode, names, named, namesAgain, badNode}
+use Rattle.table.specs.Nodes.{processRows, guardRows, expressionRows, lookup, fields, fieldsOf, fieldsHere, fieldsAt, rootNames, isProcess, isGuard, isExpression, inner, fitting, leftNode, rightNode, names, named, namesAgain, badNode, LowerProcess, LowerGuard, LowerExpression}
 use Rattle.table.specs.Reach.{processNode, linkRoot, reachedFrom, wrongKey}
 use Rattle.table.specs.Sound.{Sound}
 use Rattle.table.proofs.Checks.{refuseAt-passes}
 use Rattle.table.proofs.Limits.{shaped}
-use Rattle.table.proofs.Operands.{LowerProcess, LowerGuard, LowerExpression, Holds, left-holds, right-holds, names-left}
+use Rattle.table.proofs.Operands.{Holds, left-holds, right-holds, names-left}
 use Rattle.table.proofs.Reaches.{reached-start, reached-named}
 
 -- bytes that checks 1 to 5 pass are a sound table

@@ -1,5 +1,6 @@
 -- Refusal 4: a node with a bad kind or operand.
-use Prim.Native.Nat.{ℕ}
+use Prim.Native.Nat.{ℕ, _<_}
+use mathlib.Core.Path.{_≡_}
 use mathlib.Core.Bool.{Bool, true, false, cond, not, _&&_, _||_}
 use mathlib.Core.List.{List, [], _∷_}
 use lib.Dec.{ltb, leb, eqb}
@@ -122,6 +123,16 @@ module _ (t : Table) where
   fits n Guard x = ltb x n && isGuard (kindAt t x)
   fits n Expression x = ltb x n && isExpression (kindAt t x)
   fits n Value x = true
+
+  -- x is lower than n, and a process, a guard, an expression
+  abbrev pub LowerProcess : ℕ → ℕ → Type 0
+  LowerProcess n x = (x < n) × (isProcess (kindAt t x) ≡ true)
+
+  abbrev pub LowerGuard : ℕ → ℕ → Type 0
+  LowerGuard n x = (x < n) × (isGuard (kindAt t x) ≡ true)
+
+  abbrev pub LowerExpression : ℕ → ℕ → Type 0
+  LowerExpression n x = (x < n) × (isExpression (kindAt t x) ≡ true)
 
   -- both fields of node n are as the list has them
   unfoldable pub fitting : ℕ → Bool

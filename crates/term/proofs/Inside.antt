@@ -11,26 +11,14 @@ use Rattle.basis.specs.Below.{below}
 use Rattle.basis.proofs.Below.{below-induct}
 use Rattle.table.specs.Tables.{Table, kindAt, pAt, qAt, firstRoot, bodyAt}
 use Rattle.table.specs.Sound.{Sound}
-use Rattle.table.proofs.Operands.{LowerProcess, LowerGuard}
+use Rattle.table.specs.Nodes.{LowerProcess, LowerGuard}
 use Rattle.table.proofs.Promises.{sequence-operands, guarded-operands, parallel-operands}
-use Rattle.term.specs.Terms.{Term, Seq, Par, Tick, Idle, Node}
+use Rattle.term.specs.Terms.{Term, Seq, Par, Tick, Idle, Node, Over}
 use Rattle.term.specs.Processes.{Process, idle, tick, act, choice, guarded, call, seq, par, Label, ticks, acts}
 use Rattle.term.specs.Processes.{Derivation, derivations, keep, isTick, isAction, under, before, besideRight, besideLeft, join, joins}
-use Rattle.term.specs.Processes.{byKind, nodeStep, nodeWith, defined, nodeProcess, process}
+use Rattle.term.specs.Processes.{byKind, nodeStep, nodeWith, defined, nodeProcess, process, ActionNode, GuardNode, Labelled}
 use Rattle.term.proofs.Each.{Each, each-in, each-append, each-map}
-use Rattle.term.proofs.Words.{Over}
 use Rattle.term.proofs.Members.{In}
-
--- node n is an action, or a guard
-abbrev pub ActionNode : Table → ℕ → Type 0
-ActionNode t n = (n < firstRoot t) × (2 ≤ kindAt t n) × (kindAt t n ≤ 4)
-
-abbrev pub GuardNode : Table → ℕ → Type 0
-GuardNode t n = LowerGuard t (firstRoot t) n
-
-abbrev pub Labelled : Table → Label → Type 0
-Labelled t ticks = Unit {0}
-Labelled t (acts n) = ActionNode t n
 
 pub record Inside (t : Table) (d : Derivation) : Type 0 where
   pub label : Labelled t (d .label)

@@ -12,7 +12,7 @@ use borrow.Author.Tests.{eqb-true, ltb-true, lt-ltb, ne-eqb}
 use Rattle.basis.proofs.Tests.{not-both, or-either, and-left, and-right}
 use Rattle.table.specs.Tables.{Table, kindAt, firstRoot}
 use Rattle.table.specs.Nodes.{isProcess}
-use Rattle.term.specs.Terms.{Term, Seq, Par, Tick, Idle, Node, words, fronted, termsOf, termOf, isOperator, isLeaf, areTerms}
+use Rattle.term.specs.Terms.{Term, Seq, Par, Tick, Idle, Node, words, fronted, termsOf, termOf, isOperator, isLeaf, areTerms, Over}
 
 -- a term whose node numbers are no other words
 abbrev pub Low : Term → Type 0
@@ -21,14 +21,6 @@ Low (Par P Q) = Low P × Low Q
 Low Tick = Unit {0}
 Low Idle = Unit {0}
 Low (Node n) = n < 65532
-
--- a term over the table's process nodes
-abbrev pub Over : Table → Term → Type 0
-Over t (Seq P Q) = Over t P × Over t Q
-Over t (Par P Q) = Over t P × Over t Q
-Over t Tick = Unit {0}
-Over t Idle = Unit {0}
-Over t (Node n) = (n < firstRoot t) × (isProcess (kindAt t n) ≡ true)
 
 pub over-low : (t : Table) → firstRoot t ≤ 65532 → (T : Term) → Over t T → Low T
 over-low t r (Seq P Q) o = (over-low t r P (o .0), over-low t r Q (o .1))

@@ -1,11 +1,12 @@
 -- Processes, and their derivations in the paper's order.
-use Prim.Native.Nat.{ℕ}
+use Prim.Native.Nat.{ℕ, _<_, _≤_}
 use mathlib.Core.Bool.{Bool, true, false, not, _&&_}
 use mathlib.Core.List.{List, [], _∷_, _++_, map}
 use lib.Dec.{leb}
 use lib.ListN.{getD, length}
 use Rattle.basis.specs.Below.{below}
 use Rattle.table.specs.Tables.{Table, kindAt, pAt, qAt, firstRoot, bodyAt}
+use Rattle.table.specs.Nodes.{LowerGuard}
 use Rattle.term.specs.Terms.{Term, Seq, Par, Tick, Idle, Node}
 
 -- A tree of nodes, with calls opened: `act n` is the action at node n, `guarded g P` has the guard at node g, `call d P` calls definition d,
@@ -129,3 +130,15 @@ module _ (t : Table) where
   allFew Tick = true
   allFew Idle = true
   allFew (Node n) = few (nodeProcess n)
+
+-- node n is an action of the table, or a guard
+abbrev pub ActionNode : Table → ℕ → Type 0
+ActionNode t n = (n < firstRoot t) × (2 ≤ kindAt t n) × (kindAt t n ≤ 4)
+
+abbrev pub GuardNode : Table → ℕ → Type 0
+GuardNode t n = LowerGuard t (firstRoot t) n
+
+-- what is done is a tick, or an action of the table
+abbrev pub Labelled : Table → Label → Type 0
+Labelled t ticks = Unit {0}
+Labelled t (acts n) = ActionNode t n

@@ -5,7 +5,7 @@ use mathlib.Core.List.{List, [], _∷_, _++_}
 use lib.Dec.{eqb, ltb}
 use lib.ListN.{getD, drop}
 use Rattle.table.specs.Tables.{Table, kindAt, firstRoot}
-use Rattle.table.specs.Nodes.{isProcess}
+use Rattle.table.specs.Nodes.{isProcess, LowerProcess}
 
 pub data Term : Type 0 where
   Seq Par : Term → Term → Term
@@ -49,6 +49,14 @@ termsOf (w ∷ ws) = fronted w (termsOf ws)
 -- the term that some words begin with: it undoes `words`
 abbrev pub termOf : List ℕ → Term
 termOf ws = getD (termsOf ws) 0 Idle
+
+-- a term over the table's process nodes
+abbrev pub Over : Table → Term → Type 0
+Over t (Seq P Q) = Over t P × Over t Q
+Over t (Par P Q) = Over t P × Over t Q
+Over t Tick = Unit {0}
+Over t Idle = Unit {0}
+Over t (Node n) = LowerProcess t (firstRoot t) n
 
 module _ (t : Table) where
   -- a word that is an operator, and one that is a term by itself: tick, idle or a process node

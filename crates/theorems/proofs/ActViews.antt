@@ -13,9 +13,8 @@ use Rattle.basis.proofs.KeySets.{has-plus}
 use Rattle.basis.proofs.Tests.{same-or-other, eqb-swap}
 use Rattle.agreement.specs.Moves.{Move, quiet, write, moved}
 use Rattle.table.specs.Tables.{Table, kindAt, pAt}
-use Rattle.term.specs.Processes.{Label, ticks, acts, Derivation}
+use Rattle.term.specs.Processes.{Label, ticks, acts, Derivation, ActionNode, Labelled}
 use Rattle.term.specs.Acceptance.{stateWords}
-use Rattle.term.proofs.Inside.{ActionNode, Labelled}
 use Rattle.state.specs.declared.Store.{Store}
 use Rattle.state.specs.declared.Store.the-variants.{Entries}
 use Rattle.state.specs.Layout.{keyLimit, wordOf, stampOf, zpOf}

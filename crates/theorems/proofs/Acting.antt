@@ -19,11 +19,11 @@ use Rattle.value.specs.declared.Value.{Value}
 use Rattle.value.specs.declared.Value.the-variants.{Absent, Present}
 use Rattle.table.specs.Tables.{Table, kindAt, pAt, qAt}
 use Rattle.term.specs.Terms.{Term, Idle, words}
-use Rattle.term.specs.Processes.{Label, ticks, acts, Derivation, derivation, allFew}
+use Rattle.term.specs.Processes.{Label, ticks, acts, Derivation, derivation, allFew, ActionNode, Labelled}
 use Rattle.term.specs.Acceptance.{stateWords}
 use Rattle.term.specs.Accepted.{Checked}
 use Rattle.term.proofs.Words.{Low, over-low}
-use Rattle.term.proofs.Inside.{ActionNode, Labelled, Inside as InsideTable, derivation-inside}
+use Rattle.term.proofs.Inside.{Inside as InsideTable, derivation-inside}
 use Rattle.state.specs.declared.Store.{Store}
 use Rattle.state.specs.declared.Store.the-variants.{Environment, Attributes, Entries}
 use Rattle.state.specs.Layout.{clockAt, zcAt, zpAt, keyLimit, residualWords, clockOf, zcOf, zpOf, termIn, put, addKey}

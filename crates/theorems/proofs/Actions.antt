@@ -12,11 +12,11 @@ use lib.ListN.{getD}
 use borrow.Author.Tests.{lt-ltb}
 use Rattle.table.specs.Tables.{Table, kindAt, pAt, qAt}
 use Rattle.table.specs.Sound.{Sound}
-use Rattle.table.proofs.Operands.{LowerExpression}
+use Rattle.table.specs.Nodes.{LowerExpression}
 use Rattle.table.proofs.Promises.{attribute-set-operands, stigmergy-set-operands, environment-set-operands}
-use Rattle.term.specs.Processes.{Label, ticks, acts, Derivation}
+use Rattle.term.specs.Processes.{Label, ticks, acts, Derivation, ActionNode, GuardNode, Labelled}
 use Rattle.term.proofs.Each.{Each}
-use Rattle.term.proofs.Inside.{ActionNode, GuardNode, Labelled, Inside}
+use Rattle.term.proofs.Inside.{Inside}
 use Rattle.state.specs.declared.Store.the-variants.{Entries}
 use Rattle.state.specs.Layout.{keyLimit, wordOf, stampOf}
 use Rattle.state.specs.Evaluation.{holds}

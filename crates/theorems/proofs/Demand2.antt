@@ -20,7 +20,7 @@ use Rattle.state.specs.declared.Store.the-variants.{Environment, Attributes, En
 use Rattle.state.specs.Layout.{keyLimit, stampOf, valueIn}
 use Rattle.state.proofs.Places.{KeySet, Zc, Zp, Waits}
 use Rattle.state.proofs.Frames.{wordAt}
-use Rattle.state.proofs.Formed.{WellFormed, Proper, There}
+use Rattle.state.proofs.Formed.{WellFormed, ProperFacts, There}
 use Rattle.state.proofs.Exact.{show-exact}
 use Rattle.steps.specs.Acts.{choices, chosen, acted}
 use Rattle.steps.specs.Steps.{Outcome, done, takenBy, after, ownChecks, stepOf}
@@ -147,7 +147,7 @@ module _ (bytes s : List ℕ) (scratch : ℕ) (ready : Ready bytes s scratch) wh
   kept : (s′ : List ℕ) (kind x number taken : ℕ) → stepOf bytes s scratch kind x number ≡ done taken s′ → State t s′
   kept s′ kind x number taken e =
       let f = ap (λ (o : Outcome). o .state) (sym (step-in bytes s scratch kind x number (ready .passed)) ∙ e) in
-      state-proper t s′ limits .1 (subst (Proper t) f (step-checked bytes (ready .small) s (ready .state .narrow) scratch (ready .passed) kind x number))
+      state-proper t s′ limits .1 (subst (ProperFacts t) f (step-checked bytes (ready .small) s (ready .state .narrow) scratch (ready .passed) kind x number))
 
   exactly : (s′ : List ℕ) (kind x number taken : ℕ) →
       (stepOf bytes s scratch kind x number ≡ done taken s′) ↔ (State t s′ × Allowed t (systemOf s) (systemOf s′) kind x number taken)

@@ -26,7 +26,7 @@ use Rattle.state.specs.declared.Store.the-variants.{Environment, Attributes, En
 use Rattle.state.specs.Layout.{keyLimit}
 use Rattle.state.specs.WellFormed.{loaded}
 use Rattle.state.proofs.Places.{Zc, Zp}
-use Rattle.state.proofs.Formed.{Proper, well-formed-read, well-formed-test}
+use Rattle.state.proofs.Formed.{ProperFacts, well-formed-read, well-formed-test}
 use Rattle.state.proofs.Load.{loaded-clock, loaded-mark, loaded-value, loaded-set, loaded-term}
 use Rattle.steps.specs.Steps.{Outcome, loadOf, stepOf}
 use Rattle.steps.proofs.Proper.{load-proper, proper-passes}
@@ -37,7 +37,7 @@ use Rattle.theorems.specs.Demand2.{Bytes, Words, State, Same, Ready}
 use Rattle.theorems.proofs.Reading.{tuple}
 
 module _ (t : Table) (s : List ℕ) (limits : Limits (t .sizes)) where
-  pub state-proper : State t s ↔ Proper t s
+  pub state-proper : State t s ↔ ProperFacts t s
   state-proper = (
     λ h. record { whole = h .whole; small = h .narrow; formed = well-formed-read t limits s (h .whole) (h .formed) },
     λ p. record { whole = p .whole; narrow = p .small; formed = well-formed-test t limits s (p .whole) (p .formed) },

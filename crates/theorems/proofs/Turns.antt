@@ -15,9 +15,8 @@ use Rattle.agreement.specs.Moves.{Move, quiet, write, propagate, confirm, moved
 use Rattle.agreement.specs.History.{Numbered, entriesOf}
 use Rattle.table.specs.Tables.{Table, tableOf, kindAt, pAt}
 use Rattle.table.proofs.Promises.{stigmergy-set-operands}
-use Rattle.term.specs.Processes.{Label, ticks, acts}
+use Rattle.term.specs.Processes.{Label, ticks, acts, ActionNode, Labelled}
 use Rattle.term.specs.Acceptance.{stateWords}
-use Rattle.term.proofs.Inside.{ActionNode, Labelled}
 use Rattle.state.specs.declared.Store.the-variants.{Entries}
 use Rattle.state.specs.Layout.{keyLimit, clockOf, stampOf}
 use Rattle.state.proofs.Places.{Zp, Zc, Clock}

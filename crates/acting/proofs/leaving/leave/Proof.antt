@@ -1,10 +1,10 @@
 -- `leave` meets its contract. Assumes nothing.
-use Prim.Native.Nat.{ℕ, _+_, _-_, _≤_}
+use Prim.Native.Nat.{ℕ, _+_, _-_}
 use mathlib.Core.Path.{ap}
 use lib.ListN.{getD}
 use native.Mathlib.Omega.{arith}
 use denote.Ref.{now}
-use Rattle.table.specs.Tables.{Table, table, firstRoot}
+use Rattle.table.specs.Tables.{Table, table}
 use Rattle.acting.proofs.Lent.{lends, left-size, left}
 use borrow.Author.Needs.{needs}
 use Rattle.acting.proofs.leaving.leave.Statement.{statement}
@@ -12,9 +12,6 @@ use Rattle.acting.proofs.leaving.leave.Tie as tie
 
 abbrev tb : tie.Start → Table
 tb a = table (a .args .sizes) (now (a .args .kinds)) (now (a .args .operands))
-
-few : (a : tie.Start) → firstRoot (tb a) ≤ 65532
-few a = omega (arith, a .pre .0 .checked .sound .shaped .limits .nodes)
 
 length-at-requires : tie.Need-length-at-requires
 length-at-requires c κs = search needs
@@ -50,13 +47,13 @@ rewrite-requires : tie.Need-rewrite-requires
 rewrite-requires c κs =
     let a = c .before .before .before .before .before .before .before .before in
     let r = c .before .before .residual-at .result in
-    (a .pre .0, lends (tb a) (few a) (now (a .args .state)) (a .args .agent) (a .args .c) (a .pre .1) r (r + 63 - r) _ (c .before .before .residual-at .ensures .is) (omega arith) (ap (λ (i : ℕ). getD (now (a .args .state)) i 0) (c .before .before .before .length-at .ensures .is)))
+    (a .pre .0, lends (tb a) (now (a .args .state)) (a .args .agent) (a .args .c) (a .pre .1) r (r + 63 - r) _ (c .before .before .residual-at .ensures .is) (omega arith) (ap (λ (i : ℕ). getD (now (a .args .state)) i 0) (c .before .before .before .length-at .ensures .is)))
 
 cast-state : tie.Need-cast-state
 cast-state c =
     let a = c .before .before .before .before .before .before .before .before .before .before .before in
     let r = c .before .before .before .before .before .residual-at .result in
-    omega (arith, left-size (tb a) (few a) (now (a .args .state)) (a .args .agent) (a .args .c) (a .pre .1) r (r + 63 - r) _ (c .before .before .before .before .before .residual-at .ensures .is) (omega arith) (ap (λ (i : ℕ). getD (now (a .args .state)) i 0) (c .before .before .before .before .before .before .length-at .ensures .is)) _ _ (c .before .before .rewrite .ensures))
+    omega (arith, left-size (tb a) (now (a .args .state)) (a .args .agent) (a .args .c) (a .pre .1) r (r + 63 - r) _ (c .before .before .before .before .before .residual-at .ensures .is) (omega arith) (ap (λ (i : ℕ). getD (now (a .args .state)) i 0) (c .before .before .before .before .before .before .length-at .ensures .is)) _ _ (c .before .before .rewrite .ensures))
 
 mul-state : tie.Need-mul-state
 mul-state c = search needs
@@ -71,7 +68,7 @@ returns : tie.Need-returns
 returns c =
     let a = c .before .before .before .before .before .before .before .before .before .before .before in
     let r = c .before .before .before .before .before .residual-at .result in
-    left (tb a) (few a) (now (a .args .state)) (a .args .agent) (a .args .c) (a .pre .1) r (r + 63 - r) _ (c .before .before .before .before .before .residual-at .ensures .is) (omega arith) (ap (λ (i : ℕ). getD (now (a .args .state)) i 0) (c .before .before .before .before .before .before .length-at .ensures .is)) _ _ (c .before .before .rewrite .ensures) _ (c .before .before .before .before .before .before .length-at .ensures .is)
+    left (tb a) (now (a .args .state)) (a .args .agent) (a .args .c) (a .pre .1) r (r + 63 - r) _ (c .before .before .before .before .before .residual-at .ensures .is) (omega arith) (ap (λ (i : ℕ). getD (now (a .args .state)) i 0) (c .before .before .before .before .before .before .length-at .ensures .is)) _ _ (c .before .before .rewrite .ensures) _ (c .before .before .before .before .before .before .length-at .ensures .is)
 
 pub leave-spec : {M : Type 1} → statement M
 leave-spec =
