@@ -1,6 +1,6 @@
 -- What load and then run come to, and that the state of a done run can be printed.
 -- Assumes nothing.
-use Prim.Native.Nat.{ℕ, _+_, _<_, _≤_}
+use Prim.Native.Nat.{ℕ, _+_, _<_}
 use mathlib.Core.Path.{_≡_, sym, ap, subst, _∙_}
 use mathlib.Core.List.{List}
 use native.Mathlib.Omega.{arith}
@@ -18,9 +18,8 @@ use Rattle.steps.proofs.Proper.{ran-proper, load-proper}
 use Rattle.term.proofs.Acceptance.{accepted-passes}
 use Rattle.machine.specs.declared.Loaded.{Loaded}
 use Rattle.machine.specs.declared.Loaded.the-variants.{Done as LoadDone, Refused as LoadRefused}
-use Rattle.machine.specs.declared.Totals.{Totals}
 use Rattle.machine.specs.declared.Ran.{Ran}
-use Rattle.machine.specs.declared.Ran.the-variants.{Done as RunDone, Refused as RunRefused}
+use Rattle.machine.specs.declared.Ran.the-variants.{Refused as RunRefused}
 use Rattle.machine.specs.Answers.{loadCheck, runCheck, Loads, Runs}
 use Rattle.labs_show.specs.Lines.{Fleet}
 use Rattle.labs_show.specs.Rehearsal.{rehearsed, Rehearses}
