@@ -2,8 +2,10 @@
 
 use reference::cases::{write_all, Case};
 use reference::equations::equations;
-use reference::generate::Mix;
+use reference::generate::{edges, Mix};
 use reference::on_deep_stack;
+use reference::schedule;
+use reference::show::show;
 use reference::stats::Stats;
 use reference::tables::{lines, tables};
 
@@ -42,4 +44,13 @@ fn the_stored_calls_are_made_here() {
         assert!((0..=20).all(|a| calls(a) > 0), "{stats}");
         assert!((10..=18).all(|a| stats.inside[a] > 0), "{stats}");
     });
+}
+
+#[test]
+fn the_stored_example_is_made_here() {
+    let mut input = edges::example().bytes();
+    input.extend(schedule::write(&edges::example_steps()));
+    let stored: &[u8] = include_bytes!("../../crates/labs_show/stdin");
+    assert_eq!(stored, input);
+    assert_eq!(include_str!("../../crates/labs_show/stdout"), show(&input));
 }

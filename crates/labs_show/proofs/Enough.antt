@@ -1,13 +1,13 @@
 -- No more than `inputBytes` bytes need be read: what follows them changes nothing.
 -- Assumes nothing.
-use Prim.Native.Nat.{ℕ, _+_, _*_, _-_, _<_, _≤_}
+use Prim.Native.Nat.{ℕ, _+_, _*_, _<_, _≤_}
 use mathlib.Core.Bool.{Bool, true, false, not, cond}
 use mathlib.Core.Path.{_≡_, refl, sym, ap, subst, _∙_}
 use mathlib.Core.List.{List, _++_}
 use native.Mathlib.Nat.{le-min}
 use native.Mathlib.Omega.{arith}
 use lib.Dec.{eqb, ltb, leb}
-use lib.ListN.{length, take, drop, getD, length-take, length-drop}
+use lib.ListN.{length, take, drop, length-take, length-drop}
 use lib.Seq.{length-take-le, take-all, getD-take, take-take}
 use borrow.Author.Tests.{lt-ltb, le-ltb, leb-true, leb-false, eqb-true, eqb-false}
 use Rattle.basis.specs.Bytes.{u16At}
@@ -16,9 +16,9 @@ use Rattle.table.specs.Measuring.{sizeChecks}
 use Rattle.table.specs.Tables.{sizesOf, withinLimits, tableOf}
 use Rattle.table.proofs.Checks.{first-later, first-refuses, append-later, append-refuses, refuseIf-false, refuseIf-true}
 use Rattle.table.proofs.Limits.{within-limits}
-use Rattle.term.specs.Acceptance.{lengthChecks, contentChecks}
+use Rattle.term.specs.Acceptance.{lengthChecks, contentChecks, tableChecks}
 use Rattle.state.specs.WellFormed.{loaded}
-use Rattle.steps.specs.Steps.{tableChecks, loadOf, stateChecks}
+use Rattle.steps.specs.Steps.{loadOf, stateChecks}
 use Rattle.steps.specs.Runs.{stepsOf, scheduleChecks, begun, Rehearsal, runOf}
 use Rattle.steps.proofs.Steps.{outcome-check}
 use Rattle.machine.proofs.Schedules.{schedule-odd, schedule-long}

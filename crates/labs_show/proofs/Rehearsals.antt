@@ -1,6 +1,6 @@
 -- What load and then run come to, and that the state of a done run can be printed.
 -- Assumes nothing.
-use Prim.Native.Nat.{ℕ, _+_, _<_, _≤_}
+use Prim.Native.Nat.{ℕ, _+_, _<_}
 use mathlib.Core.Path.{_≡_, sym, ap, subst, _∙_}
 use mathlib.Core.List.{List}
 use native.Mathlib.Omega.{arith}
@@ -10,7 +10,7 @@ use Rattle.table.specs.Checks.{passes, refuses, firstOf}
 use Rattle.table.specs.Tables.{Table, sizesOf, tableOf}
 use Rattle.table.specs.Sound.{Limits}
 use Rattle.state.specs.WellFormed.{loaded}
-use Rattle.state.proofs.Formed.{Proper}
+use Rattle.state.proofs.Formed.{ProperFacts}
 use Rattle.term.specs.Acceptance.{tableChecks}
 use Rattle.steps.specs.Steps.{Outcome, loadOf}
 use Rattle.steps.specs.Runs.{stepsOf, begun, ran, Progress, Rehearsal, runOf}
@@ -19,9 +19,8 @@ use Rattle.steps.proofs.Proper.{ran-proper, load-proper}
 use Rattle.term.proofs.Acceptance.{accepted-passes}
 use Rattle.machine.specs.declared.Loaded.{Loaded}
 use Rattle.machine.specs.declared.Loaded.the-variants.{Done as LoadDone, Refused as LoadRefused}
-use Rattle.machine.specs.declared.Totals.{Totals}
 use Rattle.machine.specs.declared.Ran.{Ran}
-use Rattle.machine.specs.declared.Ran.the-variants.{Done as RunDone, Refused as RunRefused}
+use Rattle.machine.specs.declared.Ran.the-variants.{Refused as RunRefused}
 use Rattle.machine.specs.Answers.{loadCheck, runCheck, Loads, Runs}
 use Rattle.labs_show.specs.Lines.{Fleet}
 use Rattle.labs_show.specs.Rehearsal.{rehearsed, Rehearses}
@@ -31,7 +30,7 @@ run-passes : (table was : List ℕ) (scratch : ℕ) (schedule answers : List ℕ
 unfolding runOf
 run-passes table was scratch schedule answers e = rw (runOf, e)
 
-proper-fleet : (t : Table) (s : List ℕ) → Limits (t .sizes) → Proper t s → Fleet s
+proper-fleet : (t : Table) (s : List ℕ) → Limits (t .sizes) → ProperFacts t s → Fleet s
 proper-fleet t s l p = let f = p .formed .formed .agents in record { whole = p .whole; agents = omega (arith, l .agents) }
 
 module _ (table schedule was : List ℕ) (scratch : ℕ) (answers : List ℕ) {r : Loaded} {mid : List ℕ} (l : Loads (loadOf table was scratch) r mid) where
@@ -54,7 +53,7 @@ module _ (table schedule was : List ℕ) (scratch : ℕ) (answers : List ℕ) {r
         subst (λ (p : Progress). Fleet (p .state)) (sym (run-passes table mid scratch schedule answers f))
         (proper-fleet (tableOf table) _ (a .table .sound .shaped .limits)
         (ran-proper (tableOf table) (a .table .sound) (λ i. rw (getD-drop (12 + sizesOf table .nodes) table i 0) (narrow (12 + sizesOf table .nodes + i))) schedule (stepsOf schedule) (begun mid answers)
-        (subst (λ (s : List ℕ). Proper (tableOf table) s) (sym start) (load-proper table (length was) scratch (accepted-passes table (length was) scratch a)))))
+        (subst (λ (s : List ℕ). ProperFacts (tableOf table) s) (sym start) (load-proper table (length was) scratch (accepted-passes table (length was) scratch a)))))
 
     pub loaded-runs : {later : ℕ} → later ≡ scratch → {x : Ran} {after bytes : List ℕ} → Runs (runOf table mid later schedule answers) x after bytes
         → Rehearses (rehearsed table schedule was scratch answers) x after bytes

@@ -1,13 +1,12 @@
 -- `labs_show::lines::to_decimal` meets its contract.
 -- Assumes nothing.
-use Prim.Native.Nat.{ℕ, suc, _+_, _-_, _^_, _<_, _≤_}
+use Prim.Native.Nat.{ℕ, _+_, _-_, _^_, _<_, _≤_}
 use mathlib.Core.Bool.{true, false}
-use mathlib.Core.Path.{_≡_, sym, ap, _∙_}
+use mathlib.Core.Path.{_≡_, ap}
 use native.Mathlib.Omega.{arith}
 use borrow.Author.Needs.{needs}
 use borrow.Author.Tests.{lt-ltb, le-ltb}
 use Rattle.value.specs.Values.{signed}
-use Rattle.labs_show.specs.declared.lines.Decimal.{Decimal}
 use Rattle.labs_show.specs.Lines.{decimalOf}
 use Rattle.labs_show.proofs.lines.to_decimal.Statement.{statement}
 use Rattle.labs_show.proofs.lines.to_decimal.Tie as tie

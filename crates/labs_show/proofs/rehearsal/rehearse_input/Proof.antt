@@ -1,6 +1,6 @@
 -- `labs_show::rehearsal::rehearse_input` meets its contract.
 -- Assumes nothing.
-use Prim.Native.Nat.{ℕ, _-_, _≤_}
+use Prim.Native.Nat.{ℕ, _-_}
 use mathlib.Core.Path.{_≡_, sym, ap, subst, _∙_}
 use mathlib.Core.List.{List}
 use denote.Ref.{now}
@@ -8,7 +8,6 @@ use lib.ListN.{length, take, drop}
 use lib.Seq.{length-take-le}
 use Rattle.basis.proofs.Lists.{take-rest}
 use Rattle.steps.specs.Runs.{Rehearsal}
-use Rattle.machine.specs.declared.Ran.{Ran}
 use Rattle.labs_show.specs.Input.{tableEnd}
 use Rattle.labs_show.specs.Rehearsal.{rehearsed, rehearsedInput, Rehearses}
 use borrow.Author.Needs.{needs}
