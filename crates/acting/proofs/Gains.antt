@@ -1,6 +1,6 @@
 -- The keys that an act's guards and expression read, and those of them that Zc gains.
 -- Assumes nothing.
-use Prim.Native.Nat.{ℕ, _+_, _<_}
+use Prim.Native.Nat.{ℕ, _+_, _^_, _<_}
 use mathlib.Core.Bool.{Bool, true, false, cond, _&&_, _||_}
 use mathlib.Core.Logic.{⊎-elim}
 use mathlib.Core.Path.{_≡_, refl, sym, ap, ap₂, _∙_}
@@ -23,7 +23,7 @@ use Rattle.state.specs.declared.Store.the-variants.{Entries}
 use Rattle.state.specs.Layout.{keyLimit, markAt, stampOf}
 use Rattle.state.specs.Evaluation.{reads}
 use Rattle.evaluation.specs.Reading.{Adds}
-use Rattle.evaluation.proofs.Adding.{adds-none, adds-same, adds-both}
+use Rattle.evaluation.proofs.Adding.{adds-none, adds-same, adds-both, all-adds}
 use Rattle.steps.specs.Acts.{guardsRead, labelReads, toConfirm}
 use Rattle.judging.specs.Judging.{Collected}
 use Rattle.acting.specs.Gaining.{hasEntry, markedReadsAt, markedReads, Gains}
@@ -39,8 +39,8 @@ module _ (t : Table) (marks : List ℕ) (n w : ℕ) (guard : Bool) (is : guard �
   counts : (b : Bool) → (guard && isMarked marks n) ≡ b → (isGuard (kindAt t n) && isMarked marks n) ≡ b
   counts b e = ap (λ g. g && isMarked marks n) (sym is) ∙ e
 
-  pub node-marked : (guard && isMarked marks n) ≡ true → (r : ℕ) → Adds (reads t n) w r → Adds (markedReadsAt t marks n) w r
-  node-marked e r a = adds-same (λ k. ap (λ b. b && reads t n k) (counts true e)) a
+  pub node-marked : (guard && isMarked marks n) ≡ true → w < 2 ^ keyLimit → (r : ℕ) → r ≡ plusAll (reads t n) keyLimit w → Adds (markedReadsAt t marks n) w r
+  node-marked e low r a = adds-same (λ k. ap (λ b. b && reads t n k) (counts true e)) (all-adds low a)
 
   pub node-other : (guard && isMarked marks n) ≡ false → Adds (markedReadsAt t marks n) w w
   node-other e = adds-none (λ k l. ap (λ b. b && reads t n k) (counts false e))
@@ -97,9 +97,9 @@ module _ (t : Table) (was : List ℕ) (x : ℕ) (does : Does) where
   pub label-none : does ≡ Ticking → (w : ℕ) → Adds (labelReads t was x (labelOf does)) w w
   label-none e w = adds-none (λ k l. ap (λ (d : Does). labelReads t was x (labelOf d) k) e)
 
-  pub label-expression : {n : ℕ} → does ≡ Acting n → (q : ℕ) → q ≡ qAt t n → (w r : ℕ) → Adds (reads t q) w r → Adds (labelReads t was x (labelOf does)) w r
-  label-expression e q f w r a =
-      adds-same (λ k. ap (λ (d : Does). labelReads t was x (labelOf d) k) e ∙ sym (ap (λ (m : ℕ). reads t m k) f)) a
+  pub label-expression : {n : ℕ} → does ≡ Acting n → (q : ℕ) → q ≡ qAt t n → (w : ℕ) → w < 2 ^ keyLimit → (r : ℕ) → r ≡ plusAll (reads t q) keyLimit w → Adds (labelReads t was x (labelOf does)) w r
+  label-expression e q f w low r a =
+      adds-same (λ k. ap (λ (d : Does). labelReads t was x (labelOf d) k) e ∙ sym (ap (λ (m : ℕ). reads t m k) f)) (all-adds low a)
 
 -- WHAT ZC GAINS
 pub gains : (t : Table) (was : List ℕ) (x : ℕ) (marks : List ℕ) (does : Does) (v r : ℕ)

@@ -24,12 +24,16 @@ use Rattle.state.proofs.Frames.{SameAt, wordAt, set-other, term-same}
 use Rattle.state.specs.WellFormed.{Proper}
 use Rattle.state.proofs.Formed.{ResidualFormed, proper-facts, residual-test}
 use Rattle.state.proofs.Keep.{residual-kept}
-use Rattle.steps.specs.Acts.{wordIn, writesEntry, chosen, toConfirm, storeOf, setKey, leave, acted}
+use Rattle.steps.specs.Acts.{writesEntry, chosen, toConfirm, storeOf, setKey, leave, acted}
 use Rattle.steps.proofs.Steps.{Able, act-able}
 use Rattle.steps.proofs.Acts.{chosen-inside, action-key, set-tick, set-key-other, set-length}
-use Rattle.judging.specs.Judging.{Decided}
-use Rattle.acting.specs.Acting.{Leaving, Setting}
+use Rattle.judging.specs.Outcomes.{doesOf, wordFor}
+use Rattle.acting.specs.Acting.{Decided, Leaving, Setting}
 use Rattle.acting.specs.Gaining.{Within, Gaining, Gains}
+
+label-back : (l : Label) → labelOf (doesOf l) ≡ l
+label-back ticks = refl
+label-back (acts n) = refl
 
 -- a place that no setting of a key of agent x changes
 record Still (x : ℕ) (q : Place) : Type 0 where
@@ -61,11 +65,14 @@ module _ (t : Table) (scratch : List ℕ) (ready : Ready t scratch) (was : List 
     able : Able t was x c
     able = act-able t was x c .0 (d .able)
 
+    label : labelOf does ≡ D .label
+    label = ap labelOf (d .does) ∙ label-back (D .label)
+
     inside : InsideTable t D
     inside = chosen-inside t was x (ready .checked .sound) (formed .over) c (able .there)
 
     labelled : Labelled t (labelOf does)
-    labelled = subst (Labelled t) (sym (d .label)) (inside .label)
+    labelled = subst (Labelled t) (sym label) (inside .label)
 
     within : (e : Does) → Labelled t (labelOf e) → Within t e
     within Ticking h = tt
@@ -77,7 +84,7 @@ module _ (t : Table) (scratch : List ℕ) (ready : Ready t scratch) (was : List 
 
     pub decided-setting : (n : ℕ) → does ≡ Acting n → Setting t was x n v
     decided-setting n e =
-        let l : acts n ≡ D .label = sym (ap labelOf e) ∙ d .label in
+        let l : acts n ≡ D .label = sym (ap labelOf e) ∙ label in
         let a : ActionNode t n = subst (Labelled t) (sym l) (inside .label) in
         record {
           shaped = ready .checked .sound .shaped;
@@ -86,7 +93,7 @@ module _ (t : Table) (scratch : List ℕ) (ready : Ready t scratch) (was : List 
           action = a;
           key = action-key t was x (ready .checked .sound) n a;
           room = λ k. able .room (ap (writesEntry t was x) (sym l) ∙ eq-eqb (kindAt t n) 3 k);
-          value = sym (ap wordIn (d .value n e));
+          value = d .value ∙ ap (wordFor t was x) (sym l);
         }
 
     -- AFTER THE KEY AND ZC
@@ -126,12 +133,12 @@ module _ (t : Table) (scratch : List ℕ) (ready : Ready t scratch) (was : List 
       zc-empty = key-still (Waits Zc x) (record { inside = tt; clock = refl; waits = refl; mark = λ store k. refl; word = λ store k. refl }) ∙ able .confirmed
 
       is-key-set : keySet ≡ setKey t was x (D .label)
-      is-key-set = set-key ∙ ap (setKey t was x) (d .label)
+      is-key-set = set-key ∙ ap (setKey t was x) label
 
       -- the residual comes last
       pub decided-acted : Gains t was x marks does g → (out : List ℕ) → out ≡ leave x (words (chosen t s x c .leaving)) s → out ≡ acted t was x (chosen t was x c)
       unfolding acted
       decided-acted gains out o =
-          let e : g ≡ plusAll (toConfirm t was x D) keyLimit (zcOf keySet x) = gains D (d .label) (d .guards) ∙ ap (plusAll (toConfirm t was x D) keyLimit) (sym zc-empty) in
+          let e : g ≡ plusAll (toConfirm t was x D) keyLimit (zcOf keySet x) = gains D label (d .guards) ∙ ap (plusAll (toConfirm t was x D) keyLimit) (sym zc-empty) in
           o ∙ ap₂ (λ (e : Derivation) (u : List ℕ). leave x (words (e .leaving)) u) same-chosen
           (set-zc ∙ ap (set keySet (zcAt x)) e ∙ ap (λ (u : List ℕ). set u (zcAt x) (plusAll (toConfirm t was x D) keyLimit (zcOf u x))) is-key-set)

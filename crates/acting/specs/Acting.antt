@@ -4,12 +4,13 @@ use mathlib.Core.Bool.{true}
 use mathlib.Core.Path.{_≡_}
 use mathlib.Core.List.{List}
 use lib.ListN.{length, set}
-use Rattle.table.specs.Checks.{firstOf, refusalCheck}
+use Rattle.table.specs.Checks.{passes, firstOf, refusalCheck}
 use Rattle.table.specs.Tables.{Table, kindAt, pAt}
 use Rattle.table.specs.Sound.{Shaped}
 use Rattle.term.specs.Terms.{words}
 use Rattle.term.specs.Acceptance.{stateWords}
 use Rattle.term.specs.Processes.{allFew, ActionNode}
+use Rattle.choice.specs.declared.Does.{Does}
 use Rattle.state.specs.declared.Store.{Store}
 use Rattle.state.specs.declared.Store.the-variants.{Entries}
 use Rattle.state.specs.Layout.{clockAt, zpAt, keyLimit, residualWords, clockOf, termIn, put, addKey}
@@ -17,11 +18,20 @@ use Rattle.state.specs.Standing.{storeAgent}
 use Rattle.state.specs.WellFormed.{residualFormed}
 use Rattle.steps.specs.Acts.{nextStamp, wordIn, valueFor, choices, actChecks, chosen, storeOf, acted}
 use Rattle.steps.specs.Steps.{outcome}
+use Rattle.judging.specs.Judging.{Collected}
+use Rattle.judging.specs.Outcomes.{doesOf, wordFor}
 
 -- choice c of agent x is done, or refused
 pub record Acts (t : Table) (was : List ℕ) (x c r : ℕ) (s : List ℕ) : Type 0 where
   pub check : refusalCheck r ≡ firstOf (actChecks t was x c)
   pub state : s ≡ outcome (firstOf (actChecks t was x c)) was 0 (acted t was x (chosen t was x c)) .state
+
+-- choice c of agent x can be done: this is what it does, the word that it sets, and the marks of its guards
+pub record Decided (t : Table) (was : List ℕ) (x c : ℕ) (marks : List ℕ) (d : Does) (v : ℕ) : Type 0 where
+  pub able : firstOf (actChecks t was x c) ≡ passes
+  pub does : d ≡ doesOf (chosen t was x c .label)
+  pub value : v ≡ wordFor t was x (chosen t was x c .label)
+  pub guards : Collected t (chosen t was x c .guards) marks
 
 -- what choice c of agent x's residual leaves has room
 pub record Leaving (t : Table) (s : List ℕ) (x c : ℕ) : Type 0 where

@@ -11,7 +11,7 @@ use table::is_guard;
 use table::q_at;
 ghost use mathlib.Core.Path.{_≡_};
 ghost use mathlib.Core.List.{List};
-ghost use Prim.Native.Nat.{ℕ, _<_, _≤_};
+ghost use Prim.Native.Nat.{ℕ, _^_, _<_, _≤_};
 ghost use lib.ListN.{length};
 ghost use Rattle.basis.specs.KeySets.{plusAll};
 ghost use Rattle.table.specs.Tables.{table};
@@ -49,7 +49,7 @@ fn node_keys(
     node: usize,
     keys: u32,
 ) -> u32
-    requires { ⌜ Shaped (table sizes (now kinds) (now operands)) × (sizes .nodes ≤ length (now marks)) × (node < sizes .nodes) ⌝ }
+    requires { ⌜ Shaped (table sizes (now kinds) (now operands)) × (sizes .nodes ≤ length (now marks)) × (node < sizes .nodes) × (keys < 2 ^ keyLimit) ⌝ }
     ensures { λ r. ⌜ Adds (markedReadsAt (table sizes (now (kinds .entry)) (now (operands .entry))) (now (marks .entry)) node) keys r ⌝ }
 {
     if is_guard(kinds[node]) & (marks[node] == 1) {
@@ -74,7 +74,7 @@ fn guard_keys(sizes: Sizes, kinds: &[u8], operands: &[u8], marks: &[u8]) -> u32
 
 // The set with the keys that an action's expression reads; a tick has none.
 fn label_keys(sizes: Sizes, kinds: &[u8], operands: &[u8], does: Does, keys: u32) -> u32
-    requires { ⌜ Shaped (table sizes (now kinds) (now operands)) × Within (table sizes (now kinds) (now operands)) does ⌝ }
+    requires { ⌜ Shaped (table sizes (now kinds) (now operands)) × Within (table sizes (now kinds) (now operands)) does × (keys < 2 ^ keyLimit) ⌝ }
     ensures { λ r. ⌜ ((was : List ℕ) (x : ℕ) → Adds (labelReads (table sizes (now (kinds .entry)) (now (operands .entry))) was x (labelOf does)) keys r) ⌝ }
 {
     match does {

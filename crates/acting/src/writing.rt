@@ -14,7 +14,7 @@ ghost use Rattle.choice.specs.Turns.{Ready};
 ghost use Rattle.state.specs.Layout.{zcAt};
 ghost use Rattle.state.specs.WellFormed.{Proper};
 ghost use Rattle.steps.specs.Acts.{chosen, acted};
-ghost use Rattle.judging.specs.Judging.{Decided};
+ghost use Rattle.acting.specs.Acting.{Decided};
 
 // An agent's Zc becomes a set of keys.
 fn set_zc(state: &mut [u32], agent: usize, keys: u32)

@@ -1,14 +1,14 @@
 -- Sets to which keys are added, and what a node reads.
 -- Assumes nothing.
-use Prim.Native.Nat.{ℕ, _<_, _≤_}
+use Prim.Native.Nat.{ℕ, _^_, _<_, _≤_}
 use mathlib.Core.Bool.{Bool, true, false, cond, _&&_, _||_, and-false, or-false, or-assoc, or-comm}
 use mathlib.Core.Path.{_≡_, refl, sym, ap, _∙_}
 use native.Mathlib.Omega.{arith}
 use lib.Dec.{eqb}
-use borrow.Author.Tests.{ne-eqb}
-use Rattle.basis.specs.KeySets.{has, plus}
+use borrow.Author.Tests.{ne-eqb, lt-ltb}
+use Rattle.basis.specs.KeySets.{has, plus, plusAll}
 use Rattle.basis.proofs.Below.{below-out, below-at}
-use Rattle.basis.proofs.KeySets.{has-plus, plus-small}
+use Rattle.basis.proofs.KeySets.{has-plus, plus-small, has-plusAll, plusAll-small, same-keys}
 use Rattle.table.specs.Tables.{Table, kindAt, pAt, qAt}
 use Rattle.table.specs.Nodes.{leftNode, rightNode}
 use Rattle.state.specs.Layout.{keyLimit}
@@ -35,6 +35,20 @@ adds-both {f} {g} {w} a b =
       keys = λ k l. b .keys k l ∙ ap (λ (z : Bool). z || g k) (a .keys k l) ∙ or-assoc (has w k) (f k) (g k);
       small = λ h. b .small (a .small h);
     }
+
+-- of keys below the limit, it is the set with each key that passes
+module _ {test : ℕ → Bool} {w : ℕ} (low : w < 2 ^ keyLimit) where
+  pub all-adds : {r : ℕ} → r ≡ plusAll test keyLimit w → Adds test w r
+  all-adds e =
+      rw e (record {
+        keys = λ k l. has-plusAll test keyLimit w k ∙ rw (lt-ltb k keyLimit l) (or-comm (test k) (has w k));
+        small = λ h. plusAll-small test keyLimit keyLimit w (omega arith) h;
+      })
+
+  pub adds-all : {r : ℕ} → Adds test w r → r ≡ plusAll test keyLimit w
+  adds-all {r} a =
+      let all : Adds test w (plusAll test keyLimit w) = all-adds refl in
+      same-keys keyLimit r (plusAll test keyLimit w) (a .small low) (all .small low) (λ k l. a .keys k l ∙ sym (all .keys k l))
 
 module _ (t : Table) where
   -- THE KEY that a node is

@@ -1,9 +1,11 @@
 // The stigmergy keys that a node reads, by recursion on the falling node number: one walk for all keys.
 ghost use mathlib.Core.Path.{_≡_};
 ghost use mathlib.Core.Bool.{cond};
-ghost use Prim.Native.Nat.{_<_, _≤_};
+ghost use Prim.Native.Nat.{_^_, _<_, _≤_};
+ghost use Rattle.basis.specs.KeySets.{plusAll};
 ghost use Rattle.table.specs.Tables.{table};
 ghost use Rattle.table.specs.Sound.{Shaped};
+ghost use Rattle.state.specs.Layout.{keyLimit};
 ghost use Rattle.state.specs.Evaluation.{reads};
 ghost use Rattle.evaluation.specs.Reading.{Adds, readsBelow, isKey, Named};
 use super::Parts;
@@ -70,8 +72,8 @@ fn keys_below(
 
 // The set with the stigmergy keys that a node reads.
 pub fn keys_read(sizes: Sizes, kinds: &[u8], operands: &[u8], node: usize, keys: u32) -> u32
-    requires { ⌜ Shaped (table sizes (now kinds) (now operands)) ⌝ }
-    ensures { λ r. ⌜ Adds (reads (table sizes (now (kinds .entry)) (now (operands .entry))) node) keys r ⌝ }
+    requires { ⌜ Shaped (table sizes (now kinds) (now operands)) × (keys < 2 ^ keyLimit) ⌝ }
+    ensures { λ r. ⌜ r ≡ plusAll (reads (table sizes (now (kinds .entry)) (now (operands .entry))) node) keyLimit keys ⌝ }
 {
     keys_below(sizes, kinds, operands, sizes.nodes, node, keys)
 }

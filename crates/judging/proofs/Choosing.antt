@@ -28,7 +28,7 @@ use Rattle.steps.proofs.Acts.{chosen-inside}
 use Rattle.judging.specs.declared.Judgement.{Judgement}
 use Rattle.judging.specs.Judging.{Unmarked, Collected, Judges}
 use Rattle.judging.specs.Guards.{Asks}
-use Rattle.judging.specs.Outcomes.{refusedBy, Doing, Ends}
+use Rattle.judging.specs.Outcomes.{refusedBy, Doing, ended}
 use Rattle.judging.specs.Residuals.{Posed}
 use Rattle.judging.proofs.Wholes.{formed-whole}
 use Rattle.judging.proofs.Asking.{collected}
@@ -123,7 +123,7 @@ module _ {t : Table} {scratch was : List ℕ} {x size : ℕ} {ws : List ℕ} (po
         agent-14 e = judges-14 t was x c (posed .confirmed) (posed .propagated) (takes .few) (takes .choice) (sym (asked (chosen t was x c .guards) guards) ∙ e) out
 
         pub agent-last : held ≡ true → {limit : ℕ} (o : Outcome) → Tells (taken t (residualTerm size ws) c) limit o
-            → (r : Judgement) → Ends t was x (labelOf (o .does)) (o .size) r → Judges t was x c out r
+            → (r : Judgement) → r ≡ ended t was x (labelOf (o .does)) (o .size) → Judges t was x c out r
         agent-last e {limit} o tells =
             judges-last t was x c (posed .confirmed) (posed .propagated) (takes .few) (takes .choice) (sym (asked (chosen t was x c .guards) guards) ∙ e) out guards o
             (subst (λ (d : Derivation). Tells d limit o) taken-is tells)

@@ -52,7 +52,8 @@ fn judge_choice(
     judge_outcome(sizes, kinds, operands, state, agent, o)
 }
 
-// Choice c of an agent, by marks of a byte for each node, which are then those of its guards.
+// Choice c of an agent. The marks are a byte for each node, all 0 before: where nothing refuses, the guards that are marked then are the
+// choice's; beside a refusal the marks may be any.
 pub fn judge(
     sizes: Sizes,
     kinds: &[u8],

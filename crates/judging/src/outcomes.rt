@@ -12,7 +12,7 @@ ghost use mathlib.Core.Path.{_≡_};
 ghost use Rattle.table.specs.Tables.{table};
 ghost use Rattle.term.specs.Processes.{acts};
 ghost use Rattle.choice.specs.Outcomes.{labelOf};
-ghost use Rattle.judging.specs.Outcomes.{refusedBy, sized as sizedOf, Doing, Ends};
+ghost use Rattle.judging.specs.Outcomes.{refusedBy, sized as sizedOf, Doing, ended};
 
 // Beside a refusal nothing is done.
 pub fn refused(number: u8) -> Judgement
@@ -50,7 +50,7 @@ fn judge_action(
     size: usize,
 ) -> Judgement
     requires { ⌜ Doing (table sizes (now kinds) (now operands)) (now state) agent (acts n) ⌝ }
-    ensures { λ r. ⌜ Ends (table sizes (now (kinds .entry)) (now (operands .entry))) (now (state .entry)) agent (acts n) size r ⌝ }
+    ensures { λ r. ⌜ r ≡ ended (table sizes (now (kinds .entry)) (now (operands .entry))) (now (state .entry)) agent (acts n) size ⌝ }
 {
     let q = q_at(operands, n);
     let value = value_of(sizes, kinds, operands, state, agent, agent, q);
@@ -75,7 +75,7 @@ pub fn judge_outcome(
     o: Outcome,
 ) -> Judgement
     requires { ⌜ Doing (table sizes (now kinds) (now operands)) (now state) agent (labelOf (o .does)) ⌝ }
-    ensures { λ r. ⌜ Ends (table sizes (now (kinds .entry)) (now (operands .entry))) (now (state .entry)) agent (labelOf (o .does)) (o .size) r ⌝ }
+    ensures { λ r. ⌜ r ≡ ended (table sizes (now (kinds .entry)) (now (operands .entry))) (now (state .entry)) agent (labelOf (o .does)) (o .size) ⌝ }
 {
     let does = o.does;
     let size = o.size;

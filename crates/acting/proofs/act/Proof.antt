@@ -2,7 +2,8 @@
 use denote.Ref.{now}
 use Rattle.table.specs.Tables.{Table, table}
 use Rattle.judging.proofs.Asking.{zeros-unmarked}
-use Rattle.acting.proofs.Answers.{acts-done, acts-refused}
+use Rattle.judging.proofs.Ordering.{judged-check}
+use Rattle.acting.proofs.Answers.{judged-decided, acts-done, acts-refused}
 use borrow.Author.Needs.{needs}
 use Rattle.acting.proofs.act.Statement.{statement}
 use Rattle.acting.proofs.act.Tie as tie
@@ -24,7 +25,7 @@ same-length c = search needs
 returns : tie.Need-returns
 returns c =
     let a = c .before .before .before .before .before .before .before .before .before in
-    acts-refused (tb a) (now (a .args .state)) (a .args .agent) (a .args .c) (c .before .before .judge .result .refusal) (c .before .before .judge .ensures .check) (c .if1 .taken)
+    acts-refused (tb a) (now (a .args .state)) (a .args .agent) (a .args .c) (c .before .before .judge .result .refusal) (judged-check (tb a) (now (a .args .state)) (a .args .agent) (a .args .c) (c .before .before .judge .ensures)) (c .if1 .taken)
 
 slice-aggregate-perform : tie.Need-slice-aggregate-perform
 slice-aggregate-perform c = search needs
@@ -32,7 +33,7 @@ slice-aggregate-perform c = search needs
 perform-requires : tie.Need-perform-requires
 perform-requires c κs =
     let a = c .before .before .before .before .before .before .before .before .before .before .before in
-    (a .pre .0, (a .pre .1 .0, (a .pre .1 .1, c .before .before .before .before .judge .ensures .decided (c .before .before .if1 .left))))
+    (a .pre .0, (a .pre .1 .0, (a .pre .1 .1, judged-decided (tb a) (now (a .args .state)) (a .args .agent) (a .args .c) (c .before .before .before .before .judge .ensures) (c .before .before .if1 .left))))
 
 same-length-2 : tie.Need-same-length-2
 same-length-2 c = search needs
@@ -40,7 +41,7 @@ same-length-2 c = search needs
 returns-2 : tie.Need-returns-2
 returns-2 c =
     let a = c .before .before .before .before .before .before .before .before .before .before .before .before .before .before in
-    acts-done (tb a) (now (a .args .state)) (a .args .agent) (a .args .c) (c .before .before .before .before .before .before .before .judge .result .refusal) (c .before .before .before .before .before .before .before .judge .ensures .check) (c .before .before .before .before .before .if1 .left) (c .before .before .perform .last .1 .1 .1 .1 .1 .0) (c .before .before .perform .ensures)
+    acts-done (tb a) (now (a .args .state)) (a .args .agent) (a .args .c) (c .before .before .before .before .before .before .before .judge .result .refusal) (judged-check (tb a) (now (a .args .state)) (a .args .agent) (a .args .c) (c .before .before .before .before .before .before .before .judge .ensures)) (c .before .before .before .before .before .if1 .left) (c .before .before .perform .last .1 .1 .1 .1 .1 .0) (c .before .before .perform .ensures)
 
 pub act-spec : {M : Type 1} → statement M
 act-spec =

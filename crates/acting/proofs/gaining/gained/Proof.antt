@@ -1,5 +1,6 @@
 -- `gained` meets its contract. Assumes nothing.
 use mathlib.Core.Path.{_∙_}
+use native.Mathlib.Omega.{arith}
 use denote.Ref.{now}
 use Rattle.table.specs.Tables.{Table, table}
 use Rattle.acting.proofs.Gains.{gains}
@@ -14,7 +15,7 @@ guard-keys-requires : tie.Need-guard-keys-requires
 guard-keys-requires c κs = search needs
 
 label-keys-requires : tie.Need-label-keys-requires
-label-keys-requires c κs = search needs
+label-keys-requires c κs = let a = c .before .before .before .before .before in (a .pre .shaped, a .pre .within, c .guard-keys .ensures .small (omega arith))
 
 with-entry-requires : tie.Need-with-entry-requires
 with-entry-requires c κs = search needs

@@ -26,7 +26,9 @@ loop-holds c =
     (omega arith, nodes-none (tb a) (now (a .args .marks)) 0)
 
 node-keys-requires : tie.Need-node-keys-requires Inv-loop μ-loop
-node-keys-requires c κs = search needs
+node-keys-requires c κs =
+    let a = c .before .before .before .before .before .before in
+    (a .pre .0, a .pre .1, omega arith, c .before .before .loop .inv .1 .small (omega arith))
 
 add-node : tie.Need-add-node Inv-loop μ-loop
 add-node c = search needs

@@ -35,7 +35,7 @@ returns c =
 returns-2 : tie.Need-returns-2
 returns-2 c =
     let a = c .before .before .before .before .before .before .before in
-    λ was x. label-expression (tb a) was x (a .args .does) (c .before .before .before .does .given .1) (c .before .q-at .result) (c .before .q-at .ensures .is) (a .args .keys) (c .keys-read .result) (c .keys-read .ensures)
+    λ was x. label-expression (tb a) was x (a .args .does) (c .before .before .before .does .given .1) (c .before .q-at .result) (c .before .q-at .ensures .is) (a .args .keys) (a .pre .2) (c .keys-read .result) (c .keys-read .ensures)
 
 pub label-keys-spec : {M : Type 1} → statement M
 label-keys-spec =

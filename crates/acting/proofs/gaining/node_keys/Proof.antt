@@ -25,7 +25,7 @@ returns : tie.Need-returns
 returns c =
     let a = c .before .before .before .before .before .before .before .before in
     let g = c .before .before .before .is-guard in
-    node-marked (tb a) (now (a .args .marks)) (a .args .node) (a .args .keys) (g .result) (g .ensures) (c .before .if1 .taken) (c .keys-read .result) (c .keys-read .ensures)
+    node-marked (tb a) (now (a .args .marks)) (a .args .node) (a .args .keys) (g .result) (g .ensures) (c .before .if1 .taken) (a .pre .3) (c .keys-read .result) (c .keys-read .ensures)
 
 returns-2 : tie.Need-returns-2
 returns-2 c =
