@@ -46,12 +46,9 @@ residualAt a = blockAt a + 67
 abbrev pub residualWords : ℕ
 residualWords = 63
 
--- keys of a store, agent blocks, and the highest stamp
+-- keys of a store, and the highest stamp
 abbrev pub keyLimit : ℕ
 keyLimit = 16
-
-abbrev pub agentLimit : ℕ
-agentLimit = 32
 
 abbrev pub clockLimit : ℕ
 clockLimit = 65535
