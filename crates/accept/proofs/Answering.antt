@@ -21,7 +21,7 @@ use Rattle.table.proofs.Checks.{first-later, first-refuses, append-later, appen
 use Rattle.table.proofs.Limits.{kinds-part}
 use Rattle.term.specs.Exposure.{badCall}
 use Rattle.term.specs.Acceptance.{stateWords, contentChecks, lentCheck}
-use Rattle.term.specs.Accepted.{Accepted as AcceptedTable}
+use Rattle.term.specs.Accepted.{Acceptable}
 use Rattle.term.proofs.Acceptance.{passes-accepted}
 use Rattle.accept.specs.Scratch.{Held, Counted}
 use Rattle.accept.specs.Calls.{CallsJudged}
@@ -112,5 +112,5 @@ module _ {bytes : List ℕ} {m : Measured} (measured : Measure bytes m) where
 
 -- what may be relied on of an accepted table
 pub accepted-table : {bytes : List ℕ} {stateLength : ℕ} {before after : List ℕ} {r : Acceptance} {n : Sizes}
-    → Accepts bytes stateLength before after r → r ≡ Accepted n → AcceptedTable bytes stateLength (length before)
+    → Accepts bytes stateLength before after r → r ≡ Accepted n → Acceptable bytes stateLength (length before)
 accepted-table {bytes} {stateLength} {before} a e = passes-accepted bytes stateLength (length before) (sym (a .check) ∙ ap (λ (r : Acceptance). acceptanceCheck r) e)

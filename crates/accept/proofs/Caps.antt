@@ -9,7 +9,7 @@ use Rattle.basis.proofs.Tests.{lt-or-le}
 use Rattle.term.specs.Terms.{Term}
 use Rattle.term.specs.Processes.{Process, idle, tick, act, choice, guarded, call, seq, par}
 use Rattle.term.specs.Choices.{actionCount, tickCount}
-use Rattle.accept.specs.Counts.{capped, counts, Small, choiceCounts, seqCounts, parCounts, countsOf}
+use Rattle.accept.specs.Counts.{capped, counts, Capped, choiceCounts, seqCounts, parCounts, countsOf}
 
 pub product-bound : {x y : ℕ} → x ≤ 65536 → y ≤ 65536 → x * y ≤ 4294967296
 product-bound h g = mul-le-mul h g
@@ -36,7 +36,7 @@ cap-right x y = ⊎-elim below above (lt-or-le y 65536)
 cap-mul : (x y : ℕ) → capped (capped x * capped y) ≡ capped (x * y)
 cap-mul x y = sym (cap-right x y ∙ ap capped (mul-comm x (capped y)) ∙ cap-right (capped y) x ∙ ap capped (mul-comm (capped y) (capped x)))
 
-pub counts-small : (P : Process) → Small (countsOf P)
+pub counts-small : (P : Process) → Capped (countsOf P)
 unfolding countsOf
 counts-small P = record { actions = omega arith; ticks = omega arith }
 

@@ -12,7 +12,7 @@ use Rattle.table.specs.Tables.{Table, firstRoot, bodyAt}
 use Rattle.table.specs.Sound.{Sound}
 use Rattle.term.specs.Processes.{defined}
 use Rattle.term.proofs.Calls.{defined-body}
-use Rattle.accept.specs.Counts.{countsOf, Small}
+use Rattle.accept.specs.Counts.{countsOf, Capped}
 use Rattle.accept.specs.Scratch.{pairAt, stored, processAt, Held}
 use Rattle.accept.specs.declared.Counts.{Counts}
 use Rattle.accept.proofs.Caps.{counts-small}
@@ -67,7 +67,7 @@ module _ {t : Table} {level n : ℕ} {s : List ℕ} (held : Held t level n s) wh
   pub root-room : (d : ℕ) → d < t .sizes .definitions → 2 * (firstRoot t + d) + 1 < length s
   root-room d h = omega (arith, held .words, held .sound .shaped .limits .roots)
 
-  pub held-small : (k : ℕ) → k < n → Small (pairAt s k)
+  pub held-small : (k : ℕ) → k < n → Capped (pairAt s k)
   held-small k h = rw (held .nodes k h) (counts-small (processAt t level k))
 
   -- fewer nodes

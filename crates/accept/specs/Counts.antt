@@ -18,7 +18,7 @@ trueCounts P = counts (actionCount P) (tickCount P)
 unfoldable pub countsOf : Process → Counts
 countsOf P = counts (capped (actionCount P)) (capped (tickCount P))
 
-pub record Small (c : Counts) : Type 0 where
+pub record Capped (c : Counts) : Type 0 where
   pub actions : c .actions ≤ 65536
   pub ticks : c .ticks ≤ 65536
 

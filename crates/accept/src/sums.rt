@@ -2,7 +2,7 @@
 use crate::Counts;
 ghost use mathlib.Core.Path.{_≡_};
 ghost use Prim.Native.Nat.{_*_, _≤_};
-ghost use Rattle.accept.specs.Counts.{capped, Small, choiceCounts, seqCounts, parCounts};
+ghost use Rattle.accept.specs.Counts.{capped, Capped, choiceCounts, seqCounts, parCounts};
 
 pub const NONE: Counts = Counts {
     actions: 0,
@@ -33,7 +33,7 @@ fn times(x: u64, y: u64) -> u64
 }
 
 pub fn choice(p: Counts, q: Counts) -> Counts
-    requires { ⌜ Small p ⌝ ∗ ⌜ Small q ⌝ }
+    requires { ⌜ Capped p ⌝ ∗ ⌜ Capped q ⌝ }
     ensures { λ r. ⌜ r ≡ choiceCounts p q ⌝ }
 {
     let actions = cap(p.actions + q.actions);
@@ -43,7 +43,7 @@ pub fn choice(p: Counts, q: Counts) -> Counts
 
 // The right part counts once for each tick of the left.
 pub fn sequence(p: Counts, q: Counts) -> Counts
-    requires { ⌜ Small p ⌝ ∗ ⌜ Small q ⌝ }
+    requires { ⌜ Capped p ⌝ ∗ ⌜ Capped q ⌝ }
     ensures { λ r. ⌜ r ≡ seqCounts p q ⌝ }
 {
     let actions = cap(p.actions + times(p.ticks, q.actions));
@@ -53,7 +53,7 @@ pub fn sequence(p: Counts, q: Counts) -> Counts
 
 // Each part counts, and once more for each tick of the other.
 pub fn parallel(p: Counts, q: Counts) -> Counts
-    requires { ⌜ Small p ⌝ ∗ ⌜ Small q ⌝ }
+    requires { ⌜ Capped p ⌝ ∗ ⌜ Capped q ⌝ }
     ensures { λ r. ⌜ r ≡ parCounts p q ⌝ }
 {
     let joined = times(p.ticks, q.actions) + times(q.ticks, p.actions);

@@ -3,7 +3,7 @@ use crate::Counts;
 ghost use mathlib.Core.Path.{_≡_};
 ghost use Prim.Native.Nat.{_+_, _*_, _<_};
 ghost use lib.ListN.{length};
-ghost use Rattle.accept.specs.Counts.{Small};
+ghost use Rattle.accept.specs.Counts.{Capped};
 ghost use Rattle.accept.specs.Scratch.{pairAt, stored};
 
 fn wide(x: u32) -> u64
@@ -22,7 +22,7 @@ pub fn pair(scratch: &[u32], n: usize) -> Counts
 }
 
 pub fn store(scratch: &mut [u32], n: usize, c: Counts)
-    requires { ⌜ 2 * n + 1 < length (now scratch) ⌝ ∗ ⌜ Small c ⌝ }
+    requires { ⌜ 2 * n + 1 < length (now scratch) ⌝ ∗ ⌜ Capped c ⌝ }
     ensures { λ r. ⌜ now (scratch .exit) ≡ stored (now (scratch .entry)) n c ⌝ }
 {
     scratch[2 * n] = c.actions as u32;

@@ -8,14 +8,14 @@ use mathlib.Core.List.{List, [], _∷_}
 use lib.Dec.{eqb, ltb}
 use lib.ListN.{getD}
 use borrow.Author.Tests.{eqb-true, eq-eqb}
-use Rattle.basis.specs.Numbers.{some}
+use Rattle.basis.specs.Numbers.{someBelow}
 use Rattle.basis.specs.KeySets.{has, plus, plusAll}
 use Rattle.basis.proofs.Numbers.{some-at, some-witness, some-more}
 use Rattle.basis.proofs.KeySets.{has-nothing, plusAll-more, plusAll-ext}
 use Rattle.basis.proofs.Tests.{not-both, or-either, or-left, or-right, and-left, and-right, and-both, same-test}
 use Rattle.table.specs.Tables.{Table, kindAt, qAt}
 use Rattle.table.specs.Nodes.{isGuard}
-use Rattle.choice.specs.Marking.{isMarked, isIn}
+use Rattle.choice.specs.Marking.{hasMark, isIn}
 use Rattle.choice.specs.declared.Does.{Does}
 use Rattle.choice.specs.declared.Does.the-variants.{Ticking, Acting}
 use Rattle.choice.specs.Outcomes.{labelOf}
@@ -25,7 +25,7 @@ use Rattle.state.specs.Evaluation.{reads}
 use Rattle.evaluation.specs.Reading.{Adds}
 use Rattle.evaluation.proofs.Adding.{adds-none, adds-same, adds-both, all-adds}
 use Rattle.steps.specs.Acts.{guardsRead, labelReads, toConfirm}
-use Rattle.judging.specs.Judging.{Collected}
+use Rattle.judging.specs.Judging.{GuardsMarked}
 use Rattle.acting.specs.Gaining.{hasEntry, markedReadsAt, markedReads, Gains}
 
 -- one key more of those that have an entry
@@ -36,18 +36,18 @@ entry-more s x keys key found at h b next e f g i j =
 
 -- a node that is a marked guard, or is not
 module _ (t : Table) (marks : List ℕ) (n w : ℕ) (guard : Bool) (is : guard ≡ isGuard (kindAt t n)) where
-  counts : (b : Bool) → (guard && isMarked marks n) ≡ b → (isGuard (kindAt t n) && isMarked marks n) ≡ b
-  counts b e = ap (λ g. g && isMarked marks n) (sym is) ∙ e
+  counts : (b : Bool) → (guard && hasMark marks n) ≡ b → (isGuard (kindAt t n) && hasMark marks n) ≡ b
+  counts b e = ap (λ g. g && hasMark marks n) (sym is) ∙ e
 
-  pub node-marked : (guard && isMarked marks n) ≡ true → w < 2 ^ keyLimit → (r : ℕ) → r ≡ plusAll (reads t n) keyLimit w → Adds (markedReadsAt t marks n) w r
+  pub node-marked : (guard && hasMark marks n) ≡ true → w < 2 ^ keyLimit → (r : ℕ) → r ≡ plusAll (reads t n) keyLimit w → Adds (markedReadsAt t marks n) w r
   node-marked e low r a = adds-same (λ k. ap (λ b. b && reads t n k) (counts true e)) (all-adds low a)
 
-  pub node-other : (guard && isMarked marks n) ≡ false → Adds (markedReadsAt t marks n) w w
+  pub node-other : (guard && hasMark marks n) ≡ false → Adds (markedReadsAt t marks n) w w
   node-other e = adds-none (λ k l. ap (λ b. b && reads t n k) (counts false e))
 
 -- one node more
 pub nodes-none : (t : Table) (marks : List ℕ) (w : ℕ) → Adds (markedReads t marks 0) w w
-unfolding some
+unfolding someBelow
 nodes-none t marks w = adds-none (λ k l. refl)
 
 pub nodes-more : (t : Table) (marks : List ℕ) (n w v r : ℕ) → Adds (markedReads t marks n) w v → Adds (markedReadsAt t marks n) v r → Adds (markedReads t marks (n + 1)) w r
@@ -70,7 +70,7 @@ module _ (t : Table) (was : List ℕ) (x : ℕ) where
       (λ (d : guardsRead t was x gs k ≡ true). let w = in-read gs k d in (w .0, or-right (eqb (w .0) g) (isIn (w .0) gs) (w .1), w .2))
       (or-either (reads t g k) (guardsRead t was x gs k) e)
 
-  pub guards-marked : (gs marks : List ℕ) → Collected t gs marks → (k : ℕ) → markedReads t marks (t .sizes .nodes) k ≡ guardsRead t was x gs k
+  pub guards-marked : (gs marks : List ℕ) → GuardsMarked t gs marks → (k : ℕ) → markedReads t marks (t .sizes .nodes) k ≡ guardsRead t was x gs k
   guards-marked gs marks c k = same-test (markedReads t marks N k) (guardsRead t was x gs k) there back
     where
       N : ℕ
@@ -80,9 +80,9 @@ module _ (t : Table) (was : List ℕ) (x : ℕ) where
       there e =
           let w = some-witness (λ (b : ℕ). markedReadsAt t marks b k) N e in
           let b = w .0 in
-          let g = and-left (isGuard (kindAt t b) && isMarked marks b) (reads t b k) (w .2) in
-          let i = sym (c .guards b (and-left (isGuard (kindAt t b)) (isMarked marks b) g)) ∙ and-right (isGuard (kindAt t b)) (isMarked marks b) g in
-          read-in gs b k i (and-right (isGuard (kindAt t b) && isMarked marks b) (reads t b k) (w .2))
+          let g = and-left (isGuard (kindAt t b) && hasMark marks b) (reads t b k) (w .2) in
+          let i = sym (c .guards b (and-left (isGuard (kindAt t b)) (hasMark marks b) g)) ∙ and-right (isGuard (kindAt t b)) (hasMark marks b) g in
+          read-in gs b k i (and-right (isGuard (kindAt t b) && hasMark marks b) (reads t b k) (w .2))
 
       back : guardsRead t was x gs k ≡ true → markedReads t marks N k ≡ true
       back e =
@@ -90,7 +90,7 @@ module _ (t : Table) (was : List ℕ) (x : ℕ) where
           let b = w .0 in
           let n = c .nodes b (w .1) in
           some-at (λ (b : ℕ). markedReadsAt t marks b k) N b (n .0)
-          (and-both (isGuard (kindAt t b) && isMarked marks b) (reads t b k) (and-both (isGuard (kindAt t b)) (isMarked marks b) (n .1) (c .guards b (n .1) ∙ w .1)) (w .2))
+          (and-both (isGuard (kindAt t b) && hasMark marks b) (reads t b k) (and-both (isGuard (kindAt t b)) (hasMark marks b) (n .1) (c .guards b (n .1) ∙ w .1)) (w .2))
 
 -- WHAT AN ACTION'S EXPRESSION READS
 module _ (t : Table) (was : List ℕ) (x : ℕ) (does : Does) where

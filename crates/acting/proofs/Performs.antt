@@ -15,7 +15,7 @@ use Rattle.term.proofs.Inside.{Inside as InsideTable}
 use Rattle.choice.specs.declared.Does.{Does}
 use Rattle.choice.specs.declared.Does.the-variants.{Ticking, Acting}
 use Rattle.choice.specs.Outcomes.{labelOf}
-use Rattle.choice.specs.Turns.{Ready}
+use Rattle.choice.specs.Turns.{Prepared}
 use Rattle.residual.specs.Wholes.{taken}
 use Rattle.state.specs.declared.Store.{Store}
 use Rattle.state.specs.Layout.{zcAt, keyLimit, residualWords, zcOf, termIn}
@@ -29,7 +29,7 @@ use Rattle.steps.proofs.Steps.{Able, act-able}
 use Rattle.steps.proofs.Acts.{chosen-inside, action-key, set-tick, set-key-other, set-length}
 use Rattle.judging.specs.Outcomes.{doesOf, wordFor}
 use Rattle.acting.specs.Acting.{Decided, Leaving, Setting}
-use Rattle.acting.specs.Gaining.{Within, Gaining, Gains}
+use Rattle.acting.specs.Gaining.{LabelKey, Gaining, Gains}
 
 label-back : (l : Label) → labelOf (doesOf l) ≡ l
 label-back ticks = refl
@@ -43,7 +43,7 @@ record Still (x : ℕ) (q : Place) : Type 0 where
   mark : (store : Store) (k : ℕ) → same q (Mark store k) ≡ false
   word : (store : Store) (k : ℕ) → same q (Word store k) ≡ false
 
-module _ (t : Table) (scratch : List ℕ) (ready : Ready t scratch) (was : List ℕ) (proper : Proper t was) (x : ℕ) (there : x < t .sizes .agents) where
+module _ (t : Table) (scratch : List ℕ) (ready : Prepared t scratch) (was : List ℕ) (proper : Proper t was) (x : ℕ) (there : x < t .sizes .agents) where
   low : x < 32
   low = omega (arith, ready .checked .sound .shaped .limits .agents)
 
@@ -74,7 +74,7 @@ module _ (t : Table) (scratch : List ℕ) (ready : Ready t scratch) (was : List 
     labelled : Labelled t (labelOf does)
     labelled = subst (Labelled t) (sym label) (inside .label)
 
-    within : (e : Does) → Labelled t (labelOf e) → Within t e
+    within : (e : Does) → Labelled t (labelOf e) → LabelKey t e
     within Ticking h = tt
     within (Acting n) h = omega arith
 

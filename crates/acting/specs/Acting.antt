@@ -18,7 +18,7 @@ use Rattle.state.specs.Standing.{storeAgent}
 use Rattle.state.specs.WellFormed.{residualFormed}
 use Rattle.steps.specs.Acts.{nextStamp, wordIn, valueFor, choices, actChecks, chosen, storeOf, acted}
 use Rattle.steps.specs.Steps.{outcome}
-use Rattle.judging.specs.Judging.{Collected}
+use Rattle.judging.specs.Judging.{GuardsMarked}
 use Rattle.judging.specs.Outcomes.{doesOf, wordFor}
 
 -- choice c of agent x is done, or refused
@@ -31,7 +31,7 @@ pub record Decided (t : Table) (was : List ℕ) (x c : ℕ) (marks : List ℕ) (
   pub able : firstOf (actChecks t was x c) ≡ passes
   pub does : d ≡ doesOf (chosen t was x c .label)
   pub value : v ≡ wordFor t was x (chosen t was x c .label)
-  pub guards : Collected t (chosen t was x c .guards) marks
+  pub guards : GuardsMarked t (chosen t was x c .guards) marks
 
 -- what choice c of agent x's residual leaves has room
 pub record Leaving (t : Table) (s : List ℕ) (x c : ℕ) : Type 0 where

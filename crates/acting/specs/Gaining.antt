@@ -5,7 +5,7 @@ use mathlib.Core.Path.{_≡_}
 use mathlib.Core.List.{List}
 use lib.Dec.{ltb}
 use lib.ListN.{length}
-use Rattle.basis.specs.Numbers.{some}
+use Rattle.basis.specs.Numbers.{someBelow}
 use Rattle.basis.specs.KeySets.{has, plusAll}
 use Rattle.table.specs.Tables.{Table, kindAt}
 use Rattle.table.specs.Nodes.{isGuard}
@@ -14,12 +14,12 @@ use Rattle.term.specs.Acceptance.{stateWords}
 use Rattle.term.specs.Processes.{Derivation}
 use Rattle.choice.specs.declared.Does.{Does}
 use Rattle.choice.specs.declared.Does.the-variants.{Ticking, Acting}
-use Rattle.choice.specs.Marking.{isMarked}
+use Rattle.choice.specs.Marking.{hasMark}
 use Rattle.choice.specs.Outcomes.{labelOf}
 use Rattle.state.specs.Layout.{keyLimit, stampOf}
 use Rattle.state.specs.Evaluation.{reads}
 use Rattle.steps.specs.Acts.{toConfirm}
-use Rattle.judging.specs.Judging.{Collected}
+use Rattle.judging.specs.Judging.{GuardsMarked}
 
 -- key k is in a set, and agent x has an entry for it
 abbrev pub hasEntry : List ℕ → ℕ → ℕ → ℕ → Bool
@@ -27,16 +27,16 @@ hasEntry s x keys k = has keys k && ltb 0 (stampOf s x k)
 
 -- node b is a marked guard that reads key k
 abbrev pub markedReadsAt : Table → List ℕ → ℕ → ℕ → Bool
-markedReadsAt t marks b k = (isGuard (kindAt t b) && isMarked marks b) && reads t b k
+markedReadsAt t marks b k = (isGuard (kindAt t b) && hasMark marks b) && reads t b k
 
 -- a marked guard below n does
 abbrev pub markedReads : Table → List ℕ → ℕ → ℕ → Bool
-markedReads t marks n k = some (λ (b : ℕ). markedReadsAt t marks b k) n
+markedReads t marks n k = someBelow (λ (b : ℕ). markedReadsAt t marks b k) n
 
 -- an action is at a node of the table
-abbrev pub Within : Table → Does → Type 0
-Within t Ticking = Unit {0}
-Within t (Acting n) = n < t .sizes .nodes
+abbrev pub LabelKey : Table → Does → Type 0
+LabelKey t Ticking = Unit {0}
+LabelKey t (Acting n) = n < t .sizes .nodes
 
 -- a whole state, an agent that it has room for, a mark for each node
 pub record Gaining (t : Table) (s : List ℕ) (x : ℕ) (marks : List ℕ) (does : Does) : Type 0 where
@@ -44,8 +44,8 @@ pub record Gaining (t : Table) (s : List ℕ) (x : ℕ) (marks : List ℕ) (does
   pub whole : length s ≡ stateWords
   pub agent : x < 32
   pub room : t .sizes .nodes ≤ length marks
-  pub within : Within t does
+  pub within : LabelKey t does
 
 -- r is what Zc gains in any derivation that does this, under the marked guards
 abbrev pub Gains : Table → List ℕ → ℕ → List ℕ → Does → ℕ → Type 0
-Gains t was x marks does r = (d : Derivation) → labelOf does ≡ d .label → Collected t (d .guards) marks → r ≡ plusAll (toConfirm t was x d) keyLimit 0
+Gains t was x marks does r = (d : Derivation) → labelOf does ≡ d .label → GuardsMarked t (d .guards) marks → r ≡ plusAll (toConfirm t was x d) keyLimit 0

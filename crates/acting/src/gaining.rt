@@ -21,7 +21,7 @@ ghost use Rattle.choice.specs.Outcomes.{labelOf};
 ghost use Rattle.state.specs.Layout.{keyLimit};
 ghost use Rattle.evaluation.specs.Reading.{Adds};
 ghost use Rattle.steps.specs.Acts.{labelReads};
-ghost use Rattle.acting.specs.Gaining.{hasEntry, markedReadsAt, markedReads, Within, Gaining, Gains};
+ghost use Rattle.acting.specs.Gaining.{hasEntry, markedReadsAt, markedReads, LabelKey, Gaining, Gains};
 
 // Of a set of keys, those that have an entry of an agent.
 fn with_entry(state: &[u32], agent: usize, keys: u32) -> u32
@@ -74,7 +74,7 @@ fn guard_keys(sizes: Sizes, kinds: &[u8], operands: &[u8], marks: &[u8]) -> u32
 
 // The set with the keys that an action's expression reads; a tick has none.
 fn label_keys(sizes: Sizes, kinds: &[u8], operands: &[u8], does: Does, keys: u32) -> u32
-    requires { ⌜ Shaped (table sizes (now kinds) (now operands)) × Within (table sizes (now kinds) (now operands)) does × (keys < 2 ^ keyLimit) ⌝ }
+    requires { ⌜ Shaped (table sizes (now kinds) (now operands)) × LabelKey (table sizes (now kinds) (now operands)) does × (keys < 2 ^ keyLimit) ⌝ }
     ensures { λ r. ⌜ ((was : List ℕ) (x : ℕ) → Adds (labelReads (table sizes (now (kinds .entry)) (now (operands .entry))) was x (labelOf does)) keys r) ⌝ }
 {
     match does {

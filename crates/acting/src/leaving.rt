@@ -7,7 +7,7 @@ use table::Sizes;
 ghost use mathlib.Core.Path.{_≡_};
 ghost use Rattle.table.specs.Tables.{table};
 ghost use Rattle.term.specs.Terms.{words};
-ghost use Rattle.choice.specs.Turns.{Ready};
+ghost use Rattle.choice.specs.Turns.{Prepared};
 ghost use Rattle.steps.specs.Acts.{chosen, leave as leaveIn};
 ghost use Rattle.acting.specs.Acting.{Leaving};
 
@@ -20,7 +20,7 @@ pub fn leave(
     agent: usize,
     c: u64,
 )
-    requires { ⌜ Ready (table sizes (now kinds) (now operands)) (now scratch) ⌝ }
+    requires { ⌜ Prepared (table sizes (now kinds) (now operands)) (now scratch) ⌝ }
     requires { ⌜ Leaving (table sizes (now kinds) (now operands)) (now state) agent c ⌝ }
     ensures { λ _. ⌜ now (state .exit) ≡ leaveIn agent (words (chosen (table sizes (now (kinds .entry)) (now (operands .entry))) (now (state .entry)) agent c .leaving)) (now (state .entry)) ⌝ }
 {

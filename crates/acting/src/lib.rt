@@ -9,7 +9,7 @@ use table::Sizes;
 use writing::perform;
 ghost use Prim.Native.Nat.{_<_};
 ghost use Rattle.table.specs.Tables.{table};
-ghost use Rattle.choice.specs.Turns.{Ready};
+ghost use Rattle.choice.specs.Turns.{Prepared};
 ghost use Rattle.state.specs.WellFormed.{Proper};
 ghost use Rattle.acting.specs.Acting.{Acts};
 
@@ -23,7 +23,7 @@ pub fn act(
     agent: usize,
     c: u64,
 ) -> u8
-    requires { ⌜ Ready (table sizes (now kinds) (now operands)) (now scratch) ⌝ }
+    requires { ⌜ Prepared (table sizes (now kinds) (now operands)) (now scratch) ⌝ }
     requires { ⌜ Proper (table sizes (now kinds) (now operands)) (now state) ⌝ }
     requires { ⌜ agent < sizes .agents ⌝ }
     ensures { λ r. ⌜ Acts (table sizes (now (kinds .entry)) (now (operands .entry))) (now (state .entry)) agent c r (now (state .exit)) ⌝ }

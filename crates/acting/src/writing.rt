@@ -10,7 +10,7 @@ ghost use Prim.Native.Nat.{_<_};
 ghost use lib.ListN.{length, set};
 ghost use Rattle.table.specs.Tables.{table};
 ghost use Rattle.term.specs.Acceptance.{stateWords};
-ghost use Rattle.choice.specs.Turns.{Ready};
+ghost use Rattle.choice.specs.Turns.{Prepared};
 ghost use Rattle.state.specs.Layout.{zcAt};
 ghost use Rattle.state.specs.WellFormed.{Proper};
 ghost use Rattle.steps.specs.Acts.{chosen, acted};
@@ -38,7 +38,7 @@ pub fn perform(
     does: Does,
     value: u32,
 )
-    requires { ⌜ Ready (table sizes (now kinds) (now operands)) (now scratch) ⌝ }
+    requires { ⌜ Prepared (table sizes (now kinds) (now operands)) (now scratch) ⌝ }
     requires { ⌜ Proper (table sizes (now kinds) (now operands)) (now state) ⌝ }
     requires { ⌜ agent < sizes .agents ⌝ }
     requires { ⌜ Decided (table sizes (now kinds) (now operands)) (now state) agent c (now marks) does value ⌝ }

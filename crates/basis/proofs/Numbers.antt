@@ -8,13 +8,13 @@ use native.Mathlib.Omega.{arith}
 use native.Mathlib.Numerals.{add-one}
 use lib.Dec.{ltb}
 use borrow.Author.Tests.{ltb-true, ltb-false}
-use Rattle.basis.specs.Numbers.{some, every, lowest, howMany, forEach}
+use Rattle.basis.specs.Numbers.{someBelow, every, lowest, howMany, forEach}
 use Rattle.basis.proofs.Tests.{either, is-false, not-both, or-either, or-left, or-right, and-left, and-right, and-both, cond-cases, same-or-other, below-or-last}
 
 -- one number more, as code counts
 module _ (test : ℕ → Bool) (n : ℕ) where
-  pub some-more : some test (n + 1) ≡ (some test n || test n)
-  unfolding some
+  pub some-more : someBelow test (n + 1) ≡ (someBelow test n || test n)
+  unfolding someBelow
   some-more = rw (add-one n)
 
   pub every-more : every test (n + 1) ≡ (every test n && test n)
@@ -27,23 +27,23 @@ module _ (test : ℕ → Bool) (n : ℕ) where
 
 module _ (test : ℕ → Bool) where
   -- some
-  pub some-at : (n k : ℕ) → k < n → test k ≡ true → some test n ≡ true
-  unfolding some
+  pub some-at : (n k : ℕ) → k < n → test k ≡ true → someBelow test n ≡ true
+  unfolding someBelow
   some-at zero k h e = absurd (omega arith)
   some-at (suc n) k h e =
-      ⊎-elim (λ (l : k < n). or-left (some test n) (test n) (some-at n k l e)) (λ (l : k ≡ n). or-right (some test n) (test n) (rw l at e)) (below-or-last k n h)
+      ⊎-elim (λ (l : k < n). or-left (someBelow test n) (test n) (some-at n k l e)) (λ (l : k ≡ n). or-right (someBelow test n) (test n) (rw l at e)) (below-or-last k n h)
 
-  pub some-not : (n : ℕ) → some test n ≡ false → (k : ℕ) → k < n → test k ≡ false
+  pub some-not : (n : ℕ) → someBelow test n ≡ false → (k : ℕ) → k < n → test k ≡ false
   some-not n e k h = is-false (test k) (λ f. not-both (some-at n k h f) e)
 
-  pub some-witness : (n : ℕ) → some test n ≡ true → (k : ℕ) × (k < n) × (test k ≡ true)
-  unfolding some
+  pub some-witness : (n : ℕ) → someBelow test n ≡ true → (k : ℕ) × (k < n) × (test k ≡ true)
+  unfolding someBelow
   some-witness zero e = absurd (not-both e refl)
   some-witness (suc n) e =
-      ⊎-elim (λ (l : some test n ≡ true). let w = some-witness n l in (w .0, omega arith, w .2)) (λ (l : test n ≡ true). (n, omega arith, l)) (or-either (some test n) (test n) e)
+      ⊎-elim (λ (l : someBelow test n ≡ true). let w = some-witness n l in (w .0, omega arith, w .2)) (λ (l : test n ≡ true). (n, omega arith, l)) (or-either (someBelow test n) (test n) e)
 
-  pub some-none : (n : ℕ) → ((k : ℕ) → k < n → test k ≡ false) → some test n ≡ false
-  some-none n f = is-false (some test n) (λ e. let w = some-witness n e in not-both (w .2) (f (w .0) (w .1)))
+  pub some-none : (n : ℕ) → ((k : ℕ) → k < n → test k ≡ false) → someBelow test n ≡ false
+  some-none n f = is-false (someBelow test n) (λ e. let w = some-witness n e in not-both (w .2) (f (w .0) (w .1)))
 
   -- every
   pub every-at : (n : ℕ) → every test n ≡ true → (k : ℕ) → k < n → test k ≡ true
@@ -75,7 +75,7 @@ module _ (test : ℕ → Bool) where
       last : k ≡ n → lowest test (suc n) ≡ k
       last l =
           let t : test n ≡ true = rw l at e in
-          let s : some test n ≡ false = some-none n (λ j g. f j (omega arith)) in
+          let s : someBelow test n ≡ false = some-none n (λ j g. f j (omega arith)) in
           rw (lowest, s, t) (sym l)
 
   -- either none passes, or there is a lowest that does
@@ -115,8 +115,8 @@ module _ (test : ℕ → Bool) where
 
 -- tests that agree on the numbers below n
 module _ (f g : ℕ → Bool) where
-  pub some-ext : (n : ℕ) → ((k : ℕ) → k < n → f k ≡ g k) → some f n ≡ some g n
-  unfolding some
+  pub some-ext : (n : ℕ) → ((k : ℕ) → k < n → f k ≡ g k) → someBelow f n ≡ someBelow g n
+  unfolding someBelow
   some-ext zero h = refl
   some-ext (suc n) h = rw (h n (omega arith), some-ext n (λ k l. h k (omega arith)))
 

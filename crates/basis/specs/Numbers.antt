@@ -3,9 +3,9 @@ use Prim.Native.Nat.{ℕ, zero, suc, _+_}
 use mathlib.Core.Bool.{Bool, true, false, cond, _&&_, _||_}
 
 -- some number below n passes
-unfoldable pub some : (ℕ → Bool) → ℕ → Bool
-some test zero = false
-some test (suc n) = some test n || test n
+unfoldable pub someBelow : (ℕ → Bool) → ℕ → Bool
+someBelow test zero = false
+someBelow test (suc n) = someBelow test n || test n
 
 -- every number below n passes
 unfoldable pub every : (ℕ → Bool) → ℕ → Bool
@@ -15,7 +15,7 @@ every test (suc n) = every test n && test n
 -- the lowest number below n that passes, and n where none does
 unfoldable pub lowest : (ℕ → Bool) → ℕ → ℕ
 lowest test zero = zero
-lowest test (suc n) = cond (some test n) (lowest test n) (cond (test n) n (suc n))
+lowest test (suc n) = cond (someBelow test n) (lowest test n) (cond (test n) n (suc n))
 
 -- how many numbers below n pass
 unfoldable pub howMany : (ℕ → Bool) → ℕ → ℕ

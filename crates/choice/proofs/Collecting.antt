@@ -16,13 +16,13 @@ use Rattle.table.specs.Nodes.{isProcess, isGuard}
 use Rattle.term.specs.declared.Mode.{Mode}
 use Rattle.term.specs.declared.Mode.the-variants.{Any, Actions, Ticks}
 use Rattle.term.specs.Processes.{Process, nodeProcess}
-use Rattle.term.specs.Choices.{tickCount, count}
+use Rattle.term.specs.Choices.{tickCount, countIn}
 use Rattle.term.proofs.Acceptance.{no-process}
 use Rattle.accept.specs.declared.Counts.{Counts}
 use Rattle.accept.specs.Counts.{trueCounts}
-use Rattle.choice.specs.Chosen.{chosen}
+use Rattle.choice.specs.Chosen.{chosenIn}
 use Rattle.choice.specs.Turns.{Reached}
-use Rattle.choice.specs.Marking.{onlyTick, isMarked, isIn, Marks, Marked}
+use Rattle.choice.specs.Marking.{onlyTick, hasMark, isIn, WalkMarks, Marked}
 use Rattle.choice.proofs.Chosen.{no-idle}
 
 is-in-append : (b : ℕ) (xs ys : List ℕ) → isIn b (xs ++ ys) ≡ (isIn b xs || isIn b ys)
@@ -35,7 +35,7 @@ is-in-append b (x ∷ xs) ys = rw (is-in-append b xs ys) (by (eqb b x) (isIn b x
     by false q r = refl
 
 -- one mark more
-set-marked : (ms : List ℕ) (n b : ℕ) → n < length ms → isMarked (set ms n 1) b ≡ (eqb b n || isMarked ms b)
+set-marked : (ms : List ℕ) (n b : ℕ) → n < length ms → hasMark (set ms n 1) b ≡ (eqb b n || hasMark ms b)
 set-marked ms n b h = ap (λ (x : ℕ). eqb x 1) (getD-set ms n b 1 0 h) ∙ by (eqb b n)
   where
     by : (p : Bool) → eqb (cond p 1 (getD ms b 0)) 1 ≡ (p || eqb (getD ms b 0) 1)
@@ -55,25 +55,25 @@ apart t b n g p =
 pub reached-process : (t : Table) (level : ℕ) (m : Mode) (n c : ℕ) → Reached t level m n c → isProcess (kindAt t n) ≡ true
 reached-process t level m n c r =
     ⊎-elim (λ (e : isProcess (kindAt t n) ≡ true). e)
-    (λ (e : isProcess (kindAt t n) ≡ false). absurd (no-idle m c (subst (λ (P : Process). c < count m P) (no-process t n e) (r .choice)))) (either (isProcess (kindAt t n)))
+    (λ (e : isProcess (kindAt t n) ≡ false). absurd (no-idle m c (subst (λ (P : Process). c < countIn m P) (no-process t n e) (r .choice)))) (either (isProcess (kindAt t n)))
 
 -- where one tick is looked for and there is one only, that is the choice
-pub only-first : (m : Mode) (k : Counts) (P : Process) (c : ℕ) → onlyTick m k ≡ true → k ≡ trueCounts P → c < count m P → chosen m P c ≡ chosen Ticks P 0
+pub only-first : (m : Mode) (k : Counts) (P : Process) (c : ℕ) → onlyTick m k ≡ true → k ≡ trueCounts P → c < countIn m P → chosenIn m P c ≡ chosenIn Ticks P 0
 only-first Any k P c e f h = absurd (not-both e refl)
 only-first Actions k P c e f h = absurd (not-both e refl)
 only-first Ticks k P c e f h =
     let x : tickCount P ≡ 1 = sym (ap (λ (z : Counts). z .ticks) f) ∙ eqb-true (k .ticks) 1 e in
     let z : c ≡ 0 = omega arith in
-    ap (chosen Ticks P) z
+    ap (chosenIn Ticks P) z
 
-module _ (t : Table) (ms : List ℕ) (marks : Marks t ms) where
-  marks-guard : (g : ℕ) → isGuard (kindAt t g) ≡ true → g < length ms → Marks t (set ms g 1)
+module _ (t : Table) (ms : List ℕ) (marks : WalkMarks t ms) where
+  marks-guard : (g : ℕ) → isGuard (kindAt t g) ≡ true → g < length ms → WalkMarks t (set ms g 1)
   marks-guard g e h =
       record {
         room = omega (arith, marks .room, length-set ms g 1);
         walked = λ n p w b k i.
-            let v : isMarked ms n ≡ true = sym (set-marked ms g n h ∙ ap (λ (x : Bool). x || isMarked ms n) (other n p)) ∙ w in
-            set-marked ms g b h ∙ or-right (eqb b g) (isMarked ms b) (marks .walked n p v b k i);
+            let v : hasMark ms n ≡ true = sym (set-marked ms g n h ∙ ap (λ (x : Bool). x || hasMark ms n) (other n p)) ∙ w in
+            set-marked ms g b h ∙ or-right (eqb b g) (hasMark ms b) (marks .walked n p v b k i);
       }
     where
       other : (n : ℕ) → isProcess (kindAt t n) ≡ true → eqb n g ≡ false
@@ -82,15 +82,15 @@ module _ (t : Table) (ms : List ℕ) (marks : Marks t ms) where
   -- no guard, or the same ones
   pub marked-none : Marked t [] ms ms
   unfolding isIn
-  marked-none = record { marks = marks; same = refl; guards = λ b e. by (isMarked ms b) }
+  marked-none = record { marks = marks; same = refl; guards = λ b e. by (hasMark ms b) }
     where
       by : (p : Bool) → p ≡ (p || false)
       by true = refl
       by false = refl
 
   -- one guard, and then the others
-  pub mark-guard : (g : ℕ) → isGuard (kindAt t g) ≡ true → g < t .sizes .nodes → (vs : List ℕ) → vs ≡ set ms g 1 → Marks t vs
-  mark-guard g e h vs f = subst (Marks t) (sym f) (marks-guard g e (omega (arith, marks .room)))
+  pub mark-guard : (g : ℕ) → isGuard (kindAt t g) ≡ true → g < t .sizes .nodes → (vs : List ℕ) → vs ≡ set ms g 1 → WalkMarks t vs
+  mark-guard g e h vs f = subst (WalkMarks t) (sym f) (marks-guard g e (omega (arith, marks .room)))
 
   pub marked-guard : (g : ℕ) → g < t .sizes .nodes → (vs : List ℕ) → vs ≡ set ms g 1 → (gs out : List ℕ) → Marked t gs vs out → Marked t (g ∷ gs) ms out
   unfolding isIn
@@ -98,7 +98,7 @@ module _ (t : Table) (ms : List ℕ) (marks : Marks t ms) where
       record {
         marks = m .marks;
         same = m .same ∙ ap length f ∙ length-set ms g 1;
-        guards = λ b e. m .guards b e ∙ ap (λ (x : Bool). x || isIn b gs) (ap (λ (l : List ℕ). isMarked l b) f ∙ set-marked ms g b (omega (arith, marks .room))) ∙ by (eqb b g) (isMarked ms b) (isIn b gs);
+        guards = λ b e. m .guards b e ∙ ap (λ (x : Bool). x || isIn b gs) (ap (λ (l : List ℕ). hasMark l b) f ∙ set-marked ms g b (omega (arith, marks .room))) ∙ by (eqb b g) (hasMark ms b) (isIn b gs);
       }
     where
       by : (p q r : Bool) → ((p || q) || r) ≡ (q || (p || r))
@@ -113,7 +113,7 @@ module _ (t : Table) (ms : List ℕ) (marks : Marks t ms) where
         marks = m .marks;
         same = m .same ∙ k .same;
         guards = λ b e.
-            m .guards b e ∙ ap (λ (x : Bool). x || isIn b gs) (k .guards b e) ∙ by (isMarked ms b) (isIn b us) (isIn b gs) ∙ ap (λ (x : Bool). isMarked ms b || x) (sym (is-in-append b us gs));
+            m .guards b e ∙ ap (λ (x : Bool). x || isIn b gs) (k .guards b e) ∙ by (hasMark ms b) (isIn b us) (isIn b gs) ∙ ap (λ (x : Bool). hasMark ms b || x) (sym (is-in-append b us gs));
       }
     where
       by : (p q r : Bool) → ((p || q) || r) ≡ (p || (q || r))
@@ -121,49 +121,49 @@ module _ (t : Table) (ms : List ℕ) (marks : Marks t ms) where
       by false q r = refl
 
   -- a node whose only tick has been walked, and one whose only tick has just been walked
-  pub marked-before : (n : ℕ) → isProcess (kindAt t n) ≡ true → isMarked ms n ≡ true → Marked t (chosen Ticks (nodeProcess t n) 0 .guards) ms ms
-  marked-before n p w = record { marks = marks; same = refl; guards = λ b e. by (isMarked ms b) (isIn b (chosen Ticks (nodeProcess t n) 0 .guards)) (marks .walked n p w b e) }
+  pub marked-before : (n : ℕ) → isProcess (kindAt t n) ≡ true → hasMark ms n ≡ true → Marked t (chosenIn Ticks (nodeProcess t n) 0 .guards) ms ms
+  marked-before n p w = record { marks = marks; same = refl; guards = λ b e. by (hasMark ms b) (isIn b (chosenIn Ticks (nodeProcess t n) 0 .guards)) (marks .walked n p w b e) }
     where
       by : (x y : Bool) → (y ≡ true → x ≡ true) → x ≡ (x || y)
       by true y f = refl
       by false true f = f refl
       by false false f = refl
 
-  pub marked-after : (n : ℕ) → isProcess (kindAt t n) ≡ true → n < t .sizes .nodes → (mid : List ℕ) → Marked t (chosen Ticks (nodeProcess t n) 0 .guards) ms mid
-      → (vs : List ℕ) → vs ≡ set mid n 1 → Marked t (chosen Ticks (nodeProcess t n) 0 .guards) ms vs
+  pub marked-after : (n : ℕ) → isProcess (kindAt t n) ≡ true → n < t .sizes .nodes → (mid : List ℕ) → Marked t (chosenIn Ticks (nodeProcess t n) 0 .guards) ms mid
+      → (vs : List ℕ) → vs ≡ set mid n 1 → Marked t (chosenIn Ticks (nodeProcess t n) 0 .guards) ms vs
   marked-after n p h mid m vs f = subst (λ (v : List ℕ). Marked t gs ms v) (sym f) done
     where
       gs : List ℕ
-      gs = chosen Ticks (nodeProcess t n) 0 .guards
+      gs = chosenIn Ticks (nodeProcess t n) 0 .guards
 
       inside : n < length mid
       inside = omega (arith, m .marks .room)
 
-      kept : (b : ℕ) → isMarked mid b ≡ true → isMarked (set mid n 1) b ≡ true
-      kept b e = set-marked mid n b inside ∙ or-right (eqb b n) (isMarked mid b) e
+      kept : (b : ℕ) → hasMark mid b ≡ true → hasMark (set mid n 1) b ≡ true
+      kept b e = set-marked mid n b inside ∙ or-right (eqb b n) (hasMark mid b) e
 
-      walked : (k : ℕ) → isProcess (kindAt t k) ≡ true → isMarked (set mid n 1) k ≡ true
-          → (b : ℕ) → isGuard (kindAt t b) ≡ true → isIn b (chosen Ticks (nodeProcess t k) 0 .guards) ≡ true → isMarked (set mid n 1) b ≡ true
+      walked : (k : ℕ) → isProcess (kindAt t k) ≡ true → hasMark (set mid n 1) k ≡ true
+          → (b : ℕ) → isGuard (kindAt t b) ≡ true → isIn b (chosenIn Ticks (nodeProcess t k) 0 .guards) ≡ true → hasMark (set mid n 1) b ≡ true
       walked k q w b e i =
           ⊎-elim
           (λ (x : eqb k n ≡ true).
           let z : k ≡ n = eqb-true k n x in
-          let j : isIn b gs ≡ true = ap (λ (y : ℕ). isIn b (chosen Ticks (nodeProcess t y) 0 .guards)) (sym z) ∙ i in
-          kept b (m .guards b e ∙ or-right (isMarked ms b) (isIn b gs) j))
-          (λ (x : isMarked mid k ≡ true). kept b (m .marks .walked k q x b e i))
-          (or-either (eqb k n) (isMarked mid k) (sym (set-marked mid n k inside) ∙ w))
+          let j : isIn b gs ≡ true = ap (λ (y : ℕ). isIn b (chosenIn Ticks (nodeProcess t y) 0 .guards)) (sym z) ∙ i in
+          kept b (m .guards b e ∙ or-right (hasMark ms b) (isIn b gs) j))
+          (λ (x : hasMark mid k ≡ true). kept b (m .marks .walked k q x b e i))
+          (or-either (eqb k n) (hasMark mid k) (sym (set-marked mid n k inside) ∙ w))
 
       done : Marked t gs ms (set mid n 1)
       done =
           record {
             marks = record { room = omega (arith, m .marks .room, length-set mid n 1); walked = walked };
             same = length-set mid n 1 ∙ m .same;
-            guards = λ b e. set-marked mid n b inside ∙ ap (λ (x : Bool). x || isMarked mid b) (apart t b n e p) ∙ m .guards b e;
+            guards = λ b e. set-marked mid n b inside ∙ ap (λ (x : Bool). x || hasMark mid b) (apart t b n e p) ∙ m .guards b e;
           }
 
 pub marked-same : {t : Table} {gs hs ms out : List ℕ} → gs ≡ hs → Marked t hs ms out → Marked t gs ms out
 marked-same {t} {gs} {hs} {ms} {out} e m = subst (λ (l : List ℕ). Marked t l ms out) (sym e) m
 
 -- where nothing is marked
-pub marks-zero : (t : Table) (ms : List ℕ) → t .sizes .nodes ≤ length ms → ((n : ℕ) → getD ms n 0 ≡ 0) → Marks t ms
+pub marks-zero : (t : Table) (ms : List ℕ) → t .sizes .nodes ≤ length ms → ((n : ℕ) → getD ms n 0 ≡ 0) → WalkMarks t ms
 marks-zero t ms h z = record { room = h; walked = λ n p w. absurd (not-both w (ne-eqb (getD ms n 0) 1 (λ e. omega (arith, z n)))) }

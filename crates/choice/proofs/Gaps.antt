@@ -12,30 +12,30 @@ use Rattle.term.specs.declared.Mode.{Mode}
 use Rattle.term.specs.Terms.{Tick, Idle, words, tickWord, idleWord}
 use Rattle.term.specs.Processes.{ticks, acts, Derivation, derivation, nodeProcess}
 use Rattle.choice.specs.declared.Gap.{Gap}
-use Rattle.choice.specs.Chosen.{chosen}
+use Rattle.choice.specs.Chosen.{chosenIn}
 use Rattle.choice.specs.Turns.{Reached, Around}
 use Rattle.choice.specs.Writing.{Room, Written}
 
 -- the room of each step
 module _ (t : Table) (level : ℕ) (m : Mode) (n c front back : ℕ) (ws : List ℕ) (room : Room t level m n c front back ws) where
   abbrev d : Derivation
-  d = chosen m (nodeProcess t n) c
+  d = chosenIn m (nodeProcess t n) c
 
   pub room-end : (w : ℕ) → words (d .leaving) ≡ w ∷ [] → front + 1 ≤ back
   room-end w e = let l = room .fits in let f = ap length e in omega arith
 
   -- where what is left stays the same
-  pub room-same : (lower : ℕ) (j : Mode) (k i : ℕ) → Reached t lower j k i → words (d .leaving) ≡ words (chosen j (nodeProcess t k) i .leaving) → Room t lower j k i front back ws
+  pub room-same : (lower : ℕ) (j : Mode) (k i : ℕ) → Reached t lower j k i → words (d .leaving) ≡ words (chosenIn j (nodeProcess t k) i .leaving) → Room t lower j k i front back ws
   room-same lower j k i r e = record { reached = r; fits = rw e at (room .fits); end = room .end }
 
   -- where words stay around it
-  pub room-around : (j : Mode) (k i : ℕ) (pre post : List ℕ) (vs : List ℕ) → Reached t level j k i → Around d (chosen j (nodeProcess t k) i) pre post → length vs ≡ length ws
+  pub room-around : (j : Mode) (k i : ℕ) (pre post : List ℕ) (vs : List ℕ) → Reached t level j k i → Around d (chosenIn j (nodeProcess t k) i) pre post → length vs ≡ length ws
       → (f b : ℕ) → f ≡ front + length pre → b + length post ≡ back → Room t level j k i f b vs
   room-around j k i pre post vs r a h f b u v =
       let l = room .fits in
       let b = room .end in
-      let x = ap length (a .words) ∙ length-append pre (words (chosen j (nodeProcess t k) i .leaving) ++ post) in
-      let y = length-append (words (chosen j (nodeProcess t k) i .leaving)) post in
+      let x = ap length (a .words) ∙ length-append pre (words (chosenIn j (nodeProcess t k) i .leaving) ++ post) in
+      let y = length-append (words (chosenIn j (nodeProcess t k) i .leaving)) post in
       record { reached = r; fits = omega arith; end = omega arith }
 
   pub room-between : (e : Derivation) (pre post : List ℕ) → Around d e pre post → front + (length pre + length post) ≤ back

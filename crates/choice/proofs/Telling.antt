@@ -8,7 +8,7 @@ use lib.ListN.{length, length-append}
 use Rattle.term.specs.Terms.{Term, Tick, Idle, words}
 use Rattle.term.specs.Processes.{ticks, acts, Derivation, derivation}
 use Rattle.choice.specs.declared.Does.the-variants.{Ticking, Acting}
-use Rattle.choice.specs.declared.Outcome.{Outcome}
+use Rattle.choice.specs.declared.Effect.{Effect}
 use Rattle.choice.specs.Turns.{Around}
 use Rattle.choice.specs.Outcomes.{grownBy, Tells}
 
@@ -21,7 +21,7 @@ module _ (d : Derivation) (limit : ℕ) (l : 1 ≤ limit) where
   unfolding words
   tells-act n h = record { label = ap (λ (x : Derivation). x .label) (sym h); size = ap (λ (x : Derivation). length (words (x .leaving))) (sym h); bound = l }
 
-module _ (d e : Derivation) (limit wider : ℕ) (o : Outcome) (w : Tells e limit o) where
+module _ (d e : Derivation) (limit wider : ℕ) (o : Effect) (w : Tells e limit o) where
   pub tells-same : (d .label ≡ e .label) × (d .leaving ≡ e .leaving) → limit ≤ wider → Tells d wider o
   tells-same h l =
       record {
@@ -30,7 +30,7 @@ module _ (d e : Derivation) (limit wider : ℕ) (o : Outcome) (w : Tells e limit
         bound = omega (arith, w .bound);
       }
 
-  pub tells-around : (front back : List ℕ) → Around d e front back → (k : ℕ) → k ≡ length front + length back → limit + k ≤ wider → (r : Outcome) → r ≡ grownBy o k → Tells d wider r
+  pub tells-around : (front back : List ℕ) → Around d e front back → (k : ℕ) → k ≡ length front + length back → limit + k ≤ wider → (r : Effect) → r ≡ grownBy o k → Tells d wider r
   tells-around front back h k f l r g =
       rw g record {
         label = w .label ∙ sym (h .label);

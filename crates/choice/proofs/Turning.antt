@@ -15,13 +15,13 @@ use Rattle.term.specs.declared.Mode.{Mode}
 use Rattle.term.specs.declared.Mode.the-variants.{Actions, Ticks}
 use Rattle.term.specs.Terms.{Term, Node, words, seqWord, parWord}
 use Rattle.term.specs.Processes.{Process, idle, choice, seq, par, Derivation, before, besideRight, besideLeft, byKind, defined, nodeProcess}
-use Rattle.term.specs.Choices.{tickCount, count, actionsOf}
+use Rattle.term.specs.Choices.{tickCount, countIn, actionsOf}
 use Rattle.term.specs.Exposure.{canTick, callsBelow}
 use Rattle.term.proofs.Counting.{count-choice, count-guarded, can-tick-iff}
 use Rattle.term.proofs.Opened.{sound-lower, process-opened}
 use Rattle.term.proofs.Calls.{body-same, call-opened}
 use Rattle.accept.specs.declared.Counts.{Counts}
-use Rattle.accept.specs.Counts.{Small, trueCounts}
+use Rattle.accept.specs.Counts.{Capped, trueCounts}
 use Rattle.accept.specs.Scratch.{pairAt}
 use Rattle.choice.specs.declared.Pick.{Pick}
 use Rattle.choice.specs.declared.Pick.the-variants.{LeftActs, RightActs, LeftTicks, RightTicks}
@@ -29,9 +29,9 @@ use Rattle.choice.specs.declared.Side.{Side}
 use Rattle.choice.specs.declared.Side.the-variants.{Alone, Under, After}
 use Rattle.choice.specs.declared.Turn.{Turn}
 use Rattle.choice.specs.declared.Turn.the-variants.{Ticked, Acted, On, Call}
-use Rattle.choice.specs.Chosen.{chosen}
+use Rattle.choice.specs.Chosen.{chosenIn}
 use Rattle.choice.specs.Picks.{actingOf, totalOf, pickOf}
-use Rattle.choice.specs.Turns.{pickTurn, choiceTurn, Ready, Reached, Around, Collected, Turned}
+use Rattle.choice.specs.Turns.{pickTurn, choiceTurn, Prepared, Reached, Around, SideCollected, Turned}
 use Rattle.choice.proofs.Chosen.{no-idle, chosen-tick, chosen-act, chosen-guarded, chosen-choice-left, chosen-choice-right, chosen-same, count-same}
 use Rattle.choice.proofs.Picking.{acting-true, total-true, SeqPicked, ParPicked, seq-picked, par-picked}
 
@@ -65,7 +65,7 @@ after-node {d} {e} {w} n a = subst (λ (l : List ℕ). Around d e (w ∷ []) l) 
 before-node : {d e : Derivation} {w : ℕ} (n : ℕ) → Around d e (w ∷ words (Node n)) [] → Around d e (w ∷ n ∷ []) []
 before-node {d} {e} {w} n a = subst (λ (l : List ℕ). Around d e (w ∷ l) []) (one-word n) a
 
-module _ (t : Table) (s : List ℕ) (ready : Ready t s) (level : ℕ) (m : Mode) (n c : ℕ) (reached : Reached t level m n c) where
+module _ (t : Table) (s : List ℕ) (ready : Prepared t s) (level : ℕ) (m : Mode) (n c : ℕ) (reached : Reached t level m n c) where
   abbrev p : ℕ
   p = pAt t n
 
@@ -85,7 +85,7 @@ module _ (t : Table) (s : List ℕ) (ready : Ready t s) (level : ℕ) (m : Mode)
   lower-true : (k : ℕ) → k < n → pairAt s k ≡ trueCounts (N k)
   lower-true k h = ready .counted .nodes k (omega (arith, reached .low))
 
-  pub lower-small : (k : ℕ) → k < n → Small (pairAt s k)
+  pub lower-small : (k : ℕ) → k < n → Capped (pairAt s k)
   lower-small k h = let f = ready .counted .few k (omega (arith, reached .low)) in record { actions = omega arith; ticks = omega arith }
 
   pub lower-room : (k : ℕ) → k < n → 2 * k + 1 < length s
@@ -99,20 +99,20 @@ module _ (t : Table) (s : List ℕ) (ready : Ready t s) (level : ℕ) (m : Mode)
     opened : N n ≡ Form k
     opened = process-opened t n k (reached .low) (sound-lower t (ready .checked .sound) n) e
 
-    form-choice : c < count m (Form k)
-    form-choice = subst (λ (P : Process). c < count m P) opened (reached .choice)
+    form-choice : c < countIn m (Form k)
+    form-choice = subst (λ (P : Process). c < countIn m P) opened (reached .choice)
 
     form-calls : callsBelow level (Form k) ≡ true
     form-calls = subst (λ (P : Process). callsBelow level P ≡ true) opened (reached .calls)
 
-    from-form : (r : Turn) → Turned t level m n c (chosen m (Form k) c) r → Turned t level m n c (chosen m (N n) c) r
-    from-form r w = subst (λ (P : Process). Turned t level m n c (chosen m P c) r) (sym opened) w
+    from-form : (r : Turn) → Turned t level m n c (chosenIn m (Form k) c) r → Turned t level m n c (chosenIn m (N n) c) r
+    from-form r w = subst (λ (P : Process). Turned t level m n c (chosenIn m P c) r) (sym opened) w
 
-  reach : (k : ℕ) (j : Mode) (i : ℕ) → k < n → i < count j (N k) → callsBelow level (N k) ≡ true → Reached t level j k i
+  reach : (k : ℕ) (j : Mode) (i : ℕ) → k < n → i < countIn j (N k) → callsBelow level (N k) ≡ true → Reached t level j k i
   reach k j i l h g = record { low = omega (arith, reached .low); top = reached .top; choice = h; calls = g }
 
   abbrev Is : Turn → Type 0
-  Is r = Turned t level m n c (chosen m (N n) c) r
+  Is r = Turned t level m n c (chosenIn m (N n) c) r
 
   pub turned-tick : kindAt t n ≡ 1 → Is Ticked
   turned-tick e = from-form 1 e Ticked (chosen-tick m c (form-choice 1 e))
@@ -141,10 +141,10 @@ module _ (t : Table) (s : List ℕ) (ready : Ready t s) (level : ℕ) (m : Mode)
       w = lower-nodes (omega arith) (omega arith)
 
       d : Derivation
-      d = chosen m (seq (N p) (N q) (Node q)) c
+      d = chosenIn m (seq (N p) (N q) (Node q)) c
 
       Picked : Pick → Type 0
-      Picked y = SeqPicked m (N p) (N q) (Node q) (chosen m (seq (N p) (N q) (Node q)) c) y
+      Picked y = SeqPicked m (N p) (N q) (Node q) (chosenIn m (seq (N p) (N q) (Node q)) c) y
 
       true-counts : pickOf m c 0 (pairAt s p) (pairAt s q) ≡ pickOf m c 0 (trueCounts (N p)) (trueCounts (N q))
       true-counts = ap₂ (pickOf m c 0) (lower-true p (w .0)) (lower-true q (w .1))
@@ -160,7 +160,7 @@ module _ (t : Table) (s : List ℕ) (ready : Ready t s) (level : ℕ) (m : Mode)
           or-implies (canTick (N p)) (callsBelow level (N q)) (can-tick-iff (N p) .1 (omega arith))
           (and-right (callsBelow level (N p)) (not (canTick (N p)) || callsBelow level (N q)) calls)
 
-      by : (y : Pick) → Picked y → Turned t level m n c (chosen m (seq (N p) (N q) (Node q)) c) (pickTurn seqWord p q y)
+      by : (y : Pick) → Picked y → Turned t level m n c (chosenIn m (seq (N p) (N q) (Node q)) c) (pickTurn seqWord p q y)
       by (LeftActs i) (h, g) = let l = few-nodes in (w .0, reach p Actions i (w .0) h left-calls, after-node q (around-before _ _ (Node q) g), omega arith, omega (arith, w))
       by (RightActs i) h = absurd h
       by (LeftTicks j i) (h, g, k) = (w .1, reach q m i (w .1) g (right-calls j h), (w .0, reach p Ticks j (w .0) h left-calls, k))
@@ -173,7 +173,7 @@ module _ (t : Table) (s : List ℕ) (ready : Ready t s) (level : ℕ) (m : Mode)
       w = lower-nodes (omega arith) (omega arith)
 
       Picked : Pick → Type 0
-      Picked y = ParPicked m (N p) (Node p) (N q) (Node q) (chosen m (par (N p) (Node p) (N q) (Node q)) c) y
+      Picked y = ParPicked m (N p) (Node p) (N q) (Node q) (chosenIn m (par (N p) (Node p) (N q) (Node q)) c) y
 
       true-counts : pickOf m c (actingOf m (pairAt s q)) (pairAt s p) (pairAt s q) ≡ pickOf m c (actionsOf m (N q)) (trueCounts (N p)) (trueCounts (N q))
       true-counts =
@@ -189,7 +189,7 @@ module _ (t : Table) (s : List ℕ) (ready : Ready t s) (level : ℕ) (m : Mode)
       right-calls : callsBelow level (N q) ≡ true
       right-calls = and-right (callsBelow level (N p)) (callsBelow level (N q)) calls
 
-      by : (y : Pick) → Picked y → Turned t level m n c (chosen m (par (N p) (Node p) (N q) (Node q)) c) (pickTurn parWord p q y)
+      by : (y : Pick) → Picked y → Turned t level m n c (chosenIn m (par (N p) (Node p) (N q) (Node q)) c) (pickTurn parWord p q y)
       by (LeftActs i) (h, g) = let l = few-nodes in (w .0, reach p Actions i (w .0) h left-calls, after-node q (around-right _ _ (Node q) g), omega arith, omega (arith, w))
       by (RightActs i) (h, g) = let l = few-nodes in (w .1, reach q Actions i (w .1) h right-calls, before-node p (around-left _ _ (Node p) g), omega (arith, w))
       by (LeftTicks j i) (h, g, k) = (w .1, reach q m i (w .1) g right-calls, (w .0, reach p Ticks j (w .0) h left-calls, k))
@@ -197,7 +197,7 @@ module _ (t : Table) (s : List ℕ) (ready : Ready t s) (level : ℕ) (m : Mode)
 
   pub turned-choice : kindAt t n ≡ 6 → (k : ℕ) → k ≡ totalOf m (pairAt s p) → Is (choiceTurn c p q k)
   unfolding choiceTurn
-  turned-choice e k f = from-form 6 e (choiceTurn c p q k) (rw (f ∙ ap (totalOf m) (lower-true p (w .0)) ∙ total-true m (N p)) (⊎-elim left right (lt-or-le c (count m (N p)))))
+  turned-choice e k f = from-form 6 e (choiceTurn c p q k) (rw (f ∙ ap (totalOf m) (lower-true p (w .0)) ∙ total-true m (N p)) (⊎-elim left right (lt-or-le c (countIn m (N p)))))
     where
       w : (p < n) × (q < n)
       w = lower-nodes (omega arith) (omega arith)
@@ -205,17 +205,17 @@ module _ (t : Table) (s : List ℕ) (ready : Ready t s) (level : ℕ) (m : Mode)
       calls : (callsBelow level (N p) && callsBelow level (N q)) ≡ true
       calls = unfold callsBelow in form-calls 6 e
 
-      left : c < count m (N p) → Turned t level m n c (chosen m (choice (N p) (N q)) c) (choiceTurn c p q (count m (N p)))
+      left : c < countIn m (N p) → Turned t level m n c (chosenIn m (choice (N p) (N q)) c) (choiceTurn c p q (countIn m (N p)))
       left h =
-          rw (choiceTurn, lt-ltb c (count m (N p)) h)
+          rw (choiceTurn, lt-ltb c (countIn m (N p)) h)
           (w .0, reach p m c (w .0) h (and-left (callsBelow level (N p)) (callsBelow level (N q)) calls), chosen-choice-left m (N p) (N q) c h)
 
-      right : count m (N p) ≤ c → Turned t level m n c (chosen m (choice (N p) (N q)) c) (choiceTurn c p q (count m (N p)))
+      right : countIn m (N p) ≤ c → Turned t level m n c (chosenIn m (choice (N p) (N q)) c) (choiceTurn c p q (countIn m (N p)))
       right h =
           let l = form-choice 6 e in
           let x = count-choice m (N p) (N q) in
-          rw (choiceTurn, le-ltb c (count m (N p)) h)
-          (w .1, reach q m (c - count m (N p)) (w .1) (omega arith) (and-right (callsBelow level (N p)) (callsBelow level (N q)) calls), chosen-choice-right m (N p) (N q) c h l)
+          rw (choiceTurn, le-ltb c (countIn m (N p)) h)
+          (w .1, reach q m (c - countIn m (N p)) (w .1) (omega arith) (and-right (callsBelow level (N p)) (callsBelow level (N q)) calls), chosen-choice-right m (N p) (N q) c h l)
 
   pub turned-guarded : kindAt t n ≡ 7 → Is (On q c (Under p))
   unfolding callsBelow
@@ -243,7 +243,7 @@ module _ (t : Table) (s : List ℕ) (ready : Ready t s) (level : ℕ) (m : Mode)
       )
 
 -- what is collected changes neither what is done nor what is left
-pub collected-same : (t : Table) (level n : ℕ) (d e : Derivation) (side : Side) → Collected t level n d e side → (d .label ≡ e .label) × (d .leaving ≡ e .leaving)
+pub collected-same : (t : Table) (level n : ℕ) (d e : Derivation) (side : Side) → SideCollected t level n d e side → (d .label ≡ e .label) × (d .leaving ≡ e .leaving)
 collected-same t level n d e Alone h = (ap (λ (x : Derivation). x .label) h, ap (λ (x : Derivation). x .leaving) h)
 collected-same t level n d e (Under g) h = (ap (λ (x : Derivation). x .label) (h .1), ap (λ (x : Derivation). x .leaving) (h .1))
 collected-same t level n d e (After k j) h = (ap (λ (x : Derivation). x .label) (h .2), ap (λ (x : Derivation). x .leaving) (h .2))

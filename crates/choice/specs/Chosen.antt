@@ -5,7 +5,7 @@ use lib.ListN.{getD}
 use Rattle.term.specs.declared.Mode.{Mode}
 use Rattle.term.specs.Terms.{Idle}
 use Rattle.term.specs.Processes.{Process, ticks, Derivation, derivation}
-use Rattle.term.specs.Choices.{choices}
+use Rattle.term.specs.Choices.{derivationsIn}
 
-unfoldable pub chosen : Mode → Process → ℕ → Derivation
-chosen m P c = getD (choices m P) c (derivation ticks [] Idle)
+unfoldable pub chosenIn : Mode → Process → ℕ → Derivation
+chosenIn m P c = getD (derivationsIn m P) c (derivation ticks [] Idle)

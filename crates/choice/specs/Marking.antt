@@ -11,15 +11,15 @@ use Rattle.term.specs.declared.Mode.{Mode}
 use Rattle.term.specs.declared.Mode.the-variants.{Any, Actions, Ticks}
 use Rattle.term.specs.Processes.{nodeProcess}
 use Rattle.accept.specs.declared.Counts.{Counts}
-use Rattle.choice.specs.Chosen.{chosen}
+use Rattle.choice.specs.Chosen.{chosenIn}
 
 abbrev pub onlyTick : Mode → Counts → Bool
 onlyTick Any c = false
 onlyTick Actions c = false
 onlyTick Ticks c = eqb (c .ticks) 1
 
-abbrev pub isMarked : List ℕ → ℕ → Bool
-isMarked ms n = eqb (getD ms n 0) 1
+abbrev pub hasMark : List ℕ → ℕ → Bool
+hasMark ms n = eqb (getD ms n 0) 1
 
 -- b is one of these nodes
 unfoldable pub isIn : ℕ → List ℕ → Bool
@@ -27,13 +27,13 @@ isIn b [] = false
 isIn b (x ∷ xs) = eqb b x || isIn b xs
 
 -- there is a byte for each node, and the guards of a walked node's only tick are marked
-pub record Marks (t : Table) (ms : List ℕ) : Type 0 where
+pub record WalkMarks (t : Table) (ms : List ℕ) : Type 0 where
   pub room : t .sizes .nodes ≤ length ms
-  pub walked : (n : ℕ) → isProcess (kindAt t n) ≡ true → isMarked ms n ≡ true →
-      (b : ℕ) → isGuard (kindAt t b) ≡ true → isIn b (chosen Ticks (nodeProcess t n) 0 .guards) ≡ true → isMarked ms b ≡ true
+  pub walked : (n : ℕ) → isProcess (kindAt t n) ≡ true → hasMark ms n ≡ true →
+      (b : ℕ) → isGuard (kindAt t b) ≡ true → isIn b (chosenIn Ticks (nodeProcess t n) 0 .guards) ≡ true → hasMark ms b ≡ true
 
 -- a guard is marked now where it was before, or is one of these
 pub record Marked (t : Table) (gs ms out : List ℕ) : Type 0 where
-  pub marks : Marks t out
+  pub marks : WalkMarks t out
   pub same : length out ≡ length ms
-  pub guards : (b : ℕ) → isGuard (kindAt t b) ≡ true → isMarked out b ≡ (isMarked ms b || isIn b gs)
+  pub guards : (b : ℕ) → isGuard (kindAt t b) ≡ true → hasMark out b ≡ (hasMark ms b || isIn b gs)

@@ -6,13 +6,13 @@ use Rattle.term.specs.Terms.{words}
 use Rattle.term.specs.Processes.{Label, ticks, acts, Derivation}
 use Rattle.choice.specs.declared.Does.{Does}
 use Rattle.choice.specs.declared.Does.the-variants.{Ticking, Acting}
-use Rattle.choice.specs.declared.Outcome.{Outcome}
+use Rattle.choice.specs.declared.Effect.{Effect}
 
 abbrev pub labelOf : Does → Label
 labelOf Ticking = ticks
 labelOf (Acting n) = acts n
 
-abbrev pub grownBy : Outcome → ℕ → Outcome
+abbrev pub grownBy : Effect → ℕ → Effect
 grownBy o n = record { does = o .does; size = o .size + n }
 
 -- how far a walk from node n can go, where definitions below a level may be called; each of its steps adds at most two words
@@ -23,7 +23,7 @@ abbrev pub most : ℕ → ℕ → ℕ
 most level n = 2 * reach level n + 1
 
 -- an outcome is that of derivation d, and leaves at most so many words
-pub record Tells (d : Derivation) (limit : ℕ) (r : Outcome) : Type 0 where
+pub record Tells (d : Derivation) (limit : ℕ) (r : Effect) : Type 0 where
   pub label : labelOf (r .does) ≡ d .label
   pub size : r .size ≡ length (words (d .leaving))
   pub bound : r .size ≤ limit

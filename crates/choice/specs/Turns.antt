@@ -9,7 +9,7 @@ use Rattle.term.specs.declared.Mode.{Mode}
 use Rattle.term.specs.declared.Mode.the-variants.{Actions, Ticks}
 use Rattle.term.specs.Terms.{Tick, Idle, words, parWord}
 use Rattle.term.specs.Processes.{ticks, acts, Derivation, derivation, under, join, nodeProcess, GuardNode}
-use Rattle.term.specs.Choices.{count}
+use Rattle.term.specs.Choices.{countIn}
 use Rattle.term.specs.Exposure.{callsBelow}
 use Rattle.term.specs.Accepted.{Checked}
 use Rattle.accept.specs.Scratch.{Counted}
@@ -19,7 +19,7 @@ use Rattle.choice.specs.declared.Side.{Side}
 use Rattle.choice.specs.declared.Side.the-variants.{Alone, Under, After}
 use Rattle.choice.specs.declared.Turn.{Turn}
 use Rattle.choice.specs.declared.Turn.the-variants.{Ticked, Acted, On, Left, Right, Call}
-use Rattle.choice.specs.Chosen.{chosen}
+use Rattle.choice.specs.Chosen.{chosenIn}
 
 -- at a sequence or a parallel of nodes p and q, by its operator's word
 abbrev pub pickTurn : ℕ → ℕ → ℕ → Pick → Turn
@@ -33,7 +33,7 @@ unfoldable pub choiceTurn : ℕ → ℕ → ℕ → ℕ → Turn
 choiceTurn c p q k = cond (ltb c k) (On p c Alone) (On q (c - k) Alone)
 
 -- the table has been checked, and the words hold the counts of its nodes
-pub record Ready (t : Table) (s : List ℕ) : Type 0 where
+pub record Prepared (t : Table) (s : List ℕ) : Type 0 where
   pub checked : Checked t
   pub counted : Counted t s
 
@@ -41,7 +41,7 @@ pub record Ready (t : Table) (s : List ℕ) : Type 0 where
 pub record Reached (t : Table) (level : ℕ) (m : Mode) (n c : ℕ) : Type 0 where
   pub low : n < firstRoot t
   pub top : level ≤ t .sizes .definitions
-  pub choice : c < count m (nodeProcess t n)
+  pub choice : c < countIn m (nodeProcess t n)
   pub calls : callsBelow level (nodeProcess t n) ≡ true
 
 -- d does what e does, under the same guards, and leaves what e leaves between some words
@@ -51,16 +51,16 @@ pub record Around (d e : Derivation) (front back : List ℕ) : Type 0 where
   pub words : words (d .leaving) ≡ front ++ (words (e .leaving) ++ back)
 
 -- d is e, with what is collected besides
-abbrev pub Collected : Table → ℕ → ℕ → Derivation → Derivation → Side → Type 0
-Collected t level n d e Alone = d ≡ e
-Collected t level n d e (Under g) = GuardNode t g × (d ≡ under g e)
-Collected t level n d e (After k j) = (k < n) × Reached t level Ticks k j × (d ≡ join (chosen Ticks (nodeProcess t k) j) e)
+abbrev pub SideCollected : Table → ℕ → ℕ → Derivation → Derivation → Side → Type 0
+SideCollected t level n d e Alone = d ≡ e
+SideCollected t level n d e (Under g) = GuardNode t g × (d ≡ under g e)
+SideCollected t level n d e (After k j) = (k < n) × Reached t level Ticks k j × (d ≡ join (chosenIn Ticks (nodeProcess t k) j) e)
 
 -- what a step at node n says of choice c, which is d
 abbrev pub Turned : Table → ℕ → Mode → ℕ → ℕ → Derivation → Turn → Type 0
 Turned t level m n c d Ticked = d ≡ derivation ticks [] Idle
 Turned t level m n c d Acted = d ≡ derivation (acts n) [] Tick
-Turned t level m n c d (On k i side) = (k < n) × Reached t level m k i × Collected t level n d (chosen m (nodeProcess t k) i) side
-Turned t level m n c d (Left w k i q) = (k < n) × Reached t level Actions k i × Around d (chosen Actions (nodeProcess t k) i) (w ∷ []) (q ∷ []) × (w < 65536) × (q < 65536)
-Turned t level m n c d (Right p k i) = (k < n) × Reached t level Actions k i × Around d (chosen Actions (nodeProcess t k) i) (parWord ∷ p ∷ []) [] × (p < 65536)
-Turned t level m n c d (Call e) = (e < level) × Reached t e m (bodyAt t e) c × (d ≡ chosen m (nodeProcess t (bodyAt t e)) c)
+Turned t level m n c d (On k i side) = (k < n) × Reached t level m k i × SideCollected t level n d (chosenIn m (nodeProcess t k) i) side
+Turned t level m n c d (Left w k i q) = (k < n) × Reached t level Actions k i × Around d (chosenIn Actions (nodeProcess t k) i) (w ∷ []) (q ∷ []) × (w < 65536) × (q < 65536)
+Turned t level m n c d (Right p k i) = (k < n) × Reached t level Actions k i × Around d (chosenIn Actions (nodeProcess t k) i) (parWord ∷ p ∷ []) [] × (p < 65536)
+Turned t level m n c d (Call e) = (e < level) × Reached t e m (bodyAt t e) c × (d ≡ chosenIn m (nodeProcess t (bodyAt t e)) c)

@@ -8,13 +8,13 @@ use Rattle.term.specs.declared.Mode.{Mode}
 use Rattle.term.specs.Terms.{words}
 use Rattle.term.specs.Processes.{nodeProcess}
 use Rattle.choice.specs.declared.Gap.{Gap}
-use Rattle.choice.specs.Chosen.{chosen}
+use Rattle.choice.specs.Chosen.{chosenIn}
 use Rattle.choice.specs.Turns.{Reached}
 
 -- what choice c of node n leaves fits between front and back
 pub record Room (t : Table) (level : ℕ) (m : Mode) (n c front back : ℕ) (ws : List ℕ) : Type 0 where
   pub reached : Reached t level m n c
-  pub fits : front + length (words (chosen m (nodeProcess t n) c .leaving)) ≤ back
+  pub fits : front + length (words (chosenIn m (nodeProcess t n) c .leaving)) ≤ back
   pub end : back ≤ length ws
 
 -- ws with `middle` between front and back has become out, with a new gap

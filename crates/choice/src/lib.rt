@@ -40,7 +40,7 @@ pub enum Does {
 }
 
 // What a derivation does, and how many words it leaves.
-pub struct Outcome {
+pub struct Effect {
     pub does: Does,
     pub size: usize,
 }

@@ -12,9 +12,9 @@ ghost use Prim.Native.Nat.{_<_};
 ghost use lib.ListN.{length, set};
 ghost use Rattle.table.specs.Tables.{table};
 ghost use Rattle.term.specs.Processes.{nodeProcess};
-ghost use Rattle.choice.specs.Chosen.{chosen};
-ghost use Rattle.choice.specs.Turns.{Ready, Reached};
-ghost use Rattle.choice.specs.Marking.{onlyTick, Marks, Marked};
+ghost use Rattle.choice.specs.Chosen.{chosenIn};
+ghost use Rattle.choice.specs.Turns.{Prepared, Reached};
+ghost use Rattle.choice.specs.Marking.{onlyTick, WalkMarks, Marked};
 
 fn mark(marks: &mut [u8], n: usize)
     requires { ⌜ n < length (now marks) ⌝ }
@@ -46,10 +46,10 @@ pub fn mark_node(
     n: usize,
     c: u64,
 )
-    requires { ⌜ Ready (table sizes (now kinds) (now operands)) (now scratch) ⌝ }
+    requires { ⌜ Prepared (table sizes (now kinds) (now operands)) (now scratch) ⌝ }
     requires { ⌜ Reached (table sizes (now kinds) (now operands)) level mode n c ⌝ }
-    requires { ⌜ Marks (table sizes (now kinds) (now operands)) (now marks) ⌝ }
-    ensures { λ r. ⌜ Marked (table sizes (now (kinds .entry)) (now (operands .entry))) (chosen mode (nodeProcess (table sizes (now (kinds .entry)) (now (operands .entry))) n) c .guards) (now (marks .entry)) (now (marks .exit)) ⌝ }
+    requires { ⌜ WalkMarks (table sizes (now kinds) (now operands)) (now marks) ⌝ }
+    ensures { λ r. ⌜ Marked (table sizes (now (kinds .entry)) (now (operands .entry))) (chosenIn mode (nodeProcess (table sizes (now (kinds .entry)) (now (operands .entry))) n) c .guards) (now (marks .entry)) (now (marks .exit)) ⌝ }
 {
     if only_tick(mode, pair(scratch, n)) {
         if marks[n] == 1 {
@@ -74,10 +74,10 @@ fn walk_node(
     n: usize,
     c: u64,
 )
-    requires { ⌜ Ready (table sizes (now kinds) (now operands)) (now scratch) ⌝ }
+    requires { ⌜ Prepared (table sizes (now kinds) (now operands)) (now scratch) ⌝ }
     requires { ⌜ Reached (table sizes (now kinds) (now operands)) level mode n c ⌝ }
-    requires { ⌜ Marks (table sizes (now kinds) (now operands)) (now marks) ⌝ }
-    ensures { λ r. ⌜ Marked (table sizes (now (kinds .entry)) (now (operands .entry))) (chosen mode (nodeProcess (table sizes (now (kinds .entry)) (now (operands .entry))) n) c .guards) (now (marks .entry)) (now (marks .exit)) ⌝ }
+    requires { ⌜ WalkMarks (table sizes (now kinds) (now operands)) (now marks) ⌝ }
+    ensures { λ r. ⌜ Marked (table sizes (now (kinds .entry)) (now (operands .entry))) (chosenIn mode (nodeProcess (table sizes (now (kinds .entry)) (now (operands .entry))) n) c .guards) (now (marks .entry)) (now (marks .exit)) ⌝ }
 {
     let turn = turn_at(sizes, kinds, operands, scratch, level, mode, n, c);
     match turn {

@@ -1,6 +1,6 @@
 // What a node's choice does, and how many words it leaves.
 use crate::Does;
-use crate::Outcome;
+use crate::Effect;
 use crate::Turn;
 use crate::turns::body_at;
 use crate::turns::turn_at;
@@ -10,17 +10,17 @@ ghost use mathlib.Core.Path.{_≡_};
 ghost use Prim.Native.Nat.{_+_, _*_, _≤_};
 ghost use Rattle.table.specs.Tables.{table};
 ghost use Rattle.term.specs.Processes.{nodeProcess};
-ghost use Rattle.choice.specs.Chosen.{chosen};
-ghost use Rattle.choice.specs.Turns.{Ready, Reached};
+ghost use Rattle.choice.specs.Chosen.{chosenIn};
+ghost use Rattle.choice.specs.Turns.{Prepared, Reached};
 ghost use Rattle.choice.specs.Outcomes.{grownBy, Tells, most};
 
 // The same, with more words.
-pub fn grown(o: Outcome, words: usize) -> Outcome
+pub fn grown(o: Effect, words: usize) -> Effect
     requires { ⌜ o .size + words ≤ 4294967295 ⌝ }
     ensures { λ r. ⌜ r ≡ grownBy o words ⌝ }
 {
     let does = o.does;
-    Outcome {
+    Effect {
         does,
         size: o.size + words,
     }
@@ -35,18 +35,18 @@ pub fn node_outcome(
     mode: Mode,
     n: usize,
     c: u64,
-) -> Outcome
-    requires { ⌜ Ready (table sizes (now kinds) (now operands)) (now scratch) ⌝ }
+) -> Effect
+    requires { ⌜ Prepared (table sizes (now kinds) (now operands)) (now scratch) ⌝ }
     requires { ⌜ Reached (table sizes (now kinds) (now operands)) level mode n c ⌝ }
-    ensures { λ r. ⌜ Tells (chosen mode (nodeProcess (table sizes (now (kinds .entry)) (now (operands .entry))) n) c) (most level n) r ⌝ }
+    ensures { λ r. ⌜ Tells (chosenIn mode (nodeProcess (table sizes (now (kinds .entry)) (now (operands .entry))) n) c) (most level n) r ⌝ }
 {
     let turn = turn_at(sizes, kinds, operands, scratch, level, mode, n, c);
     match turn {
-        Turn::Ticked => Outcome {
+        Turn::Ticked => Effect {
             does: Does::Ticking,
             size: 1,
         },
-        Turn::Acted => Outcome {
+        Turn::Acted => Effect {
             does: Does::Acting(n),
             size: 1,
         },

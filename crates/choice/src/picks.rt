@@ -4,7 +4,7 @@ use accept::Counts;
 use term::Mode;
 ghost use mathlib.Core.Path.{_≡_};
 ghost use Prim.Native.Nat.{_/_, _%_, _≤_};
-ghost use Rattle.accept.specs.Counts.{Small};
+ghost use Rattle.accept.specs.Counts.{Capped};
 ghost use Rattle.choice.specs.Picks.{actingOf, totalOf, pickOf};
 
 // The actions among the derivations of a mode.
@@ -20,7 +20,7 @@ pub fn acting(mode: Mode, c: Counts) -> u64
 
 // The derivations of a mode.
 pub fn total(mode: Mode, c: Counts) -> u64
-    requires { ⌜ Small c ⌝ }
+    requires { ⌜ Capped c ⌝ }
     ensures { λ r. ⌜ (r ≡ totalOf mode c) × (r ≤ 131072) ⌝ }
 {
     match mode {
@@ -50,7 +50,7 @@ fn remainder(x: u64, n: u64) -> u64
 
 // Derivation c of a sequence or a parallel; `beside` actions of the right part come before the joined ones: none in a sequence.
 pub fn pick(mode: Mode, c: u64, beside: u64, left: Counts, right: Counts) -> Pick
-    requires { ⌜ Small left ⌝ ∗ ⌜ Small right ⌝ }
+    requires { ⌜ Capped left ⌝ ∗ ⌜ Capped right ⌝ }
     ensures { λ r. ⌜ r ≡ pickOf mode c beside left right ⌝ }
 {
     let first = acting(mode, left);

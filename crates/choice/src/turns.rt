@@ -19,8 +19,8 @@ ghost use Rattle.basis.specs.Bytes.{u16At};
 ghost use Rattle.table.specs.Tables.{table, rootsOf};
 ghost use Rattle.table.specs.Sound.{Limits};
 ghost use Rattle.term.specs.Processes.{nodeProcess};
-ghost use Rattle.choice.specs.Chosen.{chosen};
-ghost use Rattle.choice.specs.Turns.{pickTurn, choiceTurn, Ready, Reached, Turned};
+ghost use Rattle.choice.specs.Chosen.{chosenIn};
+ghost use Rattle.choice.specs.Turns.{pickTurn, choiceTurn, Prepared, Reached, Turned};
 
 // At a sequence or a parallel of nodes p and q, by its operator's word.
 fn part(operator: u32, p: usize, q: usize, pick: Pick) -> Turn
@@ -62,9 +62,9 @@ pub fn turn_at(
     n: usize,
     c: u64,
 ) -> Turn
-    requires { ⌜ Ready (table sizes (now kinds) (now operands)) (now scratch) ⌝ }
+    requires { ⌜ Prepared (table sizes (now kinds) (now operands)) (now scratch) ⌝ }
     requires { ⌜ Reached (table sizes (now kinds) (now operands)) level mode n c ⌝ }
-    ensures { λ r. ⌜ Turned (table sizes (now (kinds .entry)) (now (operands .entry))) level mode n c (chosen mode (nodeProcess (table sizes (now (kinds .entry)) (now (operands .entry))) n) c) r ⌝ }
+    ensures { λ r. ⌜ Turned (table sizes (now (kinds .entry)) (now (operands .entry))) level mode n c (chosenIn mode (nodeProcess (table sizes (now (kinds .entry)) (now (operands .entry))) n) c) r ⌝ }
 {
     let kind = kinds[n];
     let p = p_at(operands, n);

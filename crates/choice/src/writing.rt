@@ -11,8 +11,8 @@ ghost use lib.ListN.{length, set};
 ghost use Rattle.table.specs.Tables.{table};
 ghost use Rattle.term.specs.Processes.{nodeProcess};
 ghost use Rattle.term.specs.Terms.{words as wordsOf};
-ghost use Rattle.choice.specs.Chosen.{chosen};
-ghost use Rattle.choice.specs.Turns.{Ready};
+ghost use Rattle.choice.specs.Chosen.{chosenIn};
+ghost use Rattle.choice.specs.Turns.{Prepared};
 ghost use Rattle.choice.specs.Writing.{Room, Written};
 
 // A word at the front, and one before the back.
@@ -54,9 +54,9 @@ pub fn write_node(
     n: usize,
     c: u64,
 ) -> Gap
-    requires { ⌜ Ready (table sizes (now kinds) (now operands)) (now scratch) ⌝ }
+    requires { ⌜ Prepared (table sizes (now kinds) (now operands)) (now scratch) ⌝ }
     requires { ⌜ Room (table sizes (now kinds) (now operands)) level mode n c front back (now words) ⌝ }
-    ensures { λ r. ⌜ Written (now (words .entry)) front back (wordsOf (chosen mode (nodeProcess (table sizes (now (kinds .entry)) (now (operands .entry))) n) c .leaving)) r (now (words .exit)) ⌝ }
+    ensures { λ r. ⌜ Written (now (words .entry)) front back (wordsOf (chosenIn mode (nodeProcess (table sizes (now (kinds .entry)) (now (operands .entry))) n) c .leaving)) r (now (words .exit)) ⌝ }
 {
     let turn = turn_at(sizes, kinds, operands, scratch, level, mode, n, c);
     match turn {

@@ -47,7 +47,7 @@ fn atom(
     let q = table::q_at(operands, node);
     let x = value_of(sizes, kinds, operands, state, sender, receiver, p);
     let y = value_of(sizes, kinds, operands, state, sender, receiver, q);
-    value::compare(kind, x, y)
+    value::compare_values(kind, x, y)
 }
 
 // What a node below the limit comes to; undefined where it is not below.

@@ -16,10 +16,10 @@ use Rattle.table.specs.Nodes.{isGuard}
 use Rattle.term.proofs.Each.{Each}
 use Rattle.term.specs.Processes.{GuardNode}
 use Rattle.state.specs.Evaluation.{holds}
-use Rattle.choice.specs.Marking.{isMarked, isIn, Marks, Marked}
+use Rattle.choice.specs.Marking.{hasMark, isIn, WalkMarks, Marked}
 use Rattle.choice.proofs.Collecting.{marks-zero}
 use Rattle.steps.specs.Acts.{allHold}
-use Rattle.judging.specs.Judging.{Unmarked, Collected}
+use Rattle.judging.specs.Judging.{Unmarked, GuardsMarked}
 use Rattle.judging.specs.Guards.{failsAt}
 
 -- what every element has, an element has
@@ -31,7 +31,7 @@ is-in-each P (g ∷ gs) h b e =
     (λ (f : isIn b gs ≡ true). is-in-each P gs (h .1) b f) (or-either (eqb b g) (isIn b gs) e)
 
 -- where nothing is marked
-pub unmarked-marks : (t : Table) (ms : List ℕ) → Unmarked t ms → Marks t ms
+pub unmarked-marks : (t : Table) (ms : List ℕ) → Unmarked t ms → WalkMarks t ms
 unmarked-marks t ms u = marks-zero t ms (u .room) (u .zero)
 
 -- zeros, at least as many as there are nodes
@@ -39,7 +39,7 @@ pub zeros-unmarked : (t : Table) (n : ℕ) → t .sizes .nodes ≤ n → Unmarke
 zeros-unmarked t n h = record { room = rw (length-replicate {A = ℕ} n 0) h; zero = λ i. getD-row {A = ℕ} n i 0 }
 
 -- guards that are marked where nothing was before
-pub collected : (t : Table) (gs ms out : List ℕ) → Each (GuardNode t) gs → Unmarked t ms → Marked t gs ms out → Collected t gs out
+pub collected : (t : Table) (gs ms out : List ℕ) → Each (GuardNode t) gs → Unmarked t ms → Marked t gs ms out → GuardsMarked t gs out
 collected t gs ms out each none m =
     record {
       room = m .marks .room;
@@ -71,26 +71,26 @@ module _ (t : Table) (was : List ℕ) (x : ℕ) where
 
   -- whether node n fails, by its kind and its mark
   module _ (ms : List ℕ) (n : ℕ) (guard : Bool) (e : guard ≡ isGuard (kindAt t n)) where
-    fails-by : (asked : Bool) → (guard && isMarked ms n) ≡ asked → (asked && not (holds t was x x n)) ≡ failsAt t was x ms n
+    fails-by : (asked : Bool) → (guard && hasMark ms n) ≡ asked → (asked && not (holds t was x x n)) ≡ failsAt t was x ms n
     unfolding failsAt
-    fails-by asked f = ap (λ (b : Bool). b && not (holds t was x x n)) (sym f ∙ ap (λ (b : Bool). b && isMarked ms n) e)
+    fails-by asked f = ap (λ (b : Bool). b && not (holds t was x x n)) (sym f ∙ ap (λ (b : Bool). b && hasMark ms n) e)
 
-    pub fails-asked : (guard && isMarked ms n) ≡ true → (h : Bool) → h ≡ holds t was x x n → not h ≡ failsAt t was x ms n
+    pub fails-asked : (guard && hasMark ms n) ≡ true → (h : Bool) → h ≡ holds t was x x n → not h ≡ failsAt t was x ms n
     fails-asked f h d = ap not d ∙ fails-by true f
 
-    pub fails-not : (guard && isMarked ms n) ≡ false → false ≡ failsAt t was x ms n
+    pub fails-not : (guard && hasMark ms n) ≡ false → false ≡ failsAt t was x ms n
     fails-not f = fails-by false f
 
-  module _ (ms gs : List ℕ) (marks : Collected t gs ms) where
+  module _ (ms gs : List ℕ) (marks : GuardsMarked t gs ms) where
     -- where no node fails, every guard holds
     pub none-fails : ((n : ℕ) → n < t .sizes .nodes → failsAt t was x ms n ≡ false) → allHold t was x gs ≡ true
     unfolding failsAt
     none-fails h = all-held gs (λ b e. held b e (marks .nodes b e))
       where
         held : (b : ℕ) → isIn b gs ≡ true → (b < t .sizes .nodes) × (isGuard (kindAt t b) ≡ true) → holds t was x x b ≡ true
-        held b e g = by (and-both (isGuard (kindAt t b)) (isMarked ms b) (g .1) (marks .guards b (g .1) ∙ e)) (h b (g .0))
+        held b e g = by (and-both (isGuard (kindAt t b)) (hasMark ms b) (g .1) (marks .guards b (g .1) ∙ e)) (h b (g .0))
           where
-            by : (isGuard (kindAt t b) && isMarked ms b) ≡ true → ((isGuard (kindAt t b) && isMarked ms b) && not (holds t was x x b)) ≡ false → holds t was x x b ≡ true
+            by : (isGuard (kindAt t b) && hasMark ms b) ≡ true → ((isGuard (kindAt t b) && hasMark ms b) && not (holds t was x x b)) ≡ false → holds t was x x b ≡ true
             by d f = not-false (holds t was x x b) (rw d at f)
 
     -- where one fails, some guard does not hold
@@ -98,7 +98,7 @@ module _ (t : Table) (was : List ℕ) (x : ℕ) where
     unfolding failsAt
     some-fails n r f d =
         let e : failsAt t was x ms n ≡ true = sym f ∙ d in
-        let asked = and-left (isGuard (kindAt t n) && isMarked ms n) (not (holds t was x x n)) e in
-        let guard = and-left (isGuard (kindAt t n)) (isMarked ms n) asked in
-        one-fails gs n (sym (marks .guards n guard) ∙ and-right (isGuard (kindAt t n)) (isMarked ms n) asked)
-        (not-true (holds t was x x n) (and-right (isGuard (kindAt t n) && isMarked ms n) (not (holds t was x x n)) e))
+        let asked = and-left (isGuard (kindAt t n) && hasMark ms n) (not (holds t was x x n)) e in
+        let guard = and-left (isGuard (kindAt t n)) (hasMark ms n) asked in
+        one-fails gs n (sym (marks .guards n guard) ∙ and-right (isGuard (kindAt t n)) (hasMark ms n) asked)
+        (not-true (holds t was x x n) (and-right (isGuard (kindAt t n) && hasMark ms n) (not (holds t was x x n)) e))

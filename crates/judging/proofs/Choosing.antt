@@ -13,10 +13,10 @@ use Rattle.table.specs.Tables.{Table, firstRoot}
 use Rattle.term.specs.Terms.{Term, words, termOf, areTerms}
 use Rattle.term.specs.Processes.{Derivation, allFew, Labelled}
 use Rattle.term.proofs.Inside.{Inside}
-use Rattle.choice.specs.declared.Outcome.{Outcome}
+use Rattle.choice.specs.declared.Effect.{Effect}
 use Rattle.choice.specs.Marking.{Marked}
 use Rattle.choice.specs.Outcomes.{labelOf, Tells}
-use Rattle.choice.specs.Turns.{Ready}
+use Rattle.choice.specs.Turns.{Prepared}
 use Rattle.residual.specs.declared.Choices.{Choices}
 use Rattle.residual.specs.Wholes.{Whole, Taking, Offered, residualTerm, taken}
 use Rattle.state.specs.Layout.{zcAt, zpAt, lengthAt, residualAt, residualWords, zcOf, zpOf, lengthOf, termIn}
@@ -26,10 +26,10 @@ use Rattle.evaluation.specs.Situated.{Situated}
 use Rattle.steps.specs.Acts.{choices, chosen, allHold}
 use Rattle.steps.proofs.Acts.{chosen-inside}
 use Rattle.judging.specs.declared.Judgement.{Judgement}
-use Rattle.judging.specs.Judging.{Unmarked, Collected, Judges}
-use Rattle.judging.specs.Guards.{Asks}
+use Rattle.judging.specs.Judging.{Unmarked, GuardsMarked, Judges}
+use Rattle.judging.specs.Guards.{GuardsGiven}
 use Rattle.judging.specs.Outcomes.{refusedBy, Doing, ended}
-use Rattle.judging.specs.Residuals.{Posed}
+use Rattle.judging.specs.Residuals.{ResidualGiven}
 use Rattle.judging.proofs.Wholes.{formed-whole}
 use Rattle.judging.proofs.Asking.{collected}
 use Rattle.judging.proofs.Ordering.{judges-11, judges-12, judges-13, judges-14, judges-last}
@@ -48,8 +48,8 @@ module _ (t : Table) (was : List ℕ) (x zc zp : ℕ) (confirm : zc ≡ zcAt x) 
   agent-11 e c = judges-11 t was x c (sym waits-is ∙ e)
 
   -- the length is read, and the words are lent
-  pub agent-posed : (not (eqb (getD was zc 0) 0) || not (eqb (getD was zp 0) 0)) ≡ false → {scratch : List ℕ} → Ready t scratch → Proper t was → x < t .sizes .agents
-      → (place : ℕ) → place ≡ lengthAt x → (at : ℕ) → at ≡ residualAt x → Posed t scratch was x (getD was place 0) (take (at + residualWords - at) (drop at was))
+  pub agent-posed : (not (eqb (getD was zc 0) 0) || not (eqb (getD was zp 0) 0)) ≡ false → {scratch : List ℕ} → Prepared t scratch → Proper t was → x < t .sizes .agents
+      → (place : ℕ) → place ≡ lengthAt x → (at : ℕ) → at ≡ residualAt x → ResidualGiven t scratch was x (getD was place 0) (take (at + residualWords - at) (drop at was))
   agent-posed e ready proper agent place p at q =
       let idle = not-false (eqb (zcOf was x) 0 && eqb (zpOf was x) 0) (sym waits-is ∙ e) in
       let n : at + residualWords - at ≡ residualWords = omega arith in
@@ -64,7 +64,7 @@ module _ (t : Table) (was : List ℕ) (x zc zp : ℕ) (confirm : zc ≡ zcAt x) 
       }
 
 -- 12 and 13, by what is found of the residual's choices
-module _ {t : Table} {scratch was : List ℕ} {x size : ℕ} {ws : List ℕ} (posed : Posed t scratch was x size ws) where
+module _ {t : Table} {scratch was : List ℕ} {x size : ℕ} {ws : List ℕ} (posed : ResidualGiven t scratch was x size ws) where
   formed : ResidualFormed t was x
   formed = proper-facts t (posed .ready .checked .sound .shaped .limits) was (posed .proper) .formed .formed .residuals x (posed .agent)
 
@@ -112,23 +112,23 @@ module _ {t : Table} {scratch was : List ℕ} {x size : ℕ} {ws : List ℕ} (po
     inside = chosen-inside t was x (posed .ready .checked .sound) (formed .over) c (takes .choice)
 
     module _ {ms out : List ℕ} (unmarked : Unmarked t ms) (marked : Marked t (taken t (residualTerm size ws) c .guards) ms out) where
-      pub agent-asks : Asks t was x out
+      pub agent-asks : GuardsGiven t was x out
       agent-asks = record { situated = situated; room = marked .marks .room }
 
-      guards : Collected t (chosen t was x c .guards) out
+      guards : GuardsMarked t (chosen t was x c .guards) out
       guards = collected t (chosen t was x c .guards) ms out (inside .guards) unmarked (subst (λ (d : Derivation). Marked t (d .guards) ms out) taken-is marked)
 
-      module _ (held : Bool) (asked : (gs : List ℕ) → Collected t gs out → held ≡ allHold t was x gs) where
+      module _ (held : Bool) (asked : (gs : List ℕ) → GuardsMarked t gs out → held ≡ allHold t was x gs) where
         pub agent-14 : held ≡ false → (r : Judgement) → r ≡ refusedBy 14 → Judges t was x c out r
         agent-14 e = judges-14 t was x c (posed .confirmed) (posed .propagated) (takes .few) (takes .choice) (sym (asked (chosen t was x c .guards) guards) ∙ e) out
 
-        pub agent-last : held ≡ true → {limit : ℕ} (o : Outcome) → Tells (taken t (residualTerm size ws) c) limit o
+        pub agent-last : held ≡ true → {limit : ℕ} (o : Effect) → Tells (taken t (residualTerm size ws) c) limit o
             → (r : Judgement) → r ≡ ended t was x (labelOf (o .does)) (o .size) → Judges t was x c out r
         agent-last e {limit} o tells =
             judges-last t was x c (posed .confirmed) (posed .propagated) (takes .few) (takes .choice) (sym (asked (chosen t was x c .guards) guards) ∙ e) out guards o
             (subst (λ (d : Derivation). Tells d limit o) taken-is tells)
 
-    pub agent-doing : {limit : ℕ} (o : Outcome) → Tells (taken t (residualTerm size ws) c) limit o → Doing t was x (labelOf (o .does))
+    pub agent-doing : {limit : ℕ} (o : Effect) → Tells (taken t (residualTerm size ws) c) limit o → Doing t was x (labelOf (o .does))
     agent-doing o tells =
         record {
           situated = situated;

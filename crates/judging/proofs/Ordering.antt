@@ -13,12 +13,12 @@ use Rattle.table.specs.Checks.{Check, passes, refuses, refuseIf, firstOf, numbe
 use Rattle.table.specs.Tables.{Table}
 use Rattle.term.specs.Terms.{words}
 use Rattle.term.specs.Processes.{Label, allFew}
-use Rattle.choice.specs.declared.Outcome.{Outcome}
+use Rattle.choice.specs.declared.Effect.{Effect}
 use Rattle.choice.specs.Outcomes.{labelOf, Tells}
 use Rattle.state.specs.Layout.{residualWords, clockLimit, clockOf, zcOf, zpOf, termIn}
 use Rattle.steps.specs.Acts.{choices, chosen, allHold, lacksValue, writesEntry, actChecks, lastChecks}
 use Rattle.judging.specs.declared.Judgement.{Judgement}
-use Rattle.judging.specs.Judging.{Collected, judged, Judges}
+use Rattle.judging.specs.Judging.{GuardsMarked, judged, Judges}
 use Rattle.judging.specs.Outcomes.{refusedBy, found, ended}
 
 module _ (t : Table) (was : List ℕ) (x c : ℕ) where
@@ -74,8 +74,8 @@ module _ (t : Table) (was : List ℕ) (x c : ℕ) where
         judges-14 e = judges-refused 14 (past-13 ∙ test-refuses 14 (not held) from15 (ap not e))
 
         -- 15 to 17, or nothing
-        pub judges-last : allHold t was x (chosen t was x c .guards) ≡ true → (marks : List ℕ) → Collected t (chosen t was x c .guards) marks
-            → {limit : ℕ} (o : Outcome) → Tells (chosen t was x c) limit o → (r : Judgement) → r ≡ ended t was x (labelOf (o .does)) (o .size) → Judges t was x c marks r
+        pub judges-last : allHold t was x (chosen t was x c .guards) ≡ true → (marks : List ℕ) → GuardsMarked t (chosen t was x c .guards) marks
+            → {limit : ℕ} (o : Effect) → Tells (chosen t was x c) limit o → (r : Judgement) → r ≡ ended t was x (labelOf (o .does)) (o .size) → Judges t was x c marks r
         unfolding judged
         judges-last e marks guards o tells r ends =
             record {

@@ -7,7 +7,7 @@ use lib.ListN.{length, getD}
 use Rattle.table.specs.Checks.{passes, firstOf}
 use Rattle.table.specs.Tables.{Table, kindAt}
 use Rattle.table.specs.Nodes.{isGuard}
-use Rattle.choice.specs.Marking.{isMarked, isIn}
+use Rattle.choice.specs.Marking.{hasMark, isIn}
 use Rattle.steps.specs.Acts.{actChecks, chosen}
 use Rattle.judging.specs.declared.Judgement.{Judgement}
 use Rattle.judging.specs.Outcomes.{found}
@@ -18,9 +18,9 @@ pub record Unmarked (t : Table) (marks : List ℕ) : Type 0 where
   pub zero : (n : ℕ) → getD marks n 0 ≡ 0
 
 -- the marked guards are those of a list, which are guards of the table
-pub record Collected (t : Table) (gs marks : List ℕ) : Type 0 where
+pub record GuardsMarked (t : Table) (gs marks : List ℕ) : Type 0 where
   pub room : t .sizes .nodes ≤ length marks
-  pub guards : (b : ℕ) → isGuard (kindAt t b) ≡ true → isMarked marks b ≡ isIn b gs
+  pub guards : (b : ℕ) → isGuard (kindAt t b) ≡ true → hasMark marks b ≡ isIn b gs
   pub nodes : (b : ℕ) → isIn b gs ≡ true → (b < t .sizes .nodes) × (isGuard (kindAt t b) ≡ true)
 
 -- what is found of choice c
@@ -30,4 +30,4 @@ judged t was x c = found t was x (chosen t was x c .label) (firstOf (actChecks t
 -- the judgement of choice c, and the marks of its guards where nothing refuses
 pub record Judges (t : Table) (was : List ℕ) (x c : ℕ) (marks : List ℕ) (r : Judgement) : Type 0 where
   pub is : r ≡ judged t was x c
-  pub guards : firstOf (actChecks t was x c) ≡ passes → Collected t (chosen t was x c .guards) marks
+  pub guards : firstOf (actChecks t was x c) ≡ passes → GuardsMarked t (chosen t was x c .guards) marks

@@ -14,10 +14,10 @@ use state::zp_at;
 use table::Sizes;
 ghost use Prim.Native.Nat.{_<_};
 ghost use Rattle.table.specs.Tables.{table};
-ghost use Rattle.choice.specs.Turns.{Ready};
+ghost use Rattle.choice.specs.Turns.{Prepared};
 ghost use Rattle.state.specs.WellFormed.{Proper};
 ghost use Rattle.judging.specs.Judging.{Unmarked, Judges};
-ghost use Rattle.judging.specs.Residuals.{Posed};
+ghost use Rattle.judging.specs.Residuals.{ResidualGiven};
 
 // 12 to 17 of choice c, where no key waits. The words are those of the agent's residual, of which it uses so many.
 // Nothing but the marks is written.
@@ -33,7 +33,7 @@ fn judge_choice(
     agent: usize,
     c: u64,
 ) -> Judgement
-    requires { ⌜ Posed (table sizes (now kinds) (now operands)) (now scratch) (now state) agent size (now words) ⌝ }
+    requires { ⌜ ResidualGiven (table sizes (now kinds) (now operands)) (now scratch) (now state) agent size (now words) ⌝ }
     requires { ⌜ Unmarked (table sizes (now kinds) (now operands)) (now marks) ⌝ }
     ensures { λ r. ⌜ Judges (table sizes (now (kinds .entry)) (now (operands .entry))) (now (state .entry)) agent c (now (marks .exit)) r ⌝ }
 {
@@ -64,7 +64,7 @@ pub fn judge(
     agent: usize,
     c: u64,
 ) -> Judgement
-    requires { ⌜ Ready (table sizes (now kinds) (now operands)) (now scratch) ⌝ }
+    requires { ⌜ Prepared (table sizes (now kinds) (now operands)) (now scratch) ⌝ }
     requires { ⌜ Proper (table sizes (now kinds) (now operands)) (now state) ⌝ }
     requires { ⌜ agent < sizes .agents ⌝ }
     requires { ⌜ Unmarked (table sizes (now kinds) (now operands)) (now marks) ⌝ }

@@ -7,8 +7,8 @@ ghost use mathlib.Core.List.{List};
 ghost use Prim.Native.Nat.{ℕ, _<_};
 ghost use Rattle.table.specs.Tables.{table};
 ghost use Rattle.steps.specs.Acts.{allHold};
-ghost use Rattle.judging.specs.Judging.{Collected};
-ghost use Rattle.judging.specs.Guards.{Asks, failsAt};
+ghost use Rattle.judging.specs.Judging.{GuardsMarked};
+ghost use Rattle.judging.specs.Guards.{GuardsGiven, failsAt};
 
 // Whether node n is a marked guard that does not hold.
 fn fails_at(
@@ -20,7 +20,7 @@ fn fails_at(
     agent: usize,
     n: usize,
 ) -> bool
-    requires { ⌜ Asks (table sizes (now kinds) (now operands)) (now state) agent (now marks) ⌝ }
+    requires { ⌜ GuardsGiven (table sizes (now kinds) (now operands)) (now state) agent (now marks) ⌝ }
     requires { ⌜ n < sizes .nodes ⌝ }
     ensures { λ r. ⌜ r ≡ failsAt (table sizes (now (kinds .entry)) (now (operands .entry))) (now (state .entry)) agent (now (marks .entry)) n ⌝ }
 {
@@ -41,8 +41,8 @@ pub fn all_hold(
     marks: &[u8],
     agent: usize,
 ) -> bool
-    requires { ⌜ Asks (table sizes (now kinds) (now operands)) (now state) agent (now marks) ⌝ }
-    ensures { λ r. ⌜ ((gs : List ℕ) → Collected (table sizes (now (kinds .entry)) (now (operands .entry))) gs (now (marks .entry))
+    requires { ⌜ GuardsGiven (table sizes (now kinds) (now operands)) (now state) agent (now marks) ⌝ }
+    ensures { λ r. ⌜ ((gs : List ℕ) → GuardsMarked (table sizes (now (kinds .entry)) (now (operands .entry))) gs (now (marks .entry))
         → r ≡ allHold (table sizes (now (kinds .entry)) (now (operands .entry))) (now (state .entry)) agent gs) ⌝ }
 {
     let mut n = 0;

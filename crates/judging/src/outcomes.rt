@@ -1,7 +1,7 @@
 // Refusals 15 to 17: the value that an action sets, the clock, and the length of what is left.
 use crate::Judgement;
 use choice::Does;
-use choice::Outcome;
+use choice::Effect;
 use evaluation::value_of;
 use state::CLOCK;
 use state::RESIDUAL_WORDS;
@@ -72,7 +72,7 @@ pub fn judge_outcome(
     operands: &[u8],
     state: &[u32],
     agent: usize,
-    o: Outcome,
+    o: Effect,
 ) -> Judgement
     requires { ⌜ Doing (table sizes (now kinds) (now operands)) (now state) agent (labelOf (o .does)) ⌝ }
     ensures { λ r. ⌜ r ≡ ended (table sizes (now (kinds .entry)) (now (operands .entry))) (now (state .entry)) agent (labelOf (o .does)) (o .size) ⌝ }

@@ -13,7 +13,7 @@ ghost use mathlib.Core.Path.{_≡_};
 ghost use Prim.Native.Nat.{_<_, _≤_};
 ghost use lib.ListN.{length};
 ghost use Rattle.term.specs.Acceptance.{stateWords};
-ghost use Rattle.value.specs.Values.{signed};
+ghost use Rattle.value.specs.Values.{signedOf};
 ghost use Rattle.state.specs.Standing.{Pair, storeAgent};
 ghost use Rattle.labs_show.specs.Lines.{Fleet, decimalOf};
 
@@ -57,7 +57,7 @@ pub fn print_totals(totals: Totals) {
 
 // The number that a word holds in two's complement.
 fn to_decimal(word: u32) -> Decimal
-    ensures { λ r. ⌜ r ≡ decimalOf (signed word) ⌝ }
+    ensures { λ r. ⌜ r ≡ decimalOf (signedOf word) ⌝ }
 {
     if word < 2147483648 {
         Decimal {

@@ -15,12 +15,12 @@ use Rattle.state.specs.WellFormed.{Proper}
 use Rattle.state.proofs.Formed.{proper-facts, facts-proper}
 use Rattle.steps.specs.Offers.{takes}
 use Rattle.steps.specs.Steps.{Outcome, outcome, outOfRange, ownChecks, takenBy, after, stepIn}
-use Rattle.steps.specs.Runs.{Progress, begun, ran, kindOf, agentOf, numberIn, added as addedTo}
+use Rattle.steps.specs.Runs.{Progress, begun, ran, kindOf, agentOf, numberIn, tallied as addedTo}
 use Rattle.steps.proofs.Proper.{step-proper}
 use Rattle.machine.specs.declared.Stepped.{Stepped}
 use Rattle.machine.specs.declared.Totals.{Totals}
-use Rattle.machine.specs.Answers.{stepCheck, stepTaken, totals, Steps, Goes}
-use Rattle.machine.specs.Running.{added, Within}
+use Rattle.machine.specs.Answers.{stepCheck, stepTaken, totals, Steps, Reports}
+use Rattle.machine.specs.Running.{tallied, TotalsWithin}
 use Rattle.machine.proofs.Sums.{added-within}
 
 -- a step is taken by at most as many agents as there are
@@ -39,9 +39,9 @@ module _ (t : Table) (was : List ℕ) where
 
 -- i steps of a schedule are done
 pub record Halfway (t : Table) (schedule was bytes : List ℕ) (i : ℕ) (s out : List ℕ) (c : Totals) : Type 0 where
-  pub goes : Goes (ran t schedule i (begun was bytes)) c s out
+  pub goes : Reports (ran t schedule i (begun was bytes)) c s out
   pub proper : Proper t s
-  pub within : Within i c
+  pub within : TotalsWithin i c
   pub same : length out ≡ length bytes
 
 module _ (t : Table) (schedule was bytes : List ℕ) where
@@ -79,16 +79,16 @@ module _ (t : Table) (schedule was bytes : List ℕ) where
       taken-is : stepTaken r ≡ stepped (p .state) .taken
       taken-is = e .taken ∙ ap (λ (o : Outcome). o .taken) same-step
 
-      totals-is : added c r ≡ totals (addedTo i p (stepped (p .state)) .done) (addedTo i p (stepped (p .state)) .refused) (addedTo i p (stepped (p .state)) .taken)
+      totals-is : tallied c r ≡ totals (addedTo i p (stepped (p .state)) .done) (addedTo i p (stepped (p .state)) .refused) (addedTo i p (stepped (p .state)) .taken)
       totals-is =
-          ap (λ (d : Totals). added d r) (h .goes .totals)
+          ap (λ (d : Totals). tallied d r) (h .goes .totals)
           ∙ (λ j. totals (p .done + cond (passed (check-is j)) 1 0) (p .refused + cond (passed (check-is j)) 0 1) (p .taken + taken-is j))
 
       pub next-done : Sound t → ((j : ℕ) → getD (t .operands) j 0 < 256) → t .sizes .agents ≤ 32
-          → Halfway t schedule was bytes (i + 1) u (set out i (numberOf (stepCheck r))) (added c r)
+          → Halfway t schedule was bytes (i + 1) u (set out i (numberOf (stepCheck r))) (tallied c r)
       next-done sound narrow l =
           record {
-            goes = subst (λ (q : Progress). Goes q (added c r) u (set out i (numberOf (stepCheck r)))) (sym one-more) (record {
+            goes = subst (λ (q : Progress). Reports q (tallied c r) u (set out i (numberOf (stepCheck r)))) (sym one-more) (record {
               totals = totals-is;
               state = e .state ∙ ap (λ (o : Outcome). o .state) same-step;
               answers = (λ j. set (h .goes .answers j) i (numberOf (check-is j)));
@@ -100,5 +100,5 @@ module _ (t : Table) (schedule was bytes : List ℕ) where
           }
 
 -- totals of fewer steps
-pub within-more : (c : Totals) (m n : ℕ) → m ≤ n → Within m c → Within n c
+pub within-more : (c : Totals) (m n : ℕ) → m ≤ n → TotalsWithin m c → TotalsWithin n c
 within-more c m n l w = record { done = omega (arith, w .done); refused = omega (arith, w .refused); taken = omega (arith, w .taken) }

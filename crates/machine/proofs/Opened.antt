@@ -14,7 +14,7 @@ use Rattle.accept.specs.declared.Acceptance.{Acceptance}
 use Rattle.accept.specs.declared.Acceptance.the-variants.{Accepted, Refused}
 use Rattle.accept.specs.Answers.{acceptanceCheck}
 use Rattle.accept.proofs.Answering.{lent-table}
-use Rattle.choice.specs.Turns.{Ready}
+use Rattle.choice.specs.Turns.{Prepared}
 use Rattle.state.specs.WellFormed.{Proper}
 use Rattle.steps.specs.Steps.{Outcome, stateChecks, stepIn, stepOf}
 use Rattle.steps.specs.Runs.{stepsOf, scheduleChecks, begun, ran, Progress, runOf}
@@ -23,7 +23,7 @@ use Rattle.machine.specs.declared.Stepped.{Stepped}
 use Rattle.machine.specs.declared.Stepped.the-variants.{Refused as StepRefused}
 use Rattle.machine.specs.declared.Totals.{Totals}
 use Rattle.machine.specs.declared.Ran.the-variants.{Done as RunDone, Refused as RunRefused}
-use Rattle.machine.specs.Answers.{totals, Steps, Goes, Runs}
+use Rattle.machine.specs.Answers.{totals, Steps, Reports, Runs}
 use Rattle.machine.specs.Opening.{Open, Opens}
 
 -- the parts of a table as code lends them
@@ -37,8 +37,8 @@ module _ {bytes was scratch : List ℕ} {n : Sizes} (o : Open bytes was scratch 
   pub opened-nodes : n .nodes ≤ 4096
   opened-nodes = subst (λ (t : Table). t .sizes .nodes ≤ 4096) (sym parts-table) (o .ready .checked .sound .shaped .limits .nodes)
 
-  pub opened-ready : Ready (parts bytes n) scratch
-  opened-ready = subst (λ (t : Table). Ready t scratch) (sym parts-table) (o .ready)
+  pub opened-ready : Prepared (parts bytes n) scratch
+  opened-ready = subst (λ (t : Table). Prepared t scratch) (sym parts-table) (o .ready)
 
   pub opened-proper : Proper (parts bytes n) was
   opened-proper = subst (λ (t : Table). Proper t was) (sym parts-table) (o .proper)
@@ -84,11 +84,11 @@ module _ {bytes was before after : List ℕ} {r : Acceptance} (a : Opens bytes w
       run-unscheduled {refusal} f d = refused-run (later ∙ sym f ∙ refuseIf-true refusal _ (ap not (ne-eqb refusal 0 d)))
 
       pub run-opened : {c : Totals} {left out : List ℕ} → firstOf (scheduleChecks schedule answers) ≡ passes
-          → Goes (ran (parts bytes n) schedule (stepsOf schedule) (begun was answers)) c left out → Runs (runOf bytes was (length before) schedule answers) (RunDone c) left out
+          → Reports (ran (parts bytes n) schedule (stepsOf schedule) (begun was answers)) c left out → Runs (runOf bytes was (length before) schedule answers) (RunDone c) left out
       unfolding runOf
       run-opened {c} {left} {out} f g =
           record {
             check = sym (later ∙ f);
-            goes = subst (λ (p : Progress). Goes p c left out)
+            goes = subst (λ (p : Progress). Reports p c left out)
                 (ap (λ (t : Table). ran t schedule (stepsOf schedule) (begun was answers)) (parts-table (a .opened n e)) ∙ sym (run-passes (later ∙ f))) g;
           }

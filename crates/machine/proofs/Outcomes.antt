@@ -62,7 +62,7 @@ module _ (t : Table) (was : List ℕ) where
     confirm-done h e f =
         steps-done (outcome-done was (takers t was x k (t .sizes .agents)) (confirmed t was x k (t .sizes .agents)) (firstOf (ownChecks t was 2 x k)) (confirms t was x k .1 h)) e f
 
-    pub offer-refused : (asks : Bool) → has (cond asks (zcOf was x) (zpOf was x)) k ≡ false → Steps (ownStep t was (offerKind asks) x k) (Refused 18 0) was
+    pub offer-refused : (confirming : Bool) → has (cond confirming (zcOf was x) (zpOf was x)) k ≡ false → Steps (ownStep t was (offerKind confirming) x k) (Refused 18 0) was
     offer-refused true h =
         steps-refused (outcome-refused was (takers t was x k (t .sizes .agents)) (confirmed t was x k (t .sizes .agents)) (firstOf (ownChecks t was 2 x k))
         (test-refuses 18 (not (has (zcOf was x) k)) [] (ap not h)))

@@ -50,7 +50,7 @@ pub record Steps (o : Outcome) (r : Stepped) (after : List ℕ) : Type 0 where
   pub state : after ≡ o .state
 
 -- the totals, the state and the answer bytes are those of a run so far
-pub record Goes (p : Progress) (counts : Totals) (after bytes : List ℕ) : Type 0 where
+pub record Reports (p : Progress) (counts : Totals) (after bytes : List ℕ) : Type 0 where
   pub totals : counts ≡ totals (p .done) (p .refused) (p .taken)
   pub state : after ≡ p .state
   pub answers : bytes ≡ p .answers
@@ -58,4 +58,4 @@ pub record Goes (p : Progress) (counts : Totals) (after bytes : List ℕ) : Type
 -- and of a whole run
 pub record Runs (o : Rehearsal) (r : Ran) (after bytes : List ℕ) : Type 0 where
   pub check : runCheck r ≡ o .check
-  pub goes : Goes (o .progress) (runTotals r) after bytes
+  pub goes : Reports (o .progress) (runTotals r) after bytes

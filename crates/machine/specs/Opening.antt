@@ -9,7 +9,7 @@ use Rattle.table.specs.Tables.{sizesOf, tableOf}
 use Rattle.accept.specs.declared.Acceptance.{Acceptance}
 use Rattle.accept.specs.declared.Acceptance.the-variants.{Accepted}
 use Rattle.accept.specs.Answers.{acceptanceCheck}
-use Rattle.choice.specs.Turns.{Ready}
+use Rattle.choice.specs.Turns.{Prepared}
 use Rattle.state.specs.WellFormed.{Proper}
 use Rattle.steps.specs.Steps.{stateChecks}
 
@@ -17,7 +17,7 @@ use Rattle.steps.specs.Steps.{stateChecks}
 pub record Open (bytes was scratch : List ℕ) (n : Sizes) : Type 0 where
   pub sizes : n ≡ sizesOf bytes
   pub size : length bytes ≡ 12 + 5 * n .nodes
-  pub ready : Ready (tableOf bytes) scratch
+  pub ready : Prepared (tableOf bytes) scratch
   pub proper : Proper (tableOf bytes) was
 
 -- the answer r by checks 1 to 9; the words before and after

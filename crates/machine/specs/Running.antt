@@ -17,12 +17,12 @@ pub record Runnable (schedule answers : List ℕ) : Type 0 where
   pub room : stepsOf schedule ≤ length answers
 
 -- the totals with one more step
-abbrev pub added : Totals → Stepped → Totals
-added c r =
+abbrev pub tallied : Totals → Stepped → Totals
+tallied c r =
     totals (c .done + cond (passed (stepCheck r)) 1 0) (c .refused + cond (passed (stepCheck r)) 0 1) (c .taken + stepTaken r)
 
 -- totals of at most so many steps, each taken by at most 32 agents
-pub record Within (n : ℕ) (c : Totals) : Type 0 where
+pub record TotalsWithin (n : ℕ) (c : Totals) : Type 0 where
   pub done : c .done ≤ n
   pub refused : c .refused ≤ n
   pub taken : c .taken ≤ 32 * n

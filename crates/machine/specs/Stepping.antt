@@ -12,4 +12,4 @@ ownStep t was kind x number = outcome (firstOf (ownChecks t was kind x number)) 
 
 -- an offer that asks is a confirm, one that does not is a propagate
 abbrev pub offerKind : Bool → ℕ
-offerKind asks = cond asks 2 1
+offerKind confirming = cond confirming 2 1

@@ -9,12 +9,12 @@ ghost use Prim.Native.Nat.{_+_, _*_, _<_, _≤_};
 ghost use lib.ListN.{length};
 ghost use Rattle.table.specs.Checks.{firstOf, numberOf, refusalCheck};
 ghost use Rattle.table.specs.Tables.{table};
-ghost use Rattle.choice.specs.Turns.{Ready};
+ghost use Rattle.choice.specs.Turns.{Prepared};
 ghost use Rattle.state.specs.WellFormed.{Proper};
 ghost use Rattle.steps.specs.Steps.{stepIn};
 ghost use Rattle.steps.specs.Runs.{stepsOf, kindOf, agentOf, numberIn, scheduleChecks, begun, ran};
-ghost use Rattle.machine.specs.Answers.{stepCheck, stepTaken, Steps, Goes};
-ghost use Rattle.machine.specs.Running.{Runnable, Within, added};
+ghost use Rattle.machine.specs.Answers.{stepCheck, stepTaken, Steps, Reports};
+ghost use Rattle.machine.specs.Running.{Runnable, TotalsWithin, tallied};
 
 // The refusal of a schedule, or 0.
 pub fn judge_schedule(schedule: &[u8], answers: &[u8]) -> u8
@@ -47,7 +47,7 @@ fn step_at(
     n: usize,
     i: usize,
 ) -> Stepped
-    requires { ⌜ Ready (table sizes (now kinds) (now operands)) (now scratch) ⌝ }
+    requires { ⌜ Prepared (table sizes (now kinds) (now operands)) (now scratch) ⌝ }
     requires { ⌜ Proper (table sizes (now kinds) (now operands)) (now state) ⌝ }
     requires { ⌜ (length (now schedule) ≡ 2 + 5 * n) × (n ≡ stepsOf (now schedule)) × (i < n) ⌝ }
     ensures { λ r. ⌜ Steps (stepIn (table sizes (now (kinds .entry)) (now (operands .entry))) (now (state .entry)) (kindOf (now (schedule .entry)) i) (agentOf (now (schedule .entry)) i) (numberIn (now (schedule .entry)) i)) r (now (state .exit)) ⌝ }
@@ -71,8 +71,8 @@ fn answer_byte(answer: Stepped) -> u8
 
 // The totals with one more step.
 fn add(totals: Totals, answer: Stepped) -> Totals
-    requires { ⌜ (Within 8192 totals) × (stepTaken answer ≤ 32) ⌝ }
-    ensures { λ r. ⌜ r ≡ added totals answer ⌝ }
+    requires { ⌜ (TotalsWithin 8192 totals) × (stepTaken answer ≤ 32) ⌝ }
+    ensures { λ r. ⌜ r ≡ tallied totals answer ⌝ }
 {
     match answer {
         Stepped::Done(taken) => Totals {
@@ -98,10 +98,10 @@ pub fn run_steps(
     schedule: &[u8],
     answers: &mut [u8],
 ) -> Totals
-    requires { ⌜ Ready (table sizes (now kinds) (now operands)) (now scratch) ⌝ }
+    requires { ⌜ Prepared (table sizes (now kinds) (now operands)) (now scratch) ⌝ }
     requires { ⌜ Proper (table sizes (now kinds) (now operands)) (now state) ⌝ }
     requires { ⌜ Runnable (now schedule) (now answers) ⌝ }
-    ensures { λ r. ⌜ Goes (ran (table sizes (now (kinds .entry)) (now (operands .entry))) (now (schedule .entry)) (stepsOf (now (schedule .entry))) (begun (now (state .entry)) (now (answers .entry)))) r (now (state .exit)) (now (answers .exit)) ⌝ }
+    ensures { λ r. ⌜ Reports (ran (table sizes (now (kinds .entry)) (now (operands .entry))) (now (schedule .entry)) (stepsOf (now (schedule .entry))) (begun (now (state .entry)) (now (answers .entry)))) r (now (state .exit)) (now (answers .exit)) ⌝ }
 {
     let n = u16_at(schedule, 0);
     let mut totals = Totals {

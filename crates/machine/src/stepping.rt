@@ -13,7 +13,7 @@ ghost use Prim.Native.Nat.{ℕ, _<_};
 ghost use lib.ListN.{length};
 ghost use Rattle.table.specs.Tables.{table};
 ghost use Rattle.term.specs.Acceptance.{stateWords};
-ghost use Rattle.choice.specs.Turns.{Ready};
+ghost use Rattle.choice.specs.Turns.{Prepared};
 ghost use Rattle.state.specs.Layout.{zcOf, zpOf};
 ghost use Rattle.state.specs.WellFormed.{Proper};
 ghost use Rattle.steps.specs.Steps.{outOfRange, stepIn};
@@ -46,7 +46,7 @@ fn act_step(
     agent: usize,
     choice: usize,
 ) -> Stepped
-    requires { ⌜ Ready (table sizes (now kinds) (now operands)) (now scratch) ⌝ }
+    requires { ⌜ Prepared (table sizes (now kinds) (now operands)) (now scratch) ⌝ }
     requires { ⌜ Proper (table sizes (now kinds) (now operands)) (now state) ⌝ }
     requires { ⌜ agent < sizes .agents ⌝ }
     ensures { λ r. ⌜ Steps (ownStep (table sizes (now (kinds .entry)) (now (operands .entry))) (now (state .entry)) 0 agent choice) r (now (state .exit)) ⌝ }
@@ -59,11 +59,11 @@ fn act_step(
 }
 
 // The set that an offer takes its key from: Zc where it asks, else Zp.
-fn pending(state: &[u32], agent: usize, asks: bool) -> u32
+fn pending(state: &[u32], agent: usize, confirming: bool) -> u32
     requires { ⌜ (length (now state) ≡ stateWords) × (agent < 32) ⌝ }
-    ensures { λ r. ⌜ r ≡ cond asks (zcOf (now (state .entry)) agent) (zpOf (now (state .entry)) agent) ⌝ }
+    ensures { λ r. ⌜ r ≡ cond confirming (zcOf (now (state .entry)) agent) (zpOf (now (state .entry)) agent) ⌝ }
 {
-    if asks {
+    if confirming {
         return state[zc_at(agent)];
     }
     state[zp_at(agent)]
@@ -77,16 +77,16 @@ fn offer_step(
     state: &mut [u32],
     agent: usize,
     key: usize,
-    asks: bool,
+    confirming: bool,
 ) -> Stepped
     requires { ⌜ Passing (table sizes (now kinds) (now operands)) (now state) agent key ⌝ }
-    ensures { λ r. ⌜ Steps (ownStep (table sizes (now (kinds .entry)) (now (operands .entry))) (now (state .entry)) (offerKind asks) agent key) r (now (state .exit)) ⌝ }
+    ensures { λ r. ⌜ Steps (ownStep (table sizes (now (kinds .entry)) (now (operands .entry))) (now (state .entry)) (offerKind confirming) agent key) r (now (state .exit)) ⌝ }
 {
-    let keys = pending(state, agent, asks);
+    let keys = pending(state, agent, confirming);
     if !basis::has(keys, key) {
         return Stepped::Refused(18, 0);
     }
-    if asks {
+    if confirming {
         return Stepped::Done(confirm(sizes, kinds, operands, state, agent, key));
     }
     Stepped::Done(propagate(sizes, kinds, operands, state, agent, key))
@@ -102,7 +102,7 @@ pub fn step_in(
     agent: usize,
     number: usize,
 ) -> Stepped
-    requires { ⌜ Ready (table sizes (now kinds) (now operands)) (now scratch) ⌝ }
+    requires { ⌜ Prepared (table sizes (now kinds) (now operands)) (now scratch) ⌝ }
     requires { ⌜ Proper (table sizes (now kinds) (now operands)) (now state) ⌝ }
     ensures { λ r. ⌜ Steps (stepIn (table sizes (now (kinds .entry)) (now (operands .entry))) (now (state .entry)) kind agent number) r (now (state .exit)) ⌝ }
 {

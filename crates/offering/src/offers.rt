@@ -9,11 +9,11 @@ use table::Sizes;
 ghost use mathlib.Core.Path.{_≡_};
 ghost use Prim.Native.Nat.{_<_};
 ghost use Rattle.table.specs.Tables.{table};
-ghost use Rattle.steps.specs.Offers.{hears as hearsOf, takes, offer as offerTo, takers, offered};
+ghost use Rattle.steps.specs.Offers.{linked as linkedOf, takes, offer as offerTo, takers, offered};
 ghost use Rattle.offering.specs.Passing.{Passing, Passed};
 
 // Whether the other one is another agent, and the key's link holds from the agent to it.
-fn hears(
+fn linked(
     sizes: Sizes,
     kinds: &[u8],
     operands: &[u8],
@@ -24,7 +24,7 @@ fn hears(
 ) -> bool
     requires { ⌜ Passing (table sizes (now kinds) (now operands)) (now state) agent key ⌝ }
     requires { ⌜ other < sizes .agents ⌝ }
-    ensures { λ r. ⌜ r ≡ hearsOf (table sizes (now (kinds .entry)) (now (operands .entry))) (now (state .entry)) agent key other ⌝ }
+    ensures { λ r. ⌜ r ≡ linkedOf (table sizes (now (kinds .entry)) (now (operands .entry))) (now (state .entry)) agent key other ⌝ }
 {
     if agent == other {
         return false;
@@ -40,14 +40,14 @@ fn offer(
     state: &mut [u32],
     agent: usize,
     key: usize,
-    asks: bool,
+    confirming: bool,
     other: usize,
 ) -> bool
     requires { ⌜ Passing (table sizes (now kinds) (now operands)) (now state) agent key ⌝ }
     requires { ⌜ other < sizes .agents ⌝ }
-    ensures { λ r. ⌜ Passed (takes (table sizes (now (kinds .entry)) (now (operands .entry))) (now (state .entry)) agent key other) (offerTo (table sizes (now (kinds .entry)) (now (operands .entry))) (now (state .entry)) agent key asks other (now (state .entry))) r (now (state .exit)) ⌝ }
+    ensures { λ r. ⌜ Passed (takes (table sizes (now (kinds .entry)) (now (operands .entry))) (now (state .entry)) agent key other) (offerTo (table sizes (now (kinds .entry)) (now (operands .entry))) (now (state .entry)) agent key confirming other (now (state .entry))) r (now (state .exit)) ⌝ }
 {
-    if !hears(sizes, kinds, operands, state, agent, key, other) {
+    if !linked(sizes, kinds, operands, state, agent, key, other) {
         return false;
     }
     let mine = stamp_of(state, agent, key);
@@ -57,7 +57,7 @@ fn offer(
         take_entry(state, key, value, mine, other);
         return true;
     }
-    if asks {
+    if confirming {
         if mine < theirs {
             add_key(state, zp_at(other), key);
         }
@@ -73,15 +73,15 @@ pub fn offer_all(
     state: &mut [u32],
     agent: usize,
     key: usize,
-    asks: bool,
+    confirming: bool,
 ) -> usize
     requires { ⌜ Passing (table sizes (now kinds) (now operands)) (now state) agent key ⌝ }
-    ensures { λ r. ⌜ Passed (takers (table sizes (now (kinds .entry)) (now (operands .entry))) (now (state .entry)) agent key (sizes .agents)) (offered (table sizes (now (kinds .entry)) (now (operands .entry))) (now (state .entry)) agent key asks (sizes .agents)) r (now (state .exit)) ⌝ }
+    ensures { λ r. ⌜ Passed (takers (table sizes (now (kinds .entry)) (now (operands .entry))) (now (state .entry)) agent key (sizes .agents)) (offered (table sizes (now (kinds .entry)) (now (operands .entry))) (now (state .entry)) agent key confirming (sizes .agents)) r (now (state .exit)) ⌝ }
 {
     let mut taken: usize = 0;
     let mut other = 0;
     while other < sizes.agents {
-        if offer(sizes, kinds, operands, state, agent, key, asks, other) {
+        if offer(sizes, kinds, operands, state, agent, key, confirming, other) {
             taken += 1;
         }
         other += 1;

@@ -15,7 +15,7 @@ use Rattle.machine.specs.declared.Totals.{Totals}
 use Rattle.machine.specs.declared.Ran.{Ran}
 use Rattle.machine.specs.declared.Ran.the-variants.{Done as RunDone, Refused as RunRefused}
 use Rattle.machine.specs.Answers.{loadCheck, stepCheck, stepTaken, runCheck, runTotals, Loads, Steps, Runs}
-use Rattle.machine.specs.Running.{Within}
+use Rattle.machine.specs.Running.{TotalsWithin}
 use Rattle.rehearsal.specs.Packing.{packed, packedTotals, LoadPacked, StepPacked, RunPacked}
 use Rattle.rehearsal.proofs.Places.{Near}
 use Rattle.rehearsal.proofs.Totals.{totalsOf}
@@ -50,6 +50,6 @@ pub run-place : {o : Rehearsal} {x : Ran} {after bytes : List ℕ} {number place
 run-place a e l = place-near (sym (ap (λ (y : Ran). runCheck y) e) ∙ a .check) l
 
 pub run-totals : {o : Rehearsal} {x : Ran} {after bytes : List ℕ} {counts : Totals} → Runs o x after bytes → x ≡ RunDone counts
-    → (o .check ≡ passes → Within 8192 (totalsOf (o .progress))) → Within 8192 counts
+    → (o .check ≡ passes → TotalsWithin 8192 (totalsOf (o .progress))) → TotalsWithin 8192 counts
 run-totals a e w =
-    subst (λ (c : Totals). Within 8192 c) (sym (a .goes .totals) ∙ ap (λ (y : Ran). runTotals y) e) (w (sym (a .check) ∙ ap (λ (y : Ran). runCheck y) e))
+    subst (λ (c : Totals). TotalsWithin 8192 c) (sym (a .goes .totals) ∙ ap (λ (y : Ran). runTotals y) e) (w (sym (a .check) ∙ ap (λ (y : Ran). runCheck y) e))

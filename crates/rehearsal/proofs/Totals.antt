@@ -13,7 +13,7 @@ use Rattle.steps.specs.Runs.{Progress, begun, added, ran, kindOf, agentOf, numb
 use Rattle.steps.proofs.Steps.{state-checks, step-in}
 use Rattle.machine.specs.declared.Totals.{Totals}
 use Rattle.machine.specs.Answers.{totals}
-use Rattle.machine.specs.Running.{Within}
+use Rattle.machine.specs.Running.{TotalsWithin}
 use Rattle.machine.proofs.Going.{step-bound, within-more}
 use Rattle.machine.proofs.Schedules.{passes-runnable}
 use Rattle.rehearsal.proofs.Places.{step-stopped}
@@ -21,18 +21,18 @@ use Rattle.rehearsal.proofs.Places.{step-stopped}
 abbrev pub totalsOf : Progress → Totals
 totalsOf p = totals (p .done) (p .refused) (p .taken)
 
-added-within : (n i : ℕ) (p : Progress) (o : Outcome) → Within n (totalsOf p) → o .taken ≤ 32 → Within (suc n) (totalsOf (added i p o))
+added-within : (n i : ℕ) (p : Progress) (o : Outcome) → TotalsWithin n (totalsOf p) → o .taken ≤ 32 → TotalsWithin (suc n) (totalsOf (added i p o))
 added-within n i p o w l = by (o .check)
   where
     counted : Check → Progress
     counted c = added i p (record { check = c; taken = o .taken; state = o .state })
 
-    by : (c : Check) → Within (suc n) (totalsOf (counted c))
+    by : (c : Check) → TotalsWithin (suc n) (totalsOf (counted c))
     by passes = record { done = omega (arith, w .done); refused = omega (arith, w .refused); taken = omega (arith, w .taken) }
     by (refuses number place) = record { done = omega (arith, w .done); refused = omega (arith, w .refused); taken = omega (arith, w .taken) }
 
 module _ (t : Table) (few : t .sizes .agents ≤ 32) (schedule was answers : List ℕ) where
-  ran-within : (n : ℕ) → Within n (totalsOf (ran t schedule n (begun was answers)))
+  ran-within : (n : ℕ) → TotalsWithin n (totalsOf (ran t schedule n (begun was answers)))
   unfolding ran forEach
   ran-within zero = record { done = omega arith; refused = omega arith; taken = omega arith }
   ran-within (suc n) =
@@ -41,7 +41,7 @@ module _ (t : Table) (few : t .sizes .agents ≤ 32) (schedule was answers : Lis
       added-within n n p (stepIn t (p .state) (kindOf schedule n) (agentOf schedule n) (numberIn schedule n)) (ran-within n) (omega arith)
 
 module _ (bytes was : List ℕ) (scratch : ℕ) (schedule answers : List ℕ) where
-  pub run-within : runOf bytes was scratch schedule answers .check ≡ passes → Within 8192 (totalsOf (runOf bytes was scratch schedule answers .progress))
+  pub run-within : runOf bytes was scratch schedule answers .check ≡ passes → TotalsWithin 8192 (totalsOf (runOf bytes was scratch schedule answers .progress))
   unfolding runOf
   run-within e =
       let w = append-passes (stateChecks bytes was scratch) (scheduleChecks schedule answers) e in

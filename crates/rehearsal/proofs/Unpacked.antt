@@ -12,7 +12,7 @@ use Rattle.table.specs.Checks.{Check, passes, refuses, passed}
 use Rattle.steps.specs.Steps.{stepOf}
 use Rattle.steps.specs.Runs.{runOf}
 use Rattle.machine.specs.declared.Totals.{Totals}
-use Rattle.machine.specs.Running.{Within}
+use Rattle.machine.specs.Running.{TotalsWithin}
 use Rattle.rehearsal.specs.Packing.{packed, packedTotals, reportOf}
 use Rattle.rehearsal.proofs.Places.{Near}
 use Rattle.rehearsal.proofs.Totals.{step-within, run-within}
@@ -50,7 +50,7 @@ module _ (bytes was : List ℕ) (scratch : ℕ) where
   run-report schedule answers e = let w = run-within bytes was scratch schedule answers e in omega (arith, w .done, w .refused, w .taken)
 
 -- two runs that report the same number
-module _ (c d : Totals) (v : Within 8192 c) (w : Within 8192 d) (e : packedTotals (c .done) (c .refused) (c .taken) ≡ packedTotals (d .done) (d .refused) (d .taken)) where
+module _ (c d : Totals) (v : TotalsWithin 8192 c) (w : TotalsWithin 8192 d) (e : packedTotals (c .done) (c .refused) (c .taken) ≡ packedTotals (d .done) (d .refused) (d .taken)) where
   same-taken : c .taken ≡ d .taken
   same-taken =
       same-upper (2 ^ 32) (c .taken) (d .taken) (c .done + 65536 * c .refused) (d .done + 65536 * d .refused)

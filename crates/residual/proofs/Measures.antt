@@ -17,7 +17,7 @@ use Rattle.term.specs.Choices.{actionCount, tickCount}
 use Rattle.term.proofs.Counting.{few-count}
 use Rattle.term.proofs.Words.{words-some}
 use Rattle.accept.specs.declared.Counts.{Counts}
-use Rattle.accept.specs.Counts.{counts, Small, trueCounts, countsOf, seqCounts, parCounts}
+use Rattle.accept.specs.Counts.{counts, Capped, trueCounts, countsOf, seqCounts, parCounts}
 use Rattle.accept.specs.Scratch.{pairAt, Counted}
 use Rattle.accept.proofs.Caps.{counts-idle, counts-tick, counts-seq, counts-par}
 use Rattle.residual.specs.declared.Measured.{Measured}
@@ -101,24 +101,24 @@ module _ (t : Table) (at : ℕ) (c : Counts) (next : ℕ) where
           few = all (process t (Par p q)) k;
         }
 
-seq-small : (p q : Counts) → Small (seqCounts p q)
+seq-small : (p q : Counts) → Capped (seqCounts p q)
 unfolding seqCounts
 seq-small p q = record { actions = omega arith; ticks = omega arith }
 
-par-small : (p q : Counts) → Small (parCounts p q)
+par-small : (p q : Counts) → Capped (parCounts p q)
 unfolding parCounts
 par-small p q = record { actions = omega arith; ticks = omega arith }
 
-pub operator-small : (w : ℕ) (p q : Counts) → Small (operatorCounts w p q)
+pub operator-small : (w : ℕ) (p q : Counts) → Capped (operatorCounts w p q)
 unfolding operatorCounts
-operator-small w p q = cond-cases Small (eqb w 65535) (λ e. seq-small p q) (λ e. par-small p q)
+operator-small w p q = cond-cases Capped (eqb w 65535) (λ e. seq-small p q) (λ e. par-small p q)
 
 module _ (roots : ℕ) (s ws : List ℕ) (at : ℕ) where
-  pub leaf-small : Pairs roots s → (w : ℕ) → Small (leafCounts roots s w)
+  pub leaf-small : Pairs roots s → (w : ℕ) → Capped (leafCounts roots s w)
   unfolding leafCounts
   leaf-small k w =
-      cond-cases Small (eqb w tickWord) (λ e. record { actions = omega arith; ticks = omega arith })
-      (λ e. cond-cases Small (ltb w roots) (λ l. k .small w (ltb-true w roots l)) (λ l. record { actions = omega arith; ticks = omega arith }))
+      cond-cases Capped (eqb w tickWord) (λ e. record { actions = omega arith; ticks = omega arith })
+      (λ e. cond-cases Capped (ltb w roots) (λ l. k .small w (ltb-true w roots l)) (λ l. record { actions = omega arith; ticks = omega arith }))
 
   pub found-past : (c : Counts) → c ≡ counts 0 0 → at ≡ length ws → Found roots s ws at (record { counts = c; next = at; few = true })
   found-past c e h =

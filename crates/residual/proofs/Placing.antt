@@ -12,9 +12,9 @@ use Rattle.term.specs.declared.Mode.the-variants.{Actions}
 use Rattle.term.specs.Terms.{Term, Tick, Node, words, parWord, idleWord}
 use Rattle.term.specs.Processes.{Derivation, nodeProcess}
 use Rattle.choice.specs.declared.Gap.{Gap}
-use Rattle.choice.specs.Chosen.{chosen}
+use Rattle.choice.specs.Chosen.{chosenIn}
 use Rattle.choice.specs.Writing.{Room, Written}
-use Rattle.choice.specs.Turns.{Ready}
+use Rattle.choice.specs.Turns.{Prepared}
 use Rattle.choice.proofs.Gaps.{take-front, written-same, written-end, leaves-idle}
 use Rattle.residual.specs.Moves.{Moved}
 use Rattle.residual.specs.Steps.{going, StepIn, StepJump, StepCopy, StepDrop}
@@ -61,7 +61,7 @@ module _ (t : Table) (m : Mode) (T : Term) (c front at : ℕ) (ws : List ℕ) (s
         record {
           stands =
               record {
-                chosen = s .chosen;
+                chosenIn = s .chosen;
                 begins = drop-set-lt (at + 1) ws front w (omega arith) ∙ left-stands t m T c at ws (spot .stands) w (s .p) (s .q) (s .term) ∙ ap (λ (l : List ℕ). words (s .p) ++ l) (sym rest-in);
               };
           order = omega arith;
@@ -145,7 +145,7 @@ module _ (t : Table) (m : Mode) (T : Term) (c front at : ℕ) (ws : List ℕ) (s
           record {
             stands =
                 record {
-                  chosen = s .chosen;
+                  chosenIn = s .chosen;
                   begins = same-copy (at + n) (omega arith) ∙ begins-copy ∙ ap (λ (y : List ℕ). words (s .q) ++ y) (sym (same-copy (at + n + length (words (s .q))) (omega arith) ∙ ap (λ (k : ℕ). drop k ws) z));
                 };
             order = omega arith;
@@ -215,7 +215,7 @@ module _ (t : Table) (m : Mode) (T : Term) (c front at : ℕ) (ws : List ℕ) (s
           let q = s .place in
           let y = s .size in
           let l = ap length leaves-drop in
-          record { stands = record { chosen = s .chosen; begins = rw (← y) begins-drop }; order = omega arith; fits = omega arith }
+          record { stands = record { chosenIn = s .chosen; begins = rw (← y) begins-drop }; order = omega arith; fits = omega arith }
 
       pub written-drop : (r : Gap) (last : List ℕ) → Written out front (to + length (words (s .p))) (words (going t m (s .p) i .leaving)) r last
           → Written ws front (at + length (words T)) (words (going t m T c .leaving)) r last
@@ -248,7 +248,7 @@ module _ (t : Table) (m : Mode) (T : Term) (c front at : ℕ) (ws : List ℕ) (s
   unfolding words
   one-node n e = ap (λ (X : Term). at + length (words X)) e
 
-  pub room-leaf : (s : List ℕ) → Ready t s → (n : ℕ) → T ≡ Node n → Room t (t .sizes .definitions) m n c front (at + 1) ws
+  pub room-leaf : (s : List ℕ) → Prepared t s → (n : ℕ) → T ≡ Node n → Room t (t .sizes .definitions) m n c front (at + 1) ws
   room-leaf s r n e =
       let f = ap (λ (x : Derivation). length (words (x .leaving))) (same-node t m n c T e) in
       let z = one-node n e in
@@ -258,8 +258,8 @@ module _ (t : Table) (m : Mode) (T : Term) (c front at : ℕ) (ws : List ℕ) (s
         end = omega (arith, within);
       }
 
-  pub written-leaf : (n : ℕ) → T ≡ Node n → (r : Gap) (out : List ℕ) → Written ws front (at + 1) (words (chosen m (nodeProcess t n) c .leaving)) r out
+  pub written-leaf : (n : ℕ) → T ≡ Node n → (r : Gap) (out : List ℕ) → Written ws front (at + 1) (words (chosenIn m (nodeProcess t n) c .leaving)) r out
       → Written ws front (at + length (words T)) (words (going t m T c .leaving)) r out
   written-leaf n e r out k =
       written-same (ap (λ (x : Derivation). words (x .leaving)) (same-node t m n c T e))
-      (subst (λ (b : ℕ). Written ws front b (words (chosen m (nodeProcess t n) c .leaving)) r out) (sym (one-node n e)) k)
+      (subst (λ (b : ℕ). Written ws front b (words (chosenIn m (nodeProcess t n) c .leaving)) r out) (sym (one-node n e)) k)

@@ -12,8 +12,8 @@ use Rattle.term.specs.Terms.{Term, Tick, Node, words}
 use Rattle.term.specs.Processes.{Derivation, nodeProcess}
 use Rattle.term.proofs.Words.{words-some}
 use Rattle.choice.specs.declared.Does.the-variants.{Ticking}
-use Rattle.choice.specs.declared.Outcome.{Outcome}
-use Rattle.choice.specs.Chosen.{chosen}
+use Rattle.choice.specs.declared.Effect.{Effect}
+use Rattle.choice.specs.Chosen.{chosenIn}
 use Rattle.choice.specs.Outcomes.{grownBy, most, Tells}
 use Rattle.choice.proofs.Telling.{tells-tick, tells-same, tells-around}
 use Rattle.residual.specs.Steps.{Chosen, going, StepIn, StepJump, StepCopy, StepDrop, Stands}
@@ -27,31 +27,31 @@ module _ (t : Table) (m : Mode) (T : Term) (c at : ℕ) (ws : List ℕ) (stands 
   pub told-tick : T ≡ Tick → Tells (going t m T c) (furthest t + length (words T)) (record { does = Ticking; size = 1 })
   told-tick e = tells-tick (going t m T c) (limit T) (omega (arith, words-some T)) (going-tick t m T c e (stands .chosen))
 
-  pub told-node : (n : ℕ) → T ≡ Node n → (o : Outcome) → Tells (chosen m (nodeProcess t n) c) (most (t .sizes .definitions) n) o → Tells (going t m T c) (furthest t + length (words T)) o
+  pub told-node : (n : ℕ) → T ≡ Node n → (o : Effect) → Tells (chosenIn m (nodeProcess t n) c) (most (t .sizes .definitions) n) o → Tells (going t m T c) (furthest t + length (words T)) o
   told-node n e o w =
       let k : Chosen t m (Node n) c = subst (λ (X : Term). Chosen t m X c) e (stands .chosen) in
       let f = same-node t m n c T e in
-      tells-same (going t m T c) (chosen m (nodeProcess t n) c) (most (t .sizes .definitions) n) (limit T) o w (ap (λ (x : Derivation). x .label) f, ap (λ (x : Derivation). x .leaving) f)
+      tells-same (going t m T c) (chosenIn m (nodeProcess t n) c) (most (t .sizes .definitions) n) (limit T) o w (ap (λ (x : Derivation). x .label) f, ap (λ (x : Derivation). x .leaving) f)
       (omega (arith, k .over .0))
 
-  pub told-in : (w i more : ℕ) (s : StepIn t m T c w i more) (o : Outcome) → Tells (going t Actions (s .p) i) (furthest t + length (words (s .p))) o → (r : Outcome) → r ≡ grownBy o (1 + more)
+  pub told-in : (w i more : ℕ) (s : StepIn t m T c w i more) (o : Effect) → Tells (going t Actions (s .p) i) (furthest t + length (words (s .p))) o → (r : Effect) → r ≡ grownBy o (1 + more)
       → Tells (going t m T c) (furthest t + length (words T)) r
   told-in w i more s o k r e =
       let z = stands-size t m T c at ws stands w (s .p) (s .q) (s .term) in
       tells-around (going t m T c) (going t Actions (s .p) i) (limit (s .p)) (limit T) o k (w ∷ []) (words (s .q)) (s .around) (1 + more) (omega (arith, s .size)) (omega (arith, s .size)) r e
 
-  pub told-jump : (middle i j : ℕ) (s : StepJump t m T c at middle i j) (o : Outcome) → Tells (going t m (s .q) i) (furthest t + length (words (s .q))) o → Tells (going t m T c) (furthest t + length (words T)) o
+  pub told-jump : (middle i j : ℕ) (s : StepJump t m T c at middle i j) (o : Effect) → Tells (going t m (s .q) i) (furthest t + length (words (s .q))) o → Tells (going t m T c) (furthest t + length (words T)) o
   told-jump middle i j s o k =
       let z = stands-size t m T c at ws stands (s .w) (s .p) (s .q) (s .term) in
       tells-same (going t m T c) (going t m (s .q) i) (limit (s .q)) (limit T) o k (ap (λ (x : Derivation). x .label) (s .joins), ap (λ (x : Derivation). x .leaving) (s .joins)) (omega arith)
 
-  pub told-copy : (n i : ℕ) (s : StepCopy t m T c n i) (o : Outcome) → Tells (going t Actions (s .q) i) (furthest t + length (words (s .q))) o → (r : Outcome) → r ≡ grownBy o n
+  pub told-copy : (n i : ℕ) (s : StepCopy t m T c n i) (o : Effect) → Tells (going t Actions (s .q) i) (furthest t + length (words (s .q))) o → (r : Effect) → r ≡ grownBy o n
       → Tells (going t m T c) (furthest t + length (words T)) r
   told-copy n i s o k r e =
       let z = stands-size t m T c at ws stands _ (s .p) (s .q) (s .term) in
       tells-around (going t m T c) (going t Actions (s .q) i) (limit (s .q)) (limit T) o k (_ ∷ words (s .p)) [] (s .around) n (omega (arith, s .size)) (omega (arith, s .size)) r e
 
-  pub told-drop : (n to i j : ℕ) (s : StepDrop t m T c at n to i j) (o : Outcome) → Tells (going t m (s .p) i) (furthest t + length (words (s .p))) o → Tells (going t m T c) (furthest t + length (words T)) o
+  pub told-drop : (n to i j : ℕ) (s : StepDrop t m T c at n to i j) (o : Effect) → Tells (going t m (s .p) i) (furthest t + length (words (s .p))) o → Tells (going t m T c) (furthest t + length (words T)) o
   told-drop n to i j s o k =
       let z = stands-size t m T c at ws stands _ (s .p) (s .q) (s .term) in
       tells-same (going t m T c) (going t m (s .p) i) (limit (s .p)) (limit T) o k (ap (λ (x : Derivation). x .label) (s .joins), ap (λ (x : Derivation). x .leaving) (s .joins)) (omega arith)

@@ -12,12 +12,12 @@ use Rattle.table.specs.Tables.{Table, firstRoot}
 use Rattle.term.specs.declared.Mode.the-variants.{Any}
 use Rattle.term.specs.Terms.{Term, words, Over}
 use Rattle.term.specs.Processes.{Derivation, process}
-use Rattle.term.specs.Choices.{count}
+use Rattle.term.specs.Choices.{countIn}
 use Rattle.term.proofs.Counting.{length-derivations}
 use Rattle.term.proofs.Words.{whole-read}
 use Rattle.choice.specs.declared.Gap.{Gap}
 use Rattle.choice.specs.Picks.{totalOf}
-use Rattle.choice.specs.Turns.{Ready}
+use Rattle.choice.specs.Turns.{Prepared}
 use Rattle.choice.specs.Writing.{Written}
 use Rattle.choice.proofs.Chosen.{chosen-any}
 use Rattle.residual.specs.declared.Measured.{Measured}
@@ -30,7 +30,7 @@ use Rattle.residual.proofs.Moving.{moved-before, moved-part}
 use Rattle.residual.proofs.Places.{empty}
 use Rattle.residual.proofs.Stepping.{true-counts}
 
-module _ (t : Table) (s : List ℕ) (ready : Ready t s) (size : ℕ) (ws : List ℕ) (whole : Whole t size ws) where
+module _ (t : Table) (s : List ℕ) (ready : Prepared t s) (size : ℕ) (ws : List ℕ) (whole : Whole t size ws) where
   abbrev T : Term
   T = residualTerm size ws
 
@@ -50,12 +50,12 @@ module _ (t : Table) (s : List ℕ) (ready : Ready t s) (size : ℕ) (ws : List 
   stands-whole c k = record { chosen = chosen-whole c k; begins = begins }
 
   -- what is found from the front on
-  pub offered : (roots : ℕ) → roots ≡ firstRoot t → (r : Measured) → Found roots s ws 0 r → (n : ℕ) → n ≡ totalOf Any (r .counts) → Offered t (residualTerm size ws) (record { few = r .few; count = n })
+  pub offered : (roots : ℕ) → roots ≡ firstRoot t → (r : Measured) → Found roots s ws 0 r → (n : ℕ) → n ≡ totalOf Any (r .counts) → Offered t (residualTerm size ws) (record { few = r .few; countIn = n })
   offered roots e r f n d =
       let w = f .right t (sym e) (ready .counted) T (drop (0 + length (words T)) ws) (read .0) begins in
       record {
         few = w .few;
-        count = λ g. d ∙ ap (totalOf Any) (true-counts t T g r 0 w) ∙ sym (length-derivations (process t T));
+        countIn = λ g. d ∙ ap (totalOf Any) (true-counts t T g r 0 w) ∙ sym (length-derivations (process t T));
       }
 
   -- the residual has been moved up to the end of the words

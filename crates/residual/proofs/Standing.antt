@@ -18,15 +18,15 @@ use Rattle.term.specs.Terms.{Term, Tick, Idle, Node, words}
 use Rattle.term.specs.Processes.{Process, idle, ticks, derivation, byKind, nodeStep, nodeWith, defined, nodeProcess, process}
 use Rattle.term.specs.Exposure.{canTick, callsBelow}
 use Rattle.term.proofs.Words.{words-some}
-use Rattle.choice.specs.Turns.{Ready, Reached}
-use Rattle.choice.specs.Chosen.{chosen}
+use Rattle.choice.specs.Turns.{Prepared, Reached}
+use Rattle.choice.specs.Chosen.{chosenIn}
 use Rattle.choice.proofs.Chosen.{chosen-tick}
 use Rattle.residual.specs.Measures.{Pairs}
 use Rattle.residual.specs.Steps.{Chosen, going, Stands}
 use Rattle.residual.proofs.Places.{past, term-within}
 
 -- the words hold counts below 65,536
-pub pairs-ready : (t : Table) (s : List ℕ) → Ready t s → (roots : ℕ) → roots ≡ firstRoot t → Pairs roots s
+pub pairs-ready : (t : Table) (s : List ℕ) → Prepared t s → (roots : ℕ) → roots ≡ firstRoot t → Pairs roots s
 pairs-ready t s r roots e =
     record {
       nodes = omega (arith, r .checked .sound .shaped .limits .nodes);
@@ -74,9 +74,9 @@ going-tick t m T c e k =
     let w : Chosen t m Tick c = subst (λ (X : Term). Chosen t m X c) e k in
     ap (λ (X : Term). going t m X c) e ∙ chosen-tick m c (w .choice)
 
-pub same-node : (t : Table) (m : Mode) (n c : ℕ) (T : Term) → T ≡ Node n → chosen m (process t T) c ≡ chosen m (nodeProcess t n) c
+pub same-node : (t : Table) (m : Mode) (n c : ℕ) (T : Term) → T ≡ Node n → chosenIn m (process t T) c ≡ chosenIn m (nodeProcess t n) c
 unfolding process
-same-node t m n c T e = ap (λ (X : Term). chosen m (process t X) c) e
+same-node t m n c T e = ap (λ (X : Term). chosenIn m (process t X) c) e
 
 module _ (t : Table) (m : Mode) (T : Term) (c at : ℕ) (ws : List ℕ) (stands : Stands t m T c at ws) where
   pub stands-within : at + length (words T) ≤ length ws
@@ -98,10 +98,10 @@ module _ (t : Table) (m : Mode) (T : Term) (c at : ℕ) (ws : List ℕ) (stands 
     right-stands = past ws (at + 1) (words p) (words q ++ drop (at + length (words T)) ws) left-stands
 
     pub stands-left : (j : Mode) (i : ℕ) → Chosen t j p i → Stands t j p i (at + 1) ws
-    stands-left j i k = record { chosen = k; begins = left-stands ∙ ap (λ (l : List ℕ). words p ++ l) (sym right-stands) }
+    stands-left j i k = record { chosenIn = k; begins = left-stands ∙ ap (λ (l : List ℕ). words p ++ l) (sym right-stands) }
 
     pub stands-right : (j : Mode) (i x : ℕ) → x ≡ at + 1 + length (words p) → Chosen t j q i → Stands t j q i x ws
     stands-right j i x e k =
         let z = stands-size in
         let f : x + length (words q) ≡ at + length (words T) = omega arith in
-        record { chosen = k; begins = rw (f, e) right-stands }
+        record { chosenIn = k; begins = rw (f, e) right-stands }

@@ -20,7 +20,7 @@ use Rattle.accept.specs.Counts.{trueCounts}
 use Rattle.accept.specs.Scratch.{Counted}
 use Rattle.choice.specs.declared.Pick.{Pick}
 use Rattle.choice.specs.declared.Pick.the-variants.{LeftActs, RightActs, LeftTicks, RightTicks}
-use Rattle.choice.specs.Chosen.{chosen}
+use Rattle.choice.specs.Chosen.{chosenIn}
 use Rattle.choice.specs.Picks.{actingOf, pickOf}
 use Rattle.choice.proofs.Chosen.{no-idle}
 use Rattle.choice.proofs.Turning.{around-before, around-right, around-left}
@@ -74,7 +74,7 @@ module _ (t : Table) (m : Mode) (c at middle end : ℕ) (p q : Term) (l : middle
             q = q;
             term = refl;
             size = omega arith;
-            chosen = record { over = k .over .0; few = f .0; choice = h };
+            chosenIn = record { over = k .over .0; few = f .0; choice = h };
             around = around-before (going t m (Seq p q) c) (going t Actions p i) q g;
           }
       by (RightActs i) h = absurd h
@@ -85,7 +85,7 @@ module _ (t : Table) (m : Mode) (c at middle end : ℕ) (p q : Term) (l : middle
             q = q;
             term = refl;
             place = l;
-            chosen = record { over = k .over .1; few = f .1; choice = g };
+            chosenIn = record { over = k .over .1; few = f .1; choice = g };
             tick = record { over = k .over .0; few = f .0; choice = h };
             joins = d;
           }
@@ -105,7 +105,7 @@ module _ (t : Table) (m : Mode) (c at middle end : ℕ) (p q : Term) (l : middle
             q = q;
             term = refl;
             size = omega arith;
-            chosen = record { over = k .over .0; few = f .0; choice = h };
+            chosenIn = record { over = k .over .0; few = f .0; choice = h };
             around = around-right (going t m (Par p q) c) (going t Actions p i) q g;
           }
       by (RightActs i) (h, g) =
@@ -114,7 +114,7 @@ module _ (t : Table) (m : Mode) (c at middle end : ℕ) (p q : Term) (l : middle
             q = q;
             term = refl;
             size = omega arith;
-            chosen = record { over = k .over .1; few = f .1; choice = h };
+            chosenIn = record { over = k .over .1; few = f .1; choice = h };
             around = around-left (going t m (Par p q) c) (going t Actions q i) p g;
           }
       by (LeftTicks j i) (h, g, d) =
@@ -124,7 +124,7 @@ module _ (t : Table) (m : Mode) (c at middle end : ℕ) (p q : Term) (l : middle
             q = q;
             term = refl;
             place = l;
-            chosen = record { over = k .over .1; few = f .1; choice = g };
+            chosenIn = record { over = k .over .1; few = f .1; choice = g };
             tick = record { over = k .over .0; few = f .0; choice = h };
             joins = d;
           }
@@ -135,7 +135,7 @@ module _ (t : Table) (m : Mode) (c at middle end : ℕ) (p q : Term) (l : middle
             term = refl;
             size = omega arith;
             place = omega arith;
-            chosen = record { over = k .over .0; few = f .0; choice = g };
+            chosenIn = record { over = k .over .0; few = f .0; choice = g };
             tick = record { over = k .over .1; few = f .1; choice = h };
             joins = d;
           }

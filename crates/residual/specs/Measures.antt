@@ -9,7 +9,7 @@ use Rattle.table.specs.Tables.{Table, firstRoot}
 use Rattle.term.specs.Terms.{Term, words, seqWord, tickWord, Over}
 use Rattle.term.specs.Processes.{process, allFew}
 use Rattle.accept.specs.declared.Counts.{Counts}
-use Rattle.accept.specs.Counts.{counts, Small, countsOf, seqCounts, parCounts}
+use Rattle.accept.specs.Counts.{counts, Capped, countsOf, seqCounts, parCounts}
 use Rattle.accept.specs.Scratch.{pairAt, Counted}
 use Rattle.residual.specs.declared.Measured.{Measured}
 
@@ -25,7 +25,7 @@ operatorCounts w p q = cond (eqb w seqWord) (seqCounts p q) (parCounts p q)
 pub record Pairs (roots : ℕ) (s : List ℕ) : Type 0 where
   pub nodes : roots ≤ 4096
   pub room : 2 * roots ≤ length s
-  pub small : (n : ℕ) → n < roots → Small (pairAt s n)
+  pub small : (n : ℕ) → n < roots → Capped (pairAt s n)
 
 -- what is found of term T at a place
 pub record Told (t : Table) (T : Term) (at : ℕ) (r : Measured) : Type 0 where
@@ -35,7 +35,7 @@ pub record Told (t : Table) (T : Term) (at : ℕ) (r : Measured) : Type 0 where
 
 -- what is found at a place of ws: if a term stands there, all of the above
 pub record Found (roots : ℕ) (s ws : List ℕ) (at : ℕ) (r : Measured) : Type 0 where
-  pub small : Small (r .counts)
+  pub small : Capped (r .counts)
   pub on : at ≤ r .next
   pub more : at < length ws → at < r .next
   pub within : r .next ≤ length ws

@@ -10,11 +10,11 @@ use Rattle.term.specs.declared.Mode.{Mode}
 use Rattle.term.specs.declared.Mode.the-variants.{Actions, Ticks}
 use Rattle.term.specs.Terms.{Term, Tick, Node, words, seqWord, parWord, Over}
 use Rattle.term.specs.Processes.{Derivation, join, process, allFew}
-use Rattle.term.specs.Choices.{count}
+use Rattle.term.specs.Choices.{countIn}
 use Rattle.accept.specs.declared.Counts.{Counts}
 use Rattle.choice.specs.declared.Pick.{Pick}
 use Rattle.choice.specs.declared.Pick.the-variants.{LeftActs, RightActs, LeftTicks, RightTicks}
-use Rattle.choice.specs.Chosen.{chosen}
+use Rattle.choice.specs.Chosen.{chosenIn}
 use Rattle.choice.specs.Picks.{actingOf}
 use Rattle.choice.specs.Turns.{Around}
 use Rattle.residual.specs.declared.Step.{Step}
@@ -35,11 +35,11 @@ pickStep w at middle end (RightTicks j i) = Drop (middle - (at + 1)) (at + 1 + (
 pub record Chosen (t : Table) (m : Mode) (T : Term) (c : ℕ) : Type 0 where
   pub over : Over t T
   pub few : allFew t T ≡ true
-  pub choice : c < count m (process t T)
+  pub choice : c < countIn m (process t T)
 
 -- the derivation that the choice is
 abbrev pub going : Table → Mode → Term → ℕ → Derivation
-going t m T c = chosen m (process t T) c
+going t m T c = chosenIn m (process t T) c
 
 -- an action of the left part, between an operator's word and the right part's words
 pub record StepIn (t : Table) (m : Mode) (T : Term) (c w i more : ℕ) : Type 0 where
@@ -47,7 +47,7 @@ pub record StepIn (t : Table) (m : Mode) (T : Term) (c w i more : ℕ) : Type 0 
   pub q : Term
   pub term : words T ≡ w ∷ (words p ++ words q)
   pub size : more ≡ length (words q)
-  pub chosen : Chosen t Actions p i
+  pub chosenIn : Chosen t Actions p i
   pub around : Around (going t m T c) (going t Actions p i) (w ∷ []) (words q)
 
 -- a tick of the left part joins the right part, which begins at a middle
@@ -57,7 +57,7 @@ pub record StepJump (t : Table) (m : Mode) (T : Term) (c at middle i j : ℕ) : 
   pub q : Term
   pub term : words T ≡ w ∷ (words p ++ words q)
   pub place : middle ≡ at + 1 + length (words p)
-  pub chosen : Chosen t m q i
+  pub chosenIn : Chosen t m q i
   pub tick : Chosen t Ticks p j
   pub joins : going t m T c ≡ join (going t Ticks p j) (going t m q i)
 
@@ -67,7 +67,7 @@ pub record StepCopy (t : Table) (m : Mode) (T : Term) (c n i : ℕ) : Type 0 whe
   pub q : Term
   pub term : words T ≡ parWord ∷ (words p ++ words q)
   pub size : n ≡ 1 + length (words p)
-  pub chosen : Chosen t Actions q i
+  pub chosenIn : Chosen t Actions q i
   pub around : Around (going t m T c) (going t Actions q i) (parWord ∷ words p) []
 
 -- a tick of the right part joins the left part, whose words are moved up to the term's end
@@ -77,7 +77,7 @@ pub record StepDrop (t : Table) (m : Mode) (T : Term) (c at n to i j : ℕ) : Ty
   pub term : words T ≡ parWord ∷ (words p ++ words q)
   pub size : n ≡ length (words p)
   pub place : to ≡ at + 1 + length (words q)
-  pub chosen : Chosen t m p i
+  pub chosenIn : Chosen t m p i
   pub tick : Chosen t Ticks q j
   pub joins : going t m T c ≡ join (going t Ticks q j) (going t m p i)
 
@@ -92,5 +92,5 @@ Stepped t m T c at (Drop n to i j) = StepDrop t m T c at n to i j
 
 -- the term stands at a place of ws, and its choice is there
 pub record Stands (t : Table) (m : Mode) (T : Term) (c at : ℕ) (ws : List ℕ) : Type 0 where
-  pub chosen : Chosen t m T c
+  pub chosenIn : Chosen t m T c
   pub begins : drop at ws ≡ words T ++ drop (at + length (words T)) ws

@@ -7,7 +7,7 @@ use crate::moves::move_down;
 use crate::moves::move_up;
 use crate::outcomes::outcome_at;
 use crate::writing::place;
-use choice::Outcome;
+use choice::Effect;
 use choice::picks::total;
 use table::Sizes;
 use table::first_root;
@@ -18,8 +18,8 @@ ghost use Prim.Native.Nat.{_+_, _-_, _≤_};
 ghost use lib.ListN.{length, replicate};
 ghost use Rattle.table.specs.Tables.{table};
 ghost use Rattle.term.specs.Terms.{words as wordsOf};
-ghost use Rattle.choice.specs.Turns.{Ready};
-ghost use Rattle.choice.specs.Marking.{Marks, Marked};
+ghost use Rattle.choice.specs.Turns.{Prepared};
+ghost use Rattle.choice.specs.Marking.{WalkMarks, Marked};
 ghost use Rattle.choice.specs.Outcomes.{Tells};
 ghost use Rattle.residual.specs.Wholes.{residualTerm, taken, Whole, Taking, Offered, limitOf, Rewritten};
 
@@ -32,7 +32,7 @@ pub fn choices(
     words: &[u32],
     size: usize,
 ) -> Choices
-    requires { ⌜ Ready (table sizes (now kinds) (now operands)) (now scratch) ⌝ }
+    requires { ⌜ Prepared (table sizes (now kinds) (now operands)) (now scratch) ⌝ }
     requires { ⌜ Whole (table sizes (now kinds) (now operands)) size (now words) ⌝ }
     ensures { λ r. ⌜ Offered (table sizes (now (kinds .entry)) (now (operands .entry))) (residualTerm size (now (words .entry))) r ⌝ }
 {
@@ -52,8 +52,8 @@ pub fn outcome(
     words: &[u32],
     size: usize,
     c: u64,
-) -> Outcome
-    requires { ⌜ Ready (table sizes (now kinds) (now operands)) (now scratch) ⌝ }
+) -> Effect
+    requires { ⌜ Prepared (table sizes (now kinds) (now operands)) (now scratch) ⌝ }
     requires { ⌜ Whole (table sizes (now kinds) (now operands)) size (now words) ⌝ }
     requires { ⌜ Taking (table sizes (now kinds) (now operands)) (residualTerm size (now words)) c ⌝ }
     ensures { λ r. ⌜ Tells (taken (table sizes (now (kinds .entry)) (now (operands .entry))) (residualTerm size (now (words .entry))) c) (limitOf (table sizes (now (kinds .entry)) (now (operands .entry))) (residualTerm size (now (words .entry)))) r ⌝ }
@@ -71,7 +71,7 @@ pub fn rewrite(
     size: usize,
     c: u64,
 ) -> usize
-    requires { ⌜ Ready (table sizes (now kinds) (now operands)) (now scratch) ⌝ }
+    requires { ⌜ Prepared (table sizes (now kinds) (now operands)) (now scratch) ⌝ }
     requires { ⌜ Whole (table sizes (now kinds) (now operands)) size (now words) ⌝ }
     requires { ⌜ Taking (table sizes (now kinds) (now operands)) (residualTerm size (now words)) c ⌝ }
     requires { ⌜ length (wordsOf (taken (table sizes (now kinds) (now operands)) (residualTerm size (now words)) c .leaving)) ≤ length (now words) ⌝ }
@@ -100,10 +100,10 @@ pub fn collect(
     size: usize,
     c: u64,
 )
-    requires { ⌜ Ready (table sizes (now kinds) (now operands)) (now scratch) ⌝ }
+    requires { ⌜ Prepared (table sizes (now kinds) (now operands)) (now scratch) ⌝ }
     requires { ⌜ Whole (table sizes (now kinds) (now operands)) size (now words) ⌝ }
     requires { ⌜ Taking (table sizes (now kinds) (now operands)) (residualTerm size (now words)) c ⌝ }
-    requires { ⌜ Marks (table sizes (now kinds) (now operands)) (now marks) ⌝ }
+    requires { ⌜ WalkMarks (table sizes (now kinds) (now operands)) (now marks) ⌝ }
     ensures { λ r. ⌜ Marked (table sizes (now (kinds .entry)) (now (operands .entry))) (taken (table sizes (now (kinds .entry)) (now (operands .entry))) (residualTerm size (now (words .entry))) c .guards) (now (marks .entry)) (now (marks .exit)) ⌝ }
 {
     mark_at(

@@ -12,7 +12,7 @@ ghost use mathlib.Core.Bool.{_&&_};
 ghost use Prim.Native.Nat.{_+_, _≤_};
 ghost use lib.Dec.{leb};
 ghost use lib.ListN.{length};
-ghost use Rattle.accept.specs.Counts.{Small};
+ghost use Rattle.accept.specs.Counts.{Capped};
 ghost use Rattle.residual.specs.Measures.{leafCounts, operatorCounts, Pairs, Found};
 
 // The counts of a word that is a term by itself.
@@ -32,7 +32,7 @@ fn leaf(roots: usize, scratch: &[u32], word: u32) -> Counts
 
 // The counts of an operator's term, from those of its parts.
 fn combined(word: u32, left: Counts, right: Counts) -> Counts
-    requires { ⌜ Small left ⌝ ∗ ⌜ Small right ⌝ }
+    requires { ⌜ Capped left ⌝ ∗ ⌜ Capped right ⌝ }
     ensures { λ r. ⌜ r ≡ operatorCounts word left right ⌝ }
 {
     if word == 65535 {
@@ -43,7 +43,7 @@ fn combined(word: u32, left: Counts, right: Counts) -> Counts
 
 // At most 65,535 derivations.
 fn few(c: Counts) -> bool
-    requires { ⌜ Small c ⌝ }
+    requires { ⌜ Capped c ⌝ }
     ensures { λ r. ⌜ r ≡ leb (c .actions + c .ticks) 65535 ⌝ }
 {
     c.actions + c.ticks <= 65535

@@ -9,8 +9,8 @@ ghost use Prim.Native.Nat.{_≤_};
 ghost use lib.ListN.{length};
 ghost use Rattle.table.specs.Tables.{table};
 ghost use Rattle.term.specs.Terms.{Term};
-ghost use Rattle.choice.specs.Turns.{Ready};
-ghost use Rattle.choice.specs.Marking.{Marks, Marked};
+ghost use Rattle.choice.specs.Turns.{Prepared};
+ghost use Rattle.choice.specs.Marking.{WalkMarks, Marked};
 ghost use Rattle.residual.specs.Steps.{going, Stands};
 
 // Where a tick of one part joins a derivation of the other, the guards of both.
@@ -25,10 +25,10 @@ pub fn mark_at(
     mode: Mode,
     c: u64,
 )
-    requires { ⌜ Ready (table sizes (now kinds) (now operands)) (now scratch) ⌝ }
+    requires { ⌜ Prepared (table sizes (now kinds) (now operands)) (now scratch) ⌝ }
     requires { ⌜ length (now words) ≤ 65535 ⌝ }
     requires { ⌜ ((T : Term) × Stands (table sizes (now kinds) (now operands)) mode T c at (now words)) ⌝ }
-    requires { ⌜ Marks (table sizes (now kinds) (now operands)) (now marks) ⌝ }
+    requires { ⌜ WalkMarks (table sizes (now kinds) (now operands)) (now marks) ⌝ }
     ensures { λ r. ⌜ ((T : Term) → Stands (table sizes (now (kinds .entry)) (now (operands .entry))) mode T c at (now (words .entry)) → Marked (table sizes (now (kinds .entry)) (now (operands .entry))) (going (table sizes (now (kinds .entry)) (now (operands .entry))) mode T c .guards) (now (marks .entry)) (now (marks .exit))) ⌝ }
 {
     let step = step_at(first_root(sizes), scratch, words, at, mode, c);

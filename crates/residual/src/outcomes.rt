@@ -2,7 +2,7 @@
 use crate::Step;
 use crate::steps::step_at;
 use choice::Does;
-use choice::Outcome;
+use choice::Effect;
 use choice::outcomes::grown;
 use choice::outcomes::node_outcome;
 use table::Sizes;
@@ -12,7 +12,7 @@ ghost use Prim.Native.Nat.{_+_, _≤_};
 ghost use lib.ListN.{length};
 ghost use Rattle.table.specs.Tables.{table};
 ghost use Rattle.term.specs.Terms.{Term, words as wordsOf};
-ghost use Rattle.choice.specs.Turns.{Ready};
+ghost use Rattle.choice.specs.Turns.{Prepared};
 ghost use Rattle.choice.specs.Outcomes.{Tells};
 ghost use Rattle.residual.specs.Steps.{going, Stands};
 ghost use Rattle.residual.specs.Spots.{furthest};
@@ -26,15 +26,15 @@ pub fn outcome_at(
     at: usize,
     mode: Mode,
     c: u64,
-) -> Outcome
-    requires { ⌜ Ready (table sizes (now kinds) (now operands)) (now scratch) ⌝ }
+) -> Effect
+    requires { ⌜ Prepared (table sizes (now kinds) (now operands)) (now scratch) ⌝ }
     requires { ⌜ length (now words) ≤ 65535 ⌝ }
     requires { ⌜ ((T : Term) × Stands (table sizes (now kinds) (now operands)) mode T c at (now words)) ⌝ }
     ensures { λ r. ⌜ ((T : Term) → Stands (table sizes (now (kinds .entry)) (now (operands .entry))) mode T c at (now (words .entry)) → Tells (going (table sizes (now (kinds .entry)) (now (operands .entry))) mode T c) (furthest (table sizes (now (kinds .entry)) (now (operands .entry))) + length (wordsOf T)) r) ⌝ }
 {
     let step = step_at(first_root(sizes), scratch, words, at, mode, c);
     match step {
-        Step::Ticked => Outcome {
+        Step::Ticked => Effect {
             does: Does::Ticking,
             size: 1,
         },

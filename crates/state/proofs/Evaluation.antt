@@ -17,7 +17,7 @@ use Rattle.basis.proofs.Tests.{and-right, cond-cases}
 use Rattle.value.specs.declared.Value.{Value}
 use Rattle.value.specs.declared.Value.the-variants.{Absent, Present}
 use Rattle.value.specs.declared.Truth.{Truth}
-use Rattle.value.specs.Values.{signed, inRange, fit, isZero, quotient, remainder, arithmetic, operate}
+use Rattle.value.specs.Values.{signedOf, inRange, fit, isZero, quotient, remainder, arithmetic, operate}
 use Rattle.value.specs.Truths.{undefined}
 use Rattle.table.specs.Tables.{Table, kindAt, pAt, qAt, constantAt, linkAt}
 use Rattle.state.specs.declared.Store.{Store}
@@ -89,7 +89,7 @@ arithmetic-small kind x y =
 operate-small : (kind : ℕ) (a b : Value) → SmallValue (operate kind a b)
 operate-small kind Absent b = tt
 operate-small kind (Present x) Absent = tt
-operate-small kind (Present x) (Present y) = arithmetic-small kind (signed x) (signed y)
+operate-small kind (Present x) (Present y) = arithmetic-small kind (signedOf x) (signedOf y)
 
 pub valueIn-small : (s : List ℕ) → Small s → (store : Store) (k : ℕ) → SmallValue (valueIn s store k)
 unfolding valueIn

@@ -8,7 +8,7 @@ use Rattle.value.specs.declared.Value.{Value}
 use Rattle.value.specs.declared.Value.the-variants.{Absent, Present}
 use Rattle.value.specs.declared.Truth.{Truth}
 use Rattle.value.specs.Values.{operate}
-use Rattle.value.specs.Truths.{truth, undefined, compare, connect}
+use Rattle.value.specs.Truths.{truth, undefined, compareValues, connect}
 use Rattle.table.specs.Tables.{Table, kindAt, pAt, qAt, constantAt, linkAt}
 use Rattle.table.specs.Nodes.{leftNode, rightNode}
 use Rattle.state.specs.declared.Store.the-variants.{Environment, Attributes, Entries}
@@ -39,7 +39,7 @@ module _ (t : Table) (s : List ℕ) (sender receiver : ℕ) where
   unfoldable pub truthStep : (ℕ → Truth) → ℕ → Truth
   truthStep guard n =
       cond (eqb (kindAt t n) 16) (truth true true)
-      (cond (ltb (kindAt t n) 20) (compare (kindAt t n) (valueOf (pAt t n)) (valueOf (qAt t n)))
+      (cond (ltb (kindAt t n) 20) (compareValues (kindAt t n) (valueOf (pAt t n)) (valueOf (qAt t n)))
       (connect (kindAt t n) (guard (pAt t n)) (guard (qAt t n))))
 
   abbrev pub truthBelow : ℕ → ℕ → Truth

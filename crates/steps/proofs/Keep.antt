@@ -31,7 +31,7 @@ use Rattle.state.proofs.Evaluation.{SmallValue, valueOf-small}
 use Rattle.state.proofs.Formed.{ResidualFormed, ProperFacts, There, highestIn, keysIn, residual-formed}
 use Rattle.state.proofs.Keep.{Kept, kept-proper, kept-start, kept-later, kept-clock, kept-keys, kept-add, kept-drop, kept-put, pair-kept, set-kept, residual-kept, set-plusAll}
 use Rattle.steps.specs.Acts.{wordIn, nextStamp, leave, valueFor, writesEntry, guardsRead, labelReads, toConfirm, setKey, acted}
-use Rattle.steps.specs.Offers.{newer, takeEntry, hears, takes, answers, offer, offered, confirmed}
+use Rattle.steps.specs.Offers.{newer, takeEntry, linked, takes, holdsNewer, offer, offered, confirmed}
 use Rattle.steps.proofs.Acts.{set-attribute, set-entry, set-environment}
 use Rattle.steps.proofs.Leave.{leave-length, leave-small, leave-other, leave-size, leave-word}
 
@@ -84,7 +84,7 @@ module _ (t : Table) (limits : Limits (t .sizes)) (was : List ℕ) where
     }
 
   -- OFFERS of x's entry for key k
-  module _ (proper : ProperFacts t was) (x k : ℕ) (there : x < agents) (key : k < t .sizes .stigmergy) (entered : 0 < stampOf was x k) (asks : Bool) where
+  module _ (proper : ProperFacts t was) (x k : ℕ) (there : x < agents) (key : k < t .sizes .stigmergy) (entered : 0 < stampOf was x k) (confirming : Bool) where
     abbrev now : ℕ
     now = clockOf was
 
@@ -95,11 +95,11 @@ module _ (t : Table) (limits : Limits (t .sizes)) (was : List ℕ) where
     early : stampOf was x k ≤ now
     early = proper .formed .formed .pairs (Entries x) there k k16 .bound
 
-    offer-kept : (y : ℕ) → y < agents → (s : List ℕ) → Kept t now now was s → Kept t now now was (offer t was x k asks y s)
-    unfolding offer takes answers takeEntry
+    offer-kept : (y : ℕ) → y < agents → (s : List ℕ) → Kept t now now was s → Kept t now now was (offer t was x k confirming y s)
+    unfolding offer takes holdsNewer takeEntry
     offer-kept y l s h =
-        cond-cases (Kept t now now was) (hears t was x k y && newer was k x y) (λ e. take)
-        (λ e. cond-cases (Kept t now now was) (asks && (hears t was x k y && newer was k y x)) answer (λ f. h))
+        cond-cases (Kept t now now was) (linked t was x k y && newer was k x y) (λ e. take)
+        (λ e. cond-cases (Kept t now now was) (confirming && (linked t was x k y && newer was k y x)) answer (λ f. h))
       where
         m : ℕ
         m = stampOf was x k
@@ -114,18 +114,18 @@ module _ (t : Table) (limits : Limits (t .sizes)) (was : List ℕ) where
         take = kept-add t limits was now now (dropKey (zcAt y) k (put (Entries y) k v m s)) (kept-drop t limits was now now (put (Entries y) k v m s) entry Zc y k l) Zp y k l k16
             (rw (drop-other Zc y k (put (Entries y) k v m s) (Mark (Entries y) k) k16 refl, put-mark (Entries y) k v m s k16 (h .whole) (omega arith)) entered)
 
-        answer : (asks && (hears t was x k y && newer was k y x)) ≡ true → Kept t now now was (addKey (zpAt y) k s)
+        answer : (confirming && (linked t was x k y && newer was k y x)) ≡ true → Kept t now now was (addKey (zpAt y) k s)
         answer e =
-            let f = and-right asks (hears t was x k y && newer was k y x) e in
-            let g = ltb-true (stampOf was x k) (stampOf was y k) (and-right (hears t was x k y) (newer was k y x) f) in
+            let f = and-right confirming (linked t was x k y && newer was k y x) e in
+            let g = ltb-true (stampOf was x k) (stampOf was y k) (and-right (linked t was x k y) (newer was k y x) f) in
             kept-add t limits was now now s h Zp y k l k16 (h .stamps y k k16 (omega arith))
 
-    offers-kept : Kept t now now was (offered t was x k asks agents)
-    offers-kept = forEach-keeps (offer t was x k asks) (Kept t now now was) agents offer-kept was (kept-start t limits was proper)
+    offers-kept : Kept t now now was (offered t was x k confirming agents)
+    offers-kept = forEach-keeps (offer t was x k confirming) (Kept t now now was) agents offer-kept was (kept-start t limits was proper)
 
     -- the key then leaves one of x's sets
-    pub dropped-proper : (z : KeySet) → ProperFacts t (dropKey (placeAt (Waits z x)) k (offered t was x k asks agents))
-    dropped-proper z = kept-proper t now was _ (proper .formed .clock) (kept-drop t limits was now now (offered t was x k asks agents) offers-kept z x k there)
+    pub dropped-proper : (z : KeySet) → ProperFacts t (dropKey (placeAt (Waits z x)) k (offered t was x k confirming agents))
+    dropped-proper z = kept-proper t now was _ (proper .formed .clock) (kept-drop t limits was now now (offered t was x k confirming agents) offers-kept z x k there)
 
 -- ACTS
 word-small : (v : Value) → SmallValue v → wordIn v < 2 ^ 32

@@ -14,7 +14,7 @@ use Rattle.table.specs.Tables.{Table, sizesOf, tableOf}
 use Rattle.table.specs.Sound.{Limits, Sound}
 use Rattle.table.proofs.Checks.{first-passes, refuseIf-passes}
 use Rattle.table.proofs.Promises.{start-process}
-use Rattle.term.specs.Accepted.{Accepted}
+use Rattle.term.specs.Accepted.{Acceptable}
 use Rattle.term.proofs.Acceptance.{passes-accepted}
 use Rattle.state.specs.Layout.{dropKey}
 use Rattle.state.specs.WellFormed.{loaded}
@@ -43,9 +43,9 @@ module _ (t : Table) (sound : Sound t) (bytes : (i : ℕ) → getD (t .operands)
       (chosen-inside t was x sound (proper .formed .formed .residuals x there .over) c (a .there)) (a .room) (a .short)
 
   -- an offer of a key in one of x's sets
-  offer-proper : (z : KeySet) (asks : Bool) (x k : ℕ) → x < t .sizes .agents → k < t .sizes .stigmergy → has (wordAt was (Waits z x)) k ≡ true
-      → ProperFacts t (dropKey (placeAt (Waits z x)) k (offered t was x k asks (t .sizes .agents)))
-  offer-proper z asks x k there key e = dropped-proper t bounds was proper x k there key (proper .formed .formed .sets z x there .entered k (omega arith) e) asks z
+  offer-proper : (z : KeySet) (confirming : Bool) (x k : ℕ) → x < t .sizes .agents → k < t .sizes .stigmergy → has (wordAt was (Waits z x)) k ≡ true
+      → ProperFacts t (dropKey (placeAt (Waits z x)) k (offered t was x k confirming (t .sizes .agents)))
+  offer-proper z confirming x k there key e = dropped-proper t bounds was proper x k there key (proper .formed .formed .sets z x there .entered k (omega arith) e) confirming z
 
   after-proper : (kind x number : ℕ) → InRange t kind x number → firstOf (ownChecks t was kind x number) ≡ passes → ProperFacts t (after t was kind x number)
   after-proper zero x c r e = act-proper x c (r .agent-below) e
@@ -79,7 +79,7 @@ load-proper bytes stateLength scratch e =
     loaded-proper (tableOf bytes) (sound .shaped .limits) (start-process (tableOf bytes) sound)
 
 -- checks 1 to 9 pass of an accepted table and a proper state
-pub proper-passes : (bytes : List ℕ) (stateLength scratch : ℕ) → Accepted bytes stateLength scratch → (s : List ℕ) → ProperFacts (tableOf bytes) s
+pub proper-passes : (bytes : List ℕ) (stateLength scratch : ℕ) → Acceptable bytes stateLength scratch → (s : List ℕ) → ProperFacts (tableOf bytes) s
     → firstOf (stateChecks bytes s scratch) ≡ passes
 proper-passes bytes stateLength scratch a s p =
     state-checks bytes s scratch .1
@@ -90,7 +90,7 @@ module _ (bytes : List ℕ) (narrow : (i : ℕ) → getD bytes i 0 < 256) (was :
   abbrev table : Table
   table = tableOf bytes
 
-  pub checks-accepted : Accepted bytes (length was) scratch
+  pub checks-accepted : Acceptable bytes (length was) scratch
   checks-accepted = state-checks bytes was scratch .0 e .0
 
   pub checks-proper : ProperFacts (tableOf bytes) was

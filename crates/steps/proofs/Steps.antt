@@ -16,7 +16,7 @@ use Rattle.table.specs.Tables.{Table, tableOf}
 use Rattle.table.proofs.Checks.{test-passes, passes-test, none-passes, append-passes, append-both}
 use Rattle.term.specs.Terms.{words}
 use Rattle.term.specs.Processes.{allFew}
-use Rattle.term.specs.Accepted.{Accepted}
+use Rattle.term.specs.Accepted.{Acceptable}
 use Rattle.term.proofs.Acceptance.{passes-accepted, accepted-passes}
 use Rattle.state.specs.Layout.{residualWords, clockOf, zcOf, zpOf, termIn}
 use Rattle.state.specs.WellFormed.{wellFormed, loaded}
@@ -40,10 +40,10 @@ module _ (was : List ℕ) (taken : ℕ) (s : List ℕ) where
 
 -- LOAD is done where the table is accepted for the lent words
 module _ (bytes was : List ℕ) (scratch : ℕ) where
-  pub load-accepted : loadOf bytes was scratch .check ≡ passes → Accepted bytes (length was) scratch
+  pub load-accepted : loadOf bytes was scratch .check ≡ passes → Acceptable bytes (length was) scratch
   load-accepted e = passes-accepted bytes (length was) scratch (sym (outcome-check was 0 (loaded (tableOf bytes)) (firstOf (tableChecks bytes (length was) scratch))) ∙ e)
 
-  pub accepted-load : Accepted bytes (length was) scratch → loadOf bytes was scratch ≡ done 0 (loaded (tableOf bytes))
+  pub accepted-load : Acceptable bytes (length was) scratch → loadOf bytes was scratch ≡ done 0 (loaded (tableOf bytes))
   accepted-load a = outcome-done was 0 (loaded (tableOf bytes)) (firstOf (tableChecks bytes (length was) scratch)) (accepted-passes bytes (length was) scratch a)
 
 -- 10 has passed
@@ -160,7 +160,7 @@ module _ (t : Table) (was : List ℕ) (x : ℕ) where
 
 -- A STEP is done where the table is accepted, the state well formed, the step in range, and its own checks have passed
 pub record Done (bytes was : List ℕ) (scratch kind x number : ℕ) : Type 0 where
-  pub accepted : Accepted bytes (length was) scratch
+  pub accepted : Acceptable bytes (length was) scratch
   pub formed : wellFormed (tableOf bytes) was ≡ true
   pub range : InRange (tableOf bytes) kind x number
   pub own : firstOf (ownChecks (tableOf bytes) was kind x number) ≡ passes
@@ -169,7 +169,7 @@ module _ (bytes was : List ℕ) (scratch : ℕ) where
   abbrev t : Table
   t = tableOf bytes
 
-  pub state-checks : firstOf (stateChecks bytes was scratch) ≡ passes ↔ (Accepted bytes (length was) scratch × (wellFormed (tableOf bytes) was ≡ true))
+  pub state-checks : firstOf (stateChecks bytes was scratch) ≡ passes ↔ (Acceptable bytes (length was) scratch × (wellFormed (tableOf bytes) was ≡ true))
   state-checks = (
     λ e. let w = append-passes (tableChecks bytes (length was) scratch) _ e in
         (passes-accepted bytes (length was) scratch (w .0), not-false (wellFormed t was) (test-passes 9 (not (wellFormed t was)) [] (w .1) .0)),

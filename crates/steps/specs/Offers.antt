@@ -19,24 +19,24 @@ takeEntry k v stamp y s = addKey (zpAt y) k (dropKey (zcAt y) k (put (Entries y)
 
 module _ (t : Table) (was : List ℕ) (x k : ℕ) where
   -- y is another agent, and the link from x to y holds
-  unfoldable pub hears : ℕ → Bool
-  hears y = not (eqb x y) && linkHolds t was k x y
+  unfoldable pub linked : ℕ → Bool
+  linked y = not (eqb x y) && linkHolds t was k x y
 
   -- and its entry is older, or newer
   unfoldable pub takes : ℕ → Bool
-  takes y = hears y && newer was k x y
+  takes y = linked y && newer was k x y
 
-  unfoldable pub answers : ℕ → Bool
-  answers y = hears y && newer was k y x
+  unfoldable pub holdsNewer : ℕ → Bool
+  holdsNewer y = linked y && newer was k y x
 
   -- what an offer does to y; where it asks, a newer one only gains the key in Zp
   unfoldable pub offer : Bool → ℕ → List ℕ → List ℕ
-  offer asks y s =
+  offer confirming y s =
       cond (takes y) (takeEntry k (wordOf was (Entries x) k) (stampOf was x k) y s)
-      (cond (asks && answers y) (addKey (zpAt y) k s) s)
+      (cond (confirming && holdsNewer y) (addKey (zpAt y) k s) s)
 
   abbrev pub offered : Bool → ℕ → List ℕ
-  offered asks agents = forEach (offer asks) agents was
+  offered confirming agents = forEach (offer confirming) agents was
 
   -- how many agents take the entry
   abbrev pub takers : ℕ → ℕ

@@ -4,11 +4,11 @@ use Prim.Native.Nat.{ℕ}
 use mathlib.Core.Path.{_≡_, refl}
 use mathlib.Core.List.{List, [], _∷_, _++_}
 use lib.ListN.{set}
-use Rattle.basis.specs.Numbers.{some, lowest}
+use Rattle.basis.specs.Numbers.{someBelow, lowest}
 use Rattle.basis.specs.Below.{below}
 use Rattle.table.specs.Checks.{Check, passes, refuses, refuseAt, firstOf}
 use Rattle.table.specs.Tables.{sizesOf, tableOf, withinLimits}
-use Rattle.table.specs.Nodes.{processRows, guardRows, expressionRows, lookup, fieldsHere, fits, fitting, named, namesAgain, badNode}
+use Rattle.table.specs.Nodes.{processRows, guardRows, expressionRows, rowOf, fieldsHere, fits, fitting, named, namesAgain, badNode}
 use Rattle.table.specs.Reach.{reachStep, reachedFrom, wrongKey}
 use Rattle.table.specs.Measuring.{sizeChecks}
 
@@ -28,15 +28,15 @@ rehearsed =
     ∷ 7 ∷ 0 ∷ 0 ∷ 0 ∷ 0 ∷ 0 ∷ 0 ∷ 0 ∷ 0 ∷ 0 ∷ 0 ∷ 0 ∷ 0 ∷ 0 ∷ 2 ∷ 0 ∷ 0 ∷ 0 ∷ 0 ∷ 0 ∷ 4 ∷ 0 ∷ 0 ∷ 0 ∷ 1 ∷ 0 ∷ 0 ∷ 0 ∷ 3 ∷ 0 ∷ 0 ∷ 0 ∷ []
 
 fine : judged rehearsed ≡ passes
-unfolding some lowest below firstOf withinLimits processRows guardRows expressionRows lookup fieldsHere fits named namesAgain fitting badNode reachStep reachedFrom wrongKey
+unfolding someBelow lowest below firstOf withinLimits processRows guardRows expressionRows rowOf fieldsHere fits named namesAgain fitting badNode reachStep reachedFrom wrongKey
 fine = refl
 
 -- node 3 sets its attribute by node 0, which node 1 names already
 named-twice : judged (set rehearsed 34 0) ≡ refuses 4 3
-unfolding some lowest below firstOf withinLimits processRows guardRows expressionRows lookup fieldsHere fits named namesAgain fitting badNode reachStep reachedFrom wrongKey
+unfolding someBelow lowest below firstOf withinLimits processRows guardRows expressionRows rowOf fieldsHere fits named namesAgain fitting badNode reachStep reachedFrom wrongKey
 named-twice = refl
 
 -- node 2, which a process reaches, asks for the sender
 sender : judged (set rehearsed 30 1) ≡ refuses 5 2
-unfolding some lowest below firstOf withinLimits processRows guardRows expressionRows lookup fieldsHere fits named namesAgain fitting badNode reachStep reachedFrom wrongKey
+unfolding someBelow lowest below firstOf withinLimits processRows guardRows expressionRows rowOf fieldsHere fits named namesAgain fitting badNode reachStep reachedFrom wrongKey
 sender = refl

@@ -14,7 +14,7 @@ use Rattle.table.specs.declared.Fields.{Fields}
 use Rattle.table.specs.declared.Look.{Look}
 use Rattle.table.specs.Tables.{Table, pAt, qAt}
 use Rattle.table.specs.Nodes.{fieldsAt, isNode, fits, fitting, leftNode, rightNode}
-use Rattle.table.specs.Marks.{isMarked, marked, Shows, Mark, Marks, Looked}
+use Rattle.table.specs.Marks.{isMarked, marked, Shows, Mark, TwoMarks, Looked}
 use Rattle.table.proofs.Operands.{left-lower, right-lower}
 
 abbrev pub word : Bool → ℕ
@@ -36,10 +36,10 @@ length-marked marks false x = refl
 pub mark-length : {a b : List ℕ} {on : Bool} {x : ℕ} {r : Bool} → Mark a b on x r → length b ≡ length a
 mark-length {a} {b} {on} {x} m = rw (m .leaves) (length-marked a on x)
 
-pub marks-length : {a b : List ℕ} {f g : Bool} {p q : ℕ} {r : Bool} → Marks a b f p g q r → length b ≡ length a
+pub marks-length : {a b : List ℕ} {f g : Bool} {p q : ℕ} {r : Bool} → TwoMarks a b f p g q r → length b ≡ length a
 marks-length {a} {b} {f} {g} {p} {q} m = rw (m .leaves) (length-marked (marked a f p) g q ∙ length-marked a f p)
 
-pub marks-both : {a b c : List ℕ} {f g : Bool} {p q : ℕ} {r s : Bool} → Mark a b f p r → Mark b c g q s → Marks a c f p g q (r || s)
+pub marks-both : {a b c : List ℕ} {f g : Bool} {p q : ℕ} {r s : Bool} → Mark a b f p r → Mark b c g q s → TwoMarks a c f p g q (r || s)
 marks-both m k = record { is = rw (m .is, k .is, m .leaves); leaves = rw (k .leaves, m .leaves) }
 
 -- one mark more
@@ -83,8 +83,8 @@ module _ (t : Table) where
 
   module _ (on : Bool) (marks : List ℕ) {i : ℕ} {l : Look} (k : Looked t i l) where
     -- what was found of a node says which marks are made
-    pub marks-found : {after : List ℕ} {r : Bool} → Marks marks after (on && l .left) (l .p) (on && l .right) (l .q) r
-        → Marks marks after (on && leftNode t i) (pAt t i) (on && rightNode t i) (qAt t i) r
+    pub marks-found : {after : List ℕ} {r : Bool} → TwoMarks marks after (on && l .left) (l .p) (on && l .right) (l .q) r
+        → TwoMarks marks after (on && leftNode t i) (pAt t i) (on && rightNode t i) (qAt t i) r
     marks-found m = rw (k .left, k .right, k .p, k .q) at m
 
     -- and they are within the words
@@ -98,7 +98,7 @@ module _ (t : Table) where
   -- the words after the marks that node i makes for the nodes that it names
   module _ (marks after : List ℕ) (i : ℕ) (on r : Bool) (test : ℕ → Bool) (h : Shows marks (t .sizes .nodes) test)
       (long : t .sizes .nodes ≤ length marks) (small : i < t .sizes .nodes) (good : fitting t i ≡ true)
-      (m : Marks marks after (on && leftNode t i) (pAt t i) (on && rightNode t i) (qAt t i) r) where
+      (m : TwoMarks marks after (on && leftNode t i) (pAt t i) (on && rightNode t i) (qAt t i) r) where
     abbrev N : ℕ
     N = t .sizes .nodes
 

@@ -6,12 +6,12 @@ use mathlib.Core.Path.{_≡_, refl, sym, ap, _∙_}
 use mathlib.Core.List.{List}
 use lib.Dec.{eqb}
 use lib.ListN.{length}
-use Rattle.basis.specs.Numbers.{some}
+use Rattle.basis.specs.Numbers.{someBelow}
 use Rattle.basis.proofs.Numbers.{some-more}
 use Rattle.basis.proofs.Tests.{and-when}
 use Rattle.table.specs.Tables.{Table, pAt, qAt}
 use Rattle.table.specs.Nodes.{fitting, leftNode, rightNode, names, inner, named, namesAgain, badNode}
-use Rattle.table.specs.Marks.{isMarked, marked, Shows, Marks}
+use Rattle.table.specs.Marks.{isMarked, marked, Shows, TwoMarks}
 use Rattle.table.proofs.Marking.{word, shows-is, low-p, low-q, shows-once, shows-twice}
 
 -- two tests that are the same by their tables
@@ -24,7 +24,7 @@ again-test true true true a b e = refl
 
 module _ (t : Table) where
   pub named-none : (m : ℕ) → named t 0 m ≡ false
-  unfolding named some
+  unfolding named someBelow
   named-none m = refl
 
   named-more : (n m : ℕ) → named t (n + 1) m ≡ (named t n m || (inner t n && names t n m))
@@ -41,7 +41,7 @@ module _ (t : Table) where
 
   module _ (marks after : List ℕ) (i : ℕ) (r : Bool) (h : Shows marks (t .sizes .nodes) (named t i)) (long : t .sizes .nodes ≤ length marks)
       (small : i < t .sizes .nodes) (good : fitting t i ≡ true)
-      (m : Marks marks after (inner t i && leftNode t i) (pAt t i) (inner t i && rightNode t i) (qAt t i) r) where
+      (m : TwoMarks marks after (inner t i && leftNode t i) (pAt t i) (inner t i && rightNode t i) (qAt t i) r) where
     abbrev N : ℕ
     N = t .sizes .nodes
 

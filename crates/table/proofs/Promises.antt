@@ -17,7 +17,7 @@ use Rattle.table.specs.declared.Field.the-variants.{Never, Zero, Process
 use Rattle.table.specs.declared.Fields.{Fields}
 use Rattle.table.specs.Checks.{passes, refuseAt}
 use Rattle.table.specs.Tables.{Table, sizesOf, withinLimits, tableOf, kindAt, pAt, qAt, firstRoot, firstLinkRoot, firstAgentRoot, bodyAt, linkAt, startAt}
-use Rattle.table.specs.Nodes.{processRows, guardRows, expressionRows, lookup, fields, fieldsOf, fieldsHere, fieldsAt, rootNames, isProcess, isGuard, isExpression, inner, fitting, leftNode, rightNode, names, named, namesAgain, badNode, LowerProcess, LowerGuard, LowerExpression}
+use Rattle.table.specs.Nodes.{processRows, guardRows, expressionRows, rowOf, fields, fieldsOf, fieldsHere, fieldsAt, rootNames, isProcess, isGuard, isExpression, inner, fitting, leftNode, rightNode, names, named, namesAgain, badNode, LowerProcess, LowerGuard, LowerExpression}
 use Rattle.table.specs.Reach.{processNode, linkRoot, reachedFrom, wrongKey}
 use Rattle.table.specs.Sound.{Sound}
 use Rattle.table.proofs.Checks.{refuseAt-passes}
@@ -138,76 +138,76 @@ module _ (t : Table) where
       q = qAt t n
 
       pub idle-operands : n < N → kind ≡ 0 → Zeros n
-      unfolding lookup processRows
+      unfolding rowOf processRows
       idle-operands h e = by-kind n 0 h e (omega arith)
 
       pub tick-operands : kind ≡ 1 → Zeros n
-      unfolding lookup processRows
+      unfolding rowOf processRows
       tick-operands e = of-kind n 1 e (omega arith) (omega arith)
 
       pub attribute-set-operands : kind ≡ 2 → (p < t .sizes .attributes) × LowerExpression t n q
-      unfolding lookup processRows
+      unfolding rowOf processRows
       attribute-set-operands e = of-kind n 2 e (omega arith) (omega arith)
 
       pub stigmergy-set-operands : kind ≡ 3 → (p < t .sizes .stigmergy) × LowerExpression t n q
-      unfolding lookup processRows
+      unfolding rowOf processRows
       stigmergy-set-operands e = of-kind n 3 e (omega arith) (omega arith)
 
       pub environment-set-operands : kind ≡ 4 → (p < t .sizes .environment) × LowerExpression t n q
-      unfolding lookup processRows
+      unfolding rowOf processRows
       environment-set-operands e = of-kind n 4 e (omega arith) (omega arith)
 
       pub sequence-operands : kind ≡ 5 → Processes n
-      unfolding lookup processRows
+      unfolding rowOf processRows
       sequence-operands e = of-kind n 5 e (omega arith) (omega arith)
 
       pub choice-operands : kind ≡ 6 → Processes n
-      unfolding lookup processRows
+      unfolding rowOf processRows
       choice-operands e = of-kind n 6 e (omega arith) (omega arith)
 
       pub guarded-operands : kind ≡ 7 → LowerGuard t n p × LowerProcess t n q
-      unfolding lookup processRows
+      unfolding rowOf processRows
       guarded-operands e = of-kind n 7 e (omega arith) (omega arith)
 
       pub parallel-operands : kind ≡ 8 → Processes n
-      unfolding lookup processRows
+      unfolding rowOf processRows
       parallel-operands e = of-kind n 8 e (omega arith) (omega arith)
 
       pub call-operands : kind ≡ 9 → (p < t .sizes .definitions) × (q ≡ 0)
-      unfolding lookup processRows
+      unfolding rowOf processRows
       call-operands e = of-kind n 9 e (omega arith) (omega arith)
 
       pub true-operands : kind ≡ 16 → Zeros n
-      unfolding lookup guardRows
+      unfolding rowOf guardRows
       true-operands e = of-kind n 16 e (omega arith) (omega arith)
 
       pub not-operands : kind ≡ 20 → LowerGuard t n p × (q ≡ 0)
-      unfolding lookup guardRows
+      unfolding rowOf guardRows
       not-operands e = of-kind n 20 e (omega arith) (omega arith)
 
       pub and-operands : kind ≡ 21 → Guards n
-      unfolding lookup guardRows
+      unfolding rowOf guardRows
       and-operands e = of-kind n 21 e (omega arith) (omega arith)
 
       pub or-operands : kind ≡ 22 → Guards n
-      unfolding lookup guardRows
+      unfolding rowOf guardRows
       or-operands e = of-kind n 22 e (omega arith) (omega arith)
 
       pub attribute-operands : kind ≡ 33 → (p < t .sizes .attributes) × (q ≤ 2)
-      unfolding lookup expressionRows
+      unfolding rowOf expressionRows
       attribute-operands e = of-kind n 33 e (omega arith) (omega arith)
 
       pub stigmergy-operands : kind ≡ 34 → (p < t .sizes .stigmergy) × (q ≤ 2)
-      unfolding lookup expressionRows
+      unfolding rowOf expressionRows
       stigmergy-operands e = of-kind n 34 e (omega arith) (omega arith)
 
       pub environment-operands : kind ≡ 35 → (p < t .sizes .environment) × (q ≡ 0)
-      unfolding lookup expressionRows
+      unfolding rowOf expressionRows
       environment-operands e = of-kind n 35 e (omega arith) (omega arith)
 
       -- equal, less, greater
       pub comparison-operands : 17 ≤ kind → kind ≤ 19 → Expressions n
-      unfolding lookup guardRows
+      unfolding rowOf guardRows
       comparison-operands h l =
           ⊎-elim (λ (a : kind < 18). of-kind n 17 (omega arith) (omega arith) (omega arith))
           (λ (a : 18 ≤ kind).
@@ -218,7 +218,7 @@ module _ (t : Table) where
 
       -- +, -, ×, divide, remainder
       pub arithmetic-operands : 36 ≤ kind → kind ≤ 40 → Expressions n
-      unfolding lookup expressionRows
+      unfolding rowOf expressionRows
       arithmetic-operands h l =
           ⊎-elim (λ (a : kind < 37). of-kind n 36 (omega arith) (omega arith) (omega arith))
           (λ (a : 37 ≤ kind).

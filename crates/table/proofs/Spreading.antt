@@ -9,13 +9,13 @@ use native.Mathlib.Omega.{arith}
 use lib.Dec.{leb}
 use lib.ListN.{length}
 use borrow.Author.Tests.{leb-true, le-leb, lt-leb}
-use Rattle.basis.specs.Numbers.{some}
+use Rattle.basis.specs.Numbers.{someBelow}
 use Rattle.basis.proofs.Numbers.{some-at, some-none, some-witness}
 use Rattle.basis.proofs.Tests.{same-test, and-left, and-right, and-both, or-either, or-left, or-right, same-or-other}
 use Rattle.table.specs.Tables.{Table, pAt, qAt}
 use Rattle.table.specs.Nodes.{fitting, leftNode, rightNode, names}
 use Rattle.table.specs.Reach.{reachedFrom}
-use Rattle.table.specs.Marks.{isMarked, Shows, Marks}
+use Rattle.table.specs.Marks.{isMarked, Shows, TwoMarks}
 use Rattle.table.proofs.Operands.{names-lower}
 use Rattle.table.proofs.Reaches.{reached-start, reached-named, reached-how}
 use Rattle.table.proofs.Marking.{word, shows-is, shows-twice}
@@ -32,15 +32,15 @@ module _ (t : Table) (good : (k : ℕ) → k < t .sizes .nodes → fitting t k �
   via i m k = leb i k && (from k && names t k m)
 
   abbrev pub upper : ℕ → ℕ → Bool
-  upper i m = start m || some (via i m) N
+  upper i m = start m || someBelow (via i m) N
 
-  via-at : (i m k : ℕ) → k < N → i ≤ k → from k ≡ true → names t k m ≡ true → some (via i m) N ≡ true
+  via-at : (i m k : ℕ) → k < N → i ≤ k → from k ≡ true → names t k m ≡ true → someBelow (via i m) N ≡ true
   via-at i m k h l e f = some-at (via i m) N k h (and-both (leb i k) (from k && names t k m) (le-leb i k l) (and-both (from k) (names t k m) e f))
 
   abbrev Via : ℕ → ℕ → Type 0
   Via i m = (k : ℕ) × (k < N) × (i ≤ k) × (from k ≡ true) × (names t k m ≡ true)
 
-  via-which : (i m : ℕ) → some (via i m) N ≡ true → Via i m
+  via-which : (i m : ℕ) → someBelow (via i m) N ≡ true → Via i m
   via-which i m e =
       let w = some-witness (via i m) N e in
       let k = w .0 in
@@ -55,16 +55,16 @@ module _ (t : Table) (good : (k : ℕ) → k < t .sizes .nodes → fitting t k �
       there e =
           ⊎-elim
           (λ (a : start m ≡ true). reached-start t good start m h a)
-          (λ (a : some (via i m) N ≡ true). let w = via-which i m a in reached-named t good start (w .0) m (w .3) (w .4))
-          (or-either (start m) (some (via i m) N) e)
+          (λ (a : someBelow (via i m) N ≡ true). let w = via-which i m a in reached-named t good start (w .0) m (w .3) (w .4))
+          (or-either (start m) (someBelow (via i m) N) e)
 
       back : from m ≡ true → upper i m ≡ true
       back e =
           ⊎-elim
-          (λ (a : start m ≡ true). or-left (start m) (some (via i m) N) a)
+          (λ (a : start m ≡ true). or-left (start m) (someBelow (via i m) N) a)
           (λ (w : (k : ℕ) × (k < N) × (from k ≡ true) × (names t k m ≡ true)).
           let d = names-lower t (w .0) (good (w .0) (w .1)) m (w .3) in
-          or-right (start m) (some (via i m) N) (via-at i m (w .0) (w .1) (omega arith) (w .2) (w .3)))
+          or-right (start m) (someBelow (via i m) N) (via-at i m (w .0) (w .1) (omega arith) (w .2) (w .3)))
           (reached-how t good start m e)
 
   -- one node more
@@ -74,35 +74,35 @@ module _ (t : Table) (good : (k : ℕ) → k < t .sizes .nodes → fitting t k �
       there : upper i m ≡ true → (upper (i + 1) m || (from i && names t i m)) ≡ true
       there e =
           ⊎-elim
-          (λ (a : start m ≡ true). or-left (upper (i + 1) m) (from i && names t i m) (or-left (start m) (some (via (i + 1) m) N) a))
-          (λ (a : some (via i m) N ≡ true).
+          (λ (a : start m ≡ true). or-left (upper (i + 1) m) (from i && names t i m) (or-left (start m) (someBelow (via (i + 1) m) N) a))
+          (λ (a : someBelow (via i m) N ≡ true).
           let w = via-which i m a in
           let k = w .0 in
           ⊎-elim
           (λ (c : k ≡ i). or-right (upper (i + 1) m) (from i && names t i m) (sym (ap (λ (x : ℕ). from x && names t x m) c) ∙ and-both (from k) (names t k m) (w .3) (w .4)))
           (λ (c : k ≡ i → ⊥).
           or-left (upper (i + 1) m) (from i && names t i m)
-          (or-right (start m) (some (via (i + 1) m) N) (via-at (i + 1) m k (w .1) (omega (arith, c)) (w .3) (w .4))))
+          (or-right (start m) (someBelow (via (i + 1) m) N) (via-at (i + 1) m k (w .1) (omega (arith, c)) (w .3) (w .4))))
           (same-or-other k i))
-          (or-either (start m) (some (via i m) N) e)
+          (or-either (start m) (someBelow (via i m) N) e)
 
       back : (upper (i + 1) m || (from i && names t i m)) ≡ true → upper i m ≡ true
       back e =
           ⊎-elim
           (λ (a : upper (i + 1) m ≡ true).
           ⊎-elim
-          (λ (b : start m ≡ true). or-left (start m) (some (via i m) N) b)
-          (λ (b : some (via (i + 1) m) N ≡ true).
+          (λ (b : start m ≡ true). or-left (start m) (someBelow (via i m) N) b)
+          (λ (b : someBelow (via (i + 1) m) N ≡ true).
           let w = via-which (i + 1) m b in
-          or-right (start m) (some (via i m) N) (via-at i m (w .0) (w .1) (omega arith) (w .3) (w .4)))
-          (or-either (start m) (some (via (i + 1) m) N) a))
+          or-right (start m) (someBelow (via i m) N) (via-at i m (w .0) (w .1) (omega arith) (w .3) (w .4)))
+          (or-either (start m) (someBelow (via (i + 1) m) N) a))
           (λ (a : (from i && names t i m) ≡ true).
-          or-right (start m) (some (via i m) N) (via-at i m i h (omega arith) (and-left (from i) (names t i m) a) (and-right (from i) (names t i m) a)))
+          or-right (start m) (someBelow (via i m) N) (via-at i m i h (omega arith) (and-left (from i) (names t i m) a) (and-right (from i) (names t i m) a)))
           (or-either (upper (i + 1) m) (from i && names t i m) e)
 
   -- a turn at node i marks what it names, if it is marked itself
   pub upper-shown : (marks after : List ℕ) (i : ℕ) (r : Bool) → Shows marks N (upper (i + 1)) → N ≤ length marks → i < N
-      → Marks marks after (isMarked marks i && leftNode t i) (pAt t i) (isMarked marks i && rightNode t i) (qAt t i) r → Shows after N (upper i)
+      → TwoMarks marks after (isMarked marks i && leftNode t i) (pAt t i) (isMarked marks i && rightNode t i) (qAt t i) r → Shows after N (upper i)
   upper-shown marks after i r h long small m k g =
       shows-twice t marks after i (isMarked marks i) r (upper (i + 1)) h long small (good i small) m k g
       ∙ ap word (ap (λ (b : Bool). upper (i + 1) k || (b && names t i k)) on-is ∙ sym (upper-more i k small))

@@ -26,7 +26,7 @@ pub record Mark (before after : List ℕ) (on : Bool) (x : ℕ) (there : Bool) :
   pub leaves : after ≡ marked before on x
 
 -- two marks, one after the other: whether one of them was there
-pub record Marks (before after : List ℕ) (first : Bool) (p : ℕ) (second : Bool) (q : ℕ) (there : Bool) : Type 0 where
+pub record TwoMarks (before after : List ℕ) (first : Bool) (p : ℕ) (second : Bool) (q : ℕ) (there : Bool) : Type 0 where
   pub is : there ≡ ((first && isMarked before p) || (second && isMarked (marked before first p) q))
   pub leaves : after ≡ marked (marked before first p) second q
 

@@ -29,7 +29,7 @@ pub record Measure (bytes : List ℕ) (r : Measured) : Type 0 where
   pub sizes : (n : Sizes) → r ≡ Fine n → n ≡ sizesOf bytes
 
 -- sizes of 16 bits each
-pub record Small (n : Sizes) : Type 0 where
+pub record SixteenBits (n : Sizes) : Type 0 where
   pub nodes : n .nodes < 65536
   pub definitions : n .definitions < 65536
   pub agents : n .agents < 65536
@@ -40,4 +40,4 @@ pub record Small (n : Sizes) : Type 0 where
 -- what reading the first 12 bytes ensures
 pub record Header (bytes : List ℕ) (n : Sizes) : Type 0 where
   pub is : n ≡ sizesOf bytes
-  pub small : Small n
+  pub small : SixteenBits n

@@ -4,7 +4,7 @@ use mathlib.Core.Path.{_≡_}
 use mathlib.Core.Bool.{Bool, true, false, cond, not, _&&_, _||_}
 use mathlib.Core.List.{List, [], _∷_}
 use lib.Dec.{ltb, leb, eqb}
-use Rattle.basis.specs.Numbers.{some}
+use Rattle.basis.specs.Numbers.{someBelow}
 use Rattle.table.specs.declared.Field.{Field}
 use Rattle.table.specs.declared.Field.the-variants.{Never, Zero, Attribute, Stigmergy, Environment, Party, Definition, Process, Guard, Expression, Value}
 use Rattle.table.specs.declared.Fields.{Fields}
@@ -57,15 +57,15 @@ expressionRows =
     ∷ []
 
 -- the row of a kind; a kind without a row has fields that nothing fits
-unfoldable pub lookup : List Row → ℕ → Fields
-lookup [] kind = fields Never Never
-lookup (row k p q ∷ more) kind = cond (eqb kind k) (fields p q) (lookup more kind)
+unfoldable pub rowOf : List Row → ℕ → Fields
+rowOf [] kind = fields Never Never
+rowOf (row k p q ∷ more) kind = cond (eqb kind k) (fields p q) (rowOf more kind)
 
 abbrev pub fieldsOf : ℕ → Fields
 fieldsOf kind =
-    cond (ltb kind 16) (lookup processRows kind)
-    (cond (ltb kind 32) (lookup guardRows kind)
-    (lookup expressionRows kind))
+    cond (ltb kind 16) (rowOf processRows kind)
+    (cond (ltb kind 32) (rowOf guardRows kind)
+    (rowOf expressionRows kind))
 
 -- kinds of processes, guards and expressions
 abbrev pub isProcess : ℕ → Bool
@@ -151,7 +151,7 @@ module _ (t : Table) where
 
   -- a node below n, roots aside, names m
   unfoldable pub named : ℕ → ℕ → Bool
-  named n m = some (λ (k : ℕ). inner k && names k m) n
+  named n m = someBelow (λ (k : ℕ). inner k && names k m) n
 
   -- node n, which is no root, makes a second naming: of a node that a lower one names, or by naming one twice
   unfoldable pub namesAgain : ℕ → Bool

@@ -2,7 +2,7 @@
 use Prim.Native.Nat.{ℕ}
 use mathlib.Core.Bool.{Bool, false, not, _&&_, _||_}
 use lib.Dec.{ltb, leb, eqb}
-use Rattle.basis.specs.Numbers.{some}
+use Rattle.basis.specs.Numbers.{someBelow}
 use Rattle.basis.specs.Below.{below}
 use Rattle.table.specs.Tables.{Table, kindAt, pAt, qAt, firstLinkRoot, firstAgentRoot}
 use Rattle.table.specs.Nodes.{isProcess, leftNode, rightNode}
@@ -27,7 +27,7 @@ module _ (t : Table) where
 
   -- m is reached from a node that passes
   unfoldable pub reachedFrom : (ℕ → Bool) → ℕ → Bool
-  reachedFrom start m = some (λ (n : ℕ). start n && reaches n m) (t .sizes .nodes)
+  reachedFrom start m = someBelow (λ (n : ℕ). start n && reaches n m) (t .sizes .nodes)
 
   -- a key whose party is not 0 where a process node reaches it, or is 0 where a link does; an environment key that a link reaches
   unfoldable pub wrongKey : ℕ → Bool

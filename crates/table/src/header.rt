@@ -3,7 +3,7 @@ ghost use mathlib.Core.Path.{_≡_};
 ghost use Prim.Native.Nat.{_≤_};
 ghost use lib.ListN.{length};
 ghost use Rattle.table.specs.Tables.{withinLimits};
-ghost use Rattle.table.specs.Measuring.{Small, Header, Measure};
+ghost use Rattle.table.specs.Measuring.{SixteenBits, Header, Measure};
 use super::Measured;
 use super::Sizes;
 
@@ -22,7 +22,7 @@ fn header(table: &[u8]) -> Sizes
 }
 
 fn within(sizes: Sizes) -> bool
-    requires { ⌜ Small sizes ⌝ }
+    requires { ⌜ SixteenBits sizes ⌝ }
     ensures { λ r. ⌜ r ≡ withinLimits sizes ⌝ }
 {
     (1 <= sizes.nodes)

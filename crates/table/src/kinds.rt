@@ -3,7 +3,7 @@ ghost use mathlib.Core.Path.{_≡_};
 ghost use mathlib.Core.List.{List};
 ghost use Prim.Native.Nat.{ℕ, _-_};
 ghost use Rattle.table.specs.Tables.{table, rootsOf};
-ghost use Rattle.table.specs.Nodes.{isProcess, isGuard, isExpression, processRows, guardRows, expressionRows, lookup, fields, fieldsOf, rootNames, fieldsHere};
+ghost use Rattle.table.specs.Nodes.{isProcess, isGuard, isExpression, processRows, guardRows, expressionRows, rowOf, fields, fieldsOf, rootNames, fieldsHere};
 ghost use Rattle.table.specs.Sound.{Limits};
 use super::Field;
 use super::Fields;
@@ -53,7 +53,7 @@ const EXPRESSIONS: Fields = Fields {
 };
 
 fn process_fields(kind: u8) -> Fields
-    ensures { λ r. ⌜ r ≡ lookup processRows kind ⌝ }
+    ensures { λ r. ⌜ r ≡ rowOf processRows kind ⌝ }
 {
     match kind {
         0 => ZEROS,
@@ -86,7 +86,7 @@ fn process_fields(kind: u8) -> Fields
 }
 
 fn guard_fields(kind: u8) -> Fields
-    ensures { λ r. ⌜ r ≡ lookup guardRows kind ⌝ }
+    ensures { λ r. ⌜ r ≡ rowOf guardRows kind ⌝ }
 {
     match kind {
         16 => ZEROS,
@@ -104,7 +104,7 @@ fn guard_fields(kind: u8) -> Fields
 }
 
 fn expression_fields(kind: u8) -> Fields
-    ensures { λ r. ⌜ r ≡ lookup expressionRows kind ⌝ }
+    ensures { λ r. ⌜ r ≡ rowOf expressionRows kind ⌝ }
 {
     match kind {
         32 => Fields {

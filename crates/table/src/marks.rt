@@ -3,7 +3,7 @@ ghost use mathlib.Core.Path.{_≡_};
 ghost use mathlib.Core.Bool.{true, false, cond};
 ghost use Prim.Native.Nat.{ℕ, _<_, _≤_};
 ghost use lib.ListN.{length};
-ghost use Rattle.table.specs.Marks.{Mark, Marks, Shows};
+ghost use Rattle.table.specs.Marks.{Mark, TwoMarks, Shows};
 
 // Marks x, if asked to, and says whether it was marked.
 fn mark(marks: &mut [u32], on: bool, x: usize) -> bool
@@ -21,7 +21,7 @@ fn mark(marks: &mut [u32], on: bool, x: usize) -> bool
 // Marks p and then q, each if asked to, and says whether one was marked.
 pub fn mark_both(marks: &mut [u32], first: bool, p: usize, second: bool, q: usize) -> bool
     requires { ⌜ (first ≡ true → p < length (now marks)) × (second ≡ true → q < length (now marks)) ⌝ }
-    ensures { λ r. ⌜ Marks (now (marks .entry)) (now (marks .exit)) first p second q r ⌝ }
+    ensures { λ r. ⌜ TwoMarks (now (marks .entry)) (now (marks .exit)) first p second q r ⌝ }
 {
     let a = mark(marks, first, p);
     let b = mark(marks, second, q);

@@ -4,7 +4,7 @@ use mathlib.Core.Bool.{Bool, _&&_}
 use mathlib.Core.List.{List}
 use lib.ListN.{getD}
 use Rattle.table.specs.Nodes.{isGuard}
-use Rattle.choice.specs.Marking.{isMarked}
+use Rattle.choice.specs.Marking.{hasMark}
 
 abbrev pub markedGuard : List ℕ → List ℕ → ℕ → Bool
-markedGuard kinds marks n = isGuard (getD kinds n 0) && isMarked marks n
+markedGuard kinds marks n = isGuard (getD kinds n 0) && hasMark marks n

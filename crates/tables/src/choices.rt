@@ -11,8 +11,8 @@ ghost use Prim.Native.Nat.{_≤_};
 ghost use lib.ListN.{length};
 ghost use Rattle.basis.specs.Numbers.{howMany};
 ghost use Rattle.table.specs.Tables.{table};
-ghost use Rattle.choice.specs.Marking.{Marks};
-ghost use Rattle.choice.specs.Turns.{Ready};
+ghost use Rattle.choice.specs.Marking.{WalkMarks};
+ghost use Rattle.choice.specs.Turns.{Prepared};
 ghost use Rattle.residual.specs.Wholes.{Whole};
 ghost use Rattle.tables.specs.Guards.{markedGuard};
 
@@ -64,9 +64,9 @@ pub fn print_last_choice(
     marks: &mut [u8],
     words: &mut [u32],
 )
-    requires { ⌜ Ready (table sizes (now kinds) (now operands)) (now scratch) ⌝ }
+    requires { ⌜ Prepared (table sizes (now kinds) (now operands)) (now scratch) ⌝ }
     requires { ⌜ Whole (table sizes (now kinds) (now operands)) 1 (now words) ⌝ }
-    requires { ⌜ Marks (table sizes (now kinds) (now operands)) (now marks) ⌝ }
+    requires { ⌜ WalkMarks (table sizes (now kinds) (now operands)) (now marks) ⌝ }
 {
     let found = choices(sizes, kinds, operands, scratch, words, 1);
     let few = found.few;

@@ -12,7 +12,7 @@ ghost use mathlib.Core.Path.{_≡_};
 ghost use Prim.Native.Nat.{_+_, _-_, _≤_};
 ghost use lib.ListN.{length};
 ghost use Rattle.table.specs.Tables.{table};
-ghost use Rattle.choice.specs.Turns.{Ready};
+ghost use Rattle.choice.specs.Turns.{Prepared};
 
 const OUTPUT: i32 = 1;
 
@@ -26,7 +26,7 @@ fn print_refusal(number: u8, place: usize) {
 
 // The first agent's starting process, which is a whole term in every accepted table, and its last choice.
 fn print_start(sizes: Sizes, kinds: &[u8], operands: &[u8], scratch: &[u32])
-    requires { ⌜ Ready (table sizes (now kinds) (now operands)) (now scratch) ⌝ }
+    requires { ⌜ Prepared (table sizes (now kinds) (now operands)) (now scratch) ⌝ }
 {
     let root = first_root(sizes) + sizes.definitions + sizes.stigmergy;
     let mut words = [0u32; 63];

@@ -21,7 +21,7 @@ use Rattle.table.proofs.Promises.{sound-table, root-kind, past-kind, call-opera
 use Rattle.term.specs.Processes.{Process, idle, derivations, few, byKind, defined, nodeProcess}
 use Rattle.term.specs.Exposure.{badCall}
 use Rattle.term.specs.Acceptance.{stateWords, overfull, lengthChecks, contentChecks}
-use Rattle.term.specs.Accepted.{Checked, Accepted}
+use Rattle.term.specs.Accepted.{Checked, Acceptable}
 use Rattle.term.proofs.Each.{Each}
 use Rattle.term.proofs.Opened.{sound-lower, process-opened, process-out}
 use Rattle.term.proofs.Calls.{call-same}
@@ -46,7 +46,7 @@ module _ (bytes : List ℕ) (stateLength scratchLength : ℕ) where
   abbrev checks : List Check
   checks = lengthChecks bytes stateLength scratchLength ++ contentChecks t
 
-  pub passes-accepted : firstOf (lengthChecks bytes stateLength scratchLength ++ contentChecks (tableOf bytes)) ≡ passes → Accepted bytes stateLength scratchLength
+  pub passes-accepted : firstOf (lengthChecks bytes stateLength scratchLength ++ contentChecks (tableOf bytes)) ≡ passes → Acceptable bytes stateLength scratchLength
   passes-accepted e =
       let c = each-passes checks e in
       let limits = not-false (withinLimits (sizesOf bytes)) (refuseIf-passes 2 (not (withinLimits (sizesOf bytes))) (c .1 .0)) in
@@ -64,7 +64,7 @@ module _ (bytes : List ℕ) (stateLength scratchLength : ℕ) where
             };
       }
 
-  pub accepted-passes : Accepted bytes stateLength scratchLength → firstOf (lengthChecks bytes stateLength scratchLength ++ contentChecks (tableOf bytes)) ≡ passes
+  pub accepted-passes : Acceptable bytes stateLength scratchLength → firstOf (lengthChecks bytes stateLength scratchLength ++ contentChecks (tableOf bytes)) ≡ passes
   accepted-passes a =
       let s : Sound t = a .table .sound in
       passes-each checks (

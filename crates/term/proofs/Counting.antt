@@ -18,7 +18,7 @@ use Rattle.term.specs.Terms.{Term, Idle}
 use Rattle.term.specs.Processes.{Process, idle, tick, act, choice, guarded, call, seq, par}
 use Rattle.term.specs.Processes.{Label, ticks, Derivation, derivation, derivations, few, keep, isTick, isAction, labelTicks}
 use Rattle.term.specs.Processes.{under, before, besideRight, besideLeft, join, joins}
-use Rattle.term.specs.Choices.{tickCount, actionCount, wanted, choices, count, actionsOf, mapped, split, pairs, select}
+use Rattle.term.specs.Choices.{tickCount, actionCount, wanted, derivationsIn, countIn, actionsOf, mapped, split, pairs, select}
 use Rattle.term.specs.Exposure.{canTick}
 use Rattle.term.proofs.Lists.{Test, Change, Places, keep-append, keep-map, keep-all, keep-joins, length-joins}
 use Rattle.term.proofs.Lists.{nth-append, nth-map, nth-joins, split-right}
@@ -50,8 +50,8 @@ keep-refused f g h (x ∷ xs) = go (f x) refl (keep-refused f g h xs)
 
 -- the actions among the derivations of a mode
 actionsIn : Mode → Process → List Derivation
-actionsIn Any P = choices Actions P
-actionsIn Actions P = choices Actions P
+actionsIn Any P = derivationsIn Actions P
+actionsIn Actions P = derivationsIn Actions P
 actionsIn Ticks P = []
 
 not-not : (b : Bool) → not b ≡ true → b ≡ false
@@ -59,7 +59,7 @@ not-not true e = sym e
 not-not false e = refl
 
 kept : (m : Mode) (P : Process) → keep (wanted m) (keep isAction (derivations P)) ≡ actionsIn m P
-unfolding actionsIn choices
+unfolding actionsIn derivationsIn
 kept Any P = keep-all (keep isAction (derivations P))
 kept Actions P = keep-passed isAction isAction (λ d e. e) (derivations P)
 kept Ticks P = keep-refused isAction isTick (λ d e. not-not (isTick d) e) (derivations P)
@@ -69,91 +69,91 @@ actions-beside : (m : Mode) (g : Change) → ((d : Derivation) → (g d) .label 
 actions-beside m g h P = keep-map (wanted m) g (λ d. same-label m (g d) d (h d)) (keep isAction (derivations P)) ∙ ap (map g) (kept m P)
 
 ticks-joined : (m : Mode) (P Q : Process) →
-    keep (wanted m) (joins (keep isTick (derivations P)) (derivations Q)) ≡ joins (choices Ticks P) (choices m Q)
-unfolding choices
+    keep (wanted m) (joins (keep isTick (derivations P)) (derivations Q)) ≡ joins (derivationsIn Ticks P) (derivationsIn m Q)
+unfolding derivationsIn
 ticks-joined m P Q = keep-joins (wanted m) (λ t d. same-label m (join t d) d refl) (keep isTick (derivations P)) (derivations Q)
 
-choices-choice : (m : Mode) (P Q : Process) → choices m (choice P Q) ≡ choices m P ++ choices m Q
-unfolding choices derivations
+choices-choice : (m : Mode) (P Q : Process) → derivationsIn m (choice P Q) ≡ derivationsIn m P ++ derivationsIn m Q
+unfolding derivationsIn derivations
 choices-choice m P Q = keep-append (wanted m) (derivations P) (derivations Q)
 
-choices-guarded : (m : Mode) (g : ℕ) (P : Process) → choices m (guarded g P) ≡ map (under g) (choices m P)
-unfolding choices derivations
+choices-guarded : (m : Mode) (g : ℕ) (P : Process) → derivationsIn m (guarded g P) ≡ map (under g) (derivationsIn m P)
+unfolding derivationsIn derivations
 choices-guarded m g P = keep-map (wanted m) (under g) (λ d. same-label m (under g d) d refl) (derivations P)
 
 choices-seq : (m : Mode) (P Q : Process) (q : Term) →
-    choices m (seq P Q q) ≡ map (before q) (actionsIn m P) ++ joins (choices Ticks P) (choices m Q)
-unfolding choices derivations
+    derivationsIn m (seq P Q q) ≡ map (before q) (actionsIn m P) ++ joins (derivationsIn Ticks P) (derivationsIn m Q)
+unfolding derivationsIn derivations
 choices-seq m P Q q =
     keep-append (wanted m) (map (before q) (keep isAction (derivations P))) (joins (keep isTick (derivations P)) (derivations Q)) ∙
     ap₂ (λ x y. x ++ y) (actions-beside m (before q) (λ d. refl) P) (ticks-joined m P Q)
 
 choices-par : (m : Mode) (P : Process) (p : Term) (Q : Process) (q : Term) →
-    choices m (par P p Q q) ≡
+    derivationsIn m (par P p Q q) ≡
     map (besideRight q) (actionsIn m P) ++
-    (map (besideLeft p) (actionsIn m Q) ++ (joins (choices Ticks P) (choices m Q) ++ joins (choices Ticks Q) (choices m P)))
-unfolding choices derivations
+    (map (besideLeft p) (actionsIn m Q) ++ (joins (derivationsIn Ticks P) (derivationsIn m Q) ++ joins (derivationsIn Ticks Q) (derivationsIn m P)))
+unfolding derivationsIn derivations
 choices-par m P p Q q =
     simp (keep-append, actions-beside m (besideRight q) (λ d. refl) P, actions-beside m (besideLeft p) (λ d. refl) Q, ticks-joined m P Q, ticks-joined m Q P)
 
 -- The counts, of each form of process.
 
-length-actionsIn : (m : Mode) (P : Process) → length (choices Actions P) ≡ actionCount P → length (actionsIn m P) ≡ actionsOf m P
+length-actionsIn : (m : Mode) (P : Process) → length (derivationsIn Actions P) ≡ actionCount P → length (actionsIn m P) ≡ actionsOf m P
 unfolding actionsIn
 length-actionsIn Any P e = e
 length-actionsIn Actions P e = e
 length-actionsIn Ticks P e = refl
 
-pub count-choice : (m : Mode) (P Q : Process) → count m P + count m Q ≡ count m (choice P Q)
+pub count-choice : (m : Mode) (P Q : Process) → countIn m P + countIn m Q ≡ countIn m (choice P Q)
 unfolding actionCount tickCount
 count-choice Any P Q = omega arith
 count-choice Actions P Q = refl
 count-choice Ticks P Q = refl
 
-pub count-guarded : (m : Mode) (g : ℕ) (P : Process) → count m P ≡ count m (guarded g P)
+pub count-guarded : (m : Mode) (g : ℕ) (P : Process) → countIn m P ≡ countIn m (guarded g P)
 unfolding actionCount tickCount
 count-guarded Any g P = refl
 count-guarded Actions g P = refl
 count-guarded Ticks g P = refl
 
-pub count-seq : (m : Mode) (P Q : Process) (q : Term) → actionsOf m P + tickCount P * count m Q ≡ count m (seq P Q q)
+pub count-seq : (m : Mode) (P Q : Process) (q : Term) → actionsOf m P + tickCount P * countIn m Q ≡ countIn m (seq P Q q)
 unfolding actionCount tickCount
 count-seq Any P Q q = omega arith
 count-seq Actions P Q q = refl
 count-seq Ticks P Q q = omega arith
 
 pub count-par : (m : Mode) (P : Process) (p : Term) (Q : Process) (q : Term) →
-    actionsOf m P + (actionsOf m Q + (tickCount P * count m Q + tickCount Q * count m P)) ≡ count m (par P p Q q)
+    actionsOf m P + (actionsOf m Q + (tickCount P * countIn m Q + tickCount Q * countIn m P)) ≡ countIn m (par P p Q q)
 unfolding actionCount tickCount
 count-par Any P p Q q = omega arith
 count-par Actions P p Q q = refl
 count-par Ticks P p Q q = omega arith
 
-length-tick : (m : Mode) → length (choices m tick) ≡ count m tick
-unfolding choices derivations keep actionCount tickCount
+length-tick : (m : Mode) → length (derivationsIn m tick) ≡ countIn m tick
+unfolding derivationsIn derivations keep actionCount tickCount
 length-tick Any = refl
 length-tick Actions = refl
 length-tick Ticks = refl
 
-length-act : (m : Mode) (n : ℕ) → length (choices m (act n)) ≡ count m (act n)
-unfolding choices derivations keep actionCount tickCount
+length-act : (m : Mode) (n : ℕ) → length (derivationsIn m (act n)) ≡ countIn m (act n)
+unfolding derivationsIn derivations keep actionCount tickCount
 length-act Any n = refl
 length-act Actions n = refl
 length-act Ticks n = refl
 
-length-idle : (m : Mode) → length (choices m idle) ≡ count m idle
-unfolding choices derivations keep actionCount tickCount
+length-idle : (m : Mode) → length (derivationsIn m idle) ≡ countIn m idle
+unfolding derivationsIn derivations keep actionCount tickCount
 length-idle Any = refl
 length-idle Actions = refl
 length-idle Ticks = refl
 
-length-call : (m : Mode) (d : ℕ) (P : Process) → length (choices m P) ≡ count m P → length (choices m (call d P)) ≡ count m (call d P)
-unfolding choices derivations actionCount tickCount
+length-call : (m : Mode) (d : ℕ) (P : Process) → length (derivationsIn m P) ≡ countIn m P → length (derivationsIn m (call d P)) ≡ countIn m (call d P)
+unfolding derivationsIn derivations actionCount tickCount
 length-call Any d P e = e
 length-call Actions d P e = e
 length-call Ticks d P e = e
 
-pub length-choices : (P : Process) (m : Mode) → length (choices m P) ≡ count m P
+pub length-choices : (P : Process) (m : Mode) → length (derivationsIn m P) ≡ countIn m P
 length-choices idle m = length-idle m
 length-choices tick m = length-tick m
 length-choices (act n) m = length-act m n
@@ -179,15 +179,15 @@ length-choices (par P p Q q) m =
     (count-par m P p Q q))
 
 pub length-actions : (P : Process) → length (keep isAction (derivations P)) ≡ actionCount P
-unfolding choices
+unfolding derivationsIn
 length-actions P = length-choices P Actions
 
 pub length-ticks : (P : Process) → length (keep isTick (derivations P)) ≡ tickCount P
-unfolding choices
+unfolding derivationsIn
 length-ticks P = length-choices P Ticks
 
-pub choices-any : (P : Process) → choices Any P ≡ derivations P
-unfolding choices
+pub choices-any : (P : Process) → derivationsIn Any P ≡ derivations P
+unfolding derivationsIn
 choices-any P = keep-all (derivations P)
 
 pub length-derivations : (P : Process) → length (derivations P) ≡ actionCount P + tickCount P
@@ -204,45 +204,45 @@ places-append xs ys = fun-ext λ c. nth-append xs ys c
 places-map : (h : Change) (xs : List Derivation) → getElem? (map h xs) ≡ (λ i. mapped h (getElem? xs i))
 places-map h xs = fun-ext λ c. nth-map h xs c
 
-places-joins : (P Q : Process) (m : Mode) → select Ticks P ≡ getElem? (choices Ticks P) → select m Q ≡ getElem? (choices m Q) →
-    getElem? (joins (choices Ticks P) (choices m Q)) ≡ pairs (count m Q) (select Ticks P) (select m Q)
-places-joins P Q m e f = rw (e, f, ← (length-choices Q m)) (fun-ext λ c. nth-joins (choices Ticks P) (choices m Q) c)
+places-joins : (P Q : Process) (m : Mode) → select Ticks P ≡ getElem? (derivationsIn Ticks P) → select m Q ≡ getElem? (derivationsIn m Q) →
+    getElem? (joins (derivationsIn Ticks P) (derivationsIn m Q)) ≡ pairs (countIn m Q) (select Ticks P) (select m Q)
+places-joins P Q m e f = rw (e, f, ← (length-choices Q m)) (fun-ext λ c. nth-joins (derivationsIn Ticks P) (derivationsIn m Q) c)
 
 no-places : (f h g : Places) → split 0 f g ≡ split 0 h g
 no-places f h g = fun-ext λ c. split-right 0 f g c zero-le ∙ sym (split-right 0 h g c zero-le)
 
 -- the actions of a mode come first
-places-first : (m : Mode) (P : Process) (h : Change) (ys : List Derivation) → select Actions P ≡ getElem? (choices Actions P) →
+places-first : (m : Mode) (P : Process) (h : Change) (ys : List Derivation) → select Actions P ≡ getElem? (derivationsIn Actions P) →
     getElem? (map h (actionsIn m P) ++ ys) ≡ split (actionsOf m P) (λ i. mapped h (select Actions P i)) (getElem? ys)
 unfolding actionsIn
-places-first Any P h ys e = places-append (map h (choices Actions P)) ys ∙ rw (length-map, length-choices P Actions, places-map h (choices Actions P), e)
-places-first Actions P h ys e = places-append (map h (choices Actions P)) ys ∙ rw (length-map, length-choices P Actions, places-map h (choices Actions P), e)
+places-first Any P h ys e = places-append (map h (derivationsIn Actions P)) ys ∙ rw (length-map, length-choices P Actions, places-map h (derivationsIn Actions P), e)
+places-first Actions P h ys e = places-append (map h (derivationsIn Actions P)) ys ∙ rw (length-map, length-choices P Actions, places-map h (derivationsIn Actions P), e)
 places-first Ticks P h ys e = places-append [] ys ∙ no-places (getElem? []) (λ i. mapped h (select Actions P i)) (getElem? ys)
 
-places-idle : (m : Mode) → select m idle ≡ getElem? (choices m idle)
-unfolding select choices derivations keep
+places-idle : (m : Mode) → select m idle ≡ getElem? (derivationsIn m idle)
+unfolding select derivationsIn derivations keep
 places-idle m = refl
 
-places-call : (m : Mode) (d : ℕ) (P : Process) → select m P ≡ getElem? (choices m P) → select m (call d P) ≡ getElem? (choices m (call d P))
-unfolding select choices derivations
+places-call : (m : Mode) (d : ℕ) (P : Process) → select m P ≡ getElem? (derivationsIn m P) → select m (call d P) ≡ getElem? (derivationsIn m (call d P))
+unfolding select derivationsIn derivations
 places-call m d P e = e
 
-pub select-choices : (P : Process) (m : Mode) → select m P ≡ getElem? (choices m P)
+pub select-choices : (P : Process) (m : Mode) → select m P ≡ getElem? (derivationsIn m P)
 unfolding select
 select-choices idle m = places-idle m
 select-choices tick m = refl
 select-choices (act n) m = refl
 select-choices (choice P Q) m =
-    sym (ap getElem? (choices-choice m P Q) ∙ places-append (choices m P) (choices m Q) ∙ rw (length-choices P m, ← (select-choices P m), ← (select-choices Q m)))
-select-choices (guarded g P) m = sym (ap getElem? (choices-guarded m g P) ∙ places-map (under g) (choices m P) ∙ rw (← (select-choices P m)))
+    sym (ap getElem? (choices-choice m P Q) ∙ places-append (derivationsIn m P) (derivationsIn m Q) ∙ rw (length-choices P m, ← (select-choices P m), ← (select-choices Q m)))
+select-choices (guarded g P) m = sym (ap getElem? (choices-guarded m g P) ∙ places-map (under g) (derivationsIn m P) ∙ rw (← (select-choices P m)))
 select-choices (call d P) m = places-call m d P (select-choices P m)
 select-choices (seq P Q q) m =
     sym
-    (ap getElem? (choices-seq m P Q q) ∙ places-first m P (before q) (joins (choices Ticks P) (choices m Q)) (select-choices P Actions) ∙
+    (ap getElem? (choices-seq m P Q q) ∙ places-first m P (before q) (joins (derivationsIn Ticks P) (derivationsIn m Q)) (select-choices P Actions) ∙
     rw (places-joins P Q m (select-choices P Ticks) (select-choices Q m)))
 select-choices (par P p Q q) m =
-    let fromQ = joins (choices Ticks P) (choices m Q) in
-    let fromP = joins (choices Ticks Q) (choices m P) in
+    let fromQ = joins (derivationsIn Ticks P) (derivationsIn m Q) in
+    let fromP = joins (derivationsIn Ticks Q) (derivationsIn m P) in
     sym
     (ap getElem? (choices-par m P p Q q) ∙
     places-first m P (besideRight q) (map (besideLeft p) (actionsIn m Q) ++ (fromQ ++ fromP)) (select-choices P Actions) ∙
@@ -261,13 +261,13 @@ pub select-any : (P : Process) (c : ℕ) → select Any P c ≡ getElem? (deriva
 select-any P c = rw (select-choices P Any, choices-any)
 
 -- there is a choice for each number below the count, and no other
-pub select-some : (P : Process) (m : Mode) (c : ℕ) → c < count m P → (d : Derivation) × (select m P c ≡ some d)
+pub select-some : (P : Process) (m : Mode) (c : ℕ) → c < countIn m P → (d : Derivation) × (select m P c ≡ some d)
 select-some P m c h =
     let x : Derivation = derivation ticks [] Idle in
-    (getD (choices m P) c x, rw (select-choices P m) (nth-in (choices m P) c x (rw (length-choices P m) h)))
+    (getD (derivationsIn m P) c x, rw (select-choices P m) (nth-in (derivationsIn m P) c x (rw (length-choices P m) h)))
 
-pub select-none : (P : Process) (m : Mode) (c : ℕ) → count m P ≤ c → select m P c ≡ none
-select-none P m c h = rw (select-choices P m) (nth-past (choices m P) c (rw (length-choices P m) h))
+pub select-none : (P : Process) (m : Mode) (c : ℕ) → countIn m P ≤ c → select m P c ≡ none
+select-none P m c h = rw (select-choices P m) (nth-past (derivationsIn m P) c (rw (length-choices P m) h))
 
 -- A process can tick if it has a tick.
 

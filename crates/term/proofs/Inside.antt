@@ -26,15 +26,15 @@ pub record Inside (t : Table) (d : Derivation) : Type 0 where
   pub leaving : Over t (d .leaving)
 
 -- the same of a process: its actions, its guards, and the terms that may be left standing
-abbrev Within : Table → Process → Type 0
-Within t idle = Unit {0}
-Within t tick = Unit {0}
-Within t (act n) = ActionNode t n
-Within t (choice P Q) = Within t P × Within t Q
-Within t (guarded g P) = GuardNode t g × Within t P
-Within t (call d P) = Within t P
-Within t (seq P Q q) = Within t P × Within t Q × Over t q
-Within t (par P p Q q) = Within t P × Over t p × Within t Q × Over t q
+abbrev AllInside : Table → Process → Type 0
+AllInside t idle = Unit {0}
+AllInside t tick = Unit {0}
+AllInside t (act n) = ActionNode t n
+AllInside t (choice P Q) = AllInside t P × AllInside t Q
+AllInside t (guarded g P) = GuardNode t g × AllInside t P
+AllInside t (call d P) = AllInside t P
+AllInside t (seq P Q q) = AllInside t P × AllInside t Q × Over t q
+AllInside t (par P p Q q) = AllInside t P × Over t p × AllInside t Q × Over t q
 
 module _ (t : Table) where
   inside-under : (g : ℕ) → GuardNode t g → (d : Derivation) → Inside t d → Inside t (under g d)
@@ -67,7 +67,7 @@ module _ (t : Table) where
   each-joins (u ∷ ts) ds e f =
       each-append (Inside t) (map (join u) ds) (joins ts ds) (each-map (Inside t) (join u) (inside-join u (e .0)) ds f) (each-joins ts ds (e .1) f)
 
-  within-inside : (P : Process) → Within t P → Each (Inside t) (derivations P)
+  within-inside : (P : Process) → AllInside t P → Each (Inside t) (derivations P)
   unfolding derivations
   within-inside idle w = tt
   within-inside tick w = (record { label = tt; guards = tt; leaving = tt }, tt)
@@ -98,8 +98,8 @@ module _ (t : Table) where
     inner : (n x : ℕ) → n < firstRoot t → LowerProcess t n x → Over t (Node x)
     inner n x h l = (omega arith, l .1)
 
-    within-kind : (calls lower : ℕ → Process) → ((d : ℕ) → Within t (calls d)) → ((k : ℕ) → Within t (lower k)) → (n : ℕ) → n < firstRoot t
-        → (k : ℕ) → kindAt t n ≡ k → Within t (getD (byKind calls lower n (pAt t n) (qAt t n)) k idle)
+    within-kind : (calls lower : ℕ → Process) → ((d : ℕ) → AllInside t (calls d)) → ((k : ℕ) → AllInside t (lower k)) → (n : ℕ) → n < firstRoot t
+        → (k : ℕ) → kindAt t n ≡ k → AllInside t (getD (byKind calls lower n (pAt t n) (qAt t n)) k idle)
     within-kind calls lower c l n h zero e = tt
     within-kind calls lower c l n h (suc zero) e = tt
     within-kind calls lower c l n h (suc (suc zero)) e = (h, omega arith, omega arith)
@@ -117,19 +117,19 @@ module _ (t : Table) where
     within-kind calls lower c l n h (suc (suc (suc (suc (suc (suc (suc (suc (suc zero))))))))) e = c (pAt t n)
     within-kind calls lower c l n h (suc (suc (suc (suc (suc (suc (suc (suc (suc (suc k)))))))))) e = tt
 
-    within-node : (calls : ℕ → Process) → ((d : ℕ) → Within t (calls d)) → (n : ℕ) → Within t (nodeWith t calls n)
+    within-node : (calls : ℕ → Process) → ((d : ℕ) → AllInside t (calls d)) → (n : ℕ) → AllInside t (nodeWith t calls n)
     unfolding nodeWith nodeStep
     within-node calls c =
-        below-induct (nodeStep t calls) idle (λ (k : ℕ) (P : Process). Within t P) (firstRoot t) (λ k. tt)
+        below-induct (nodeStep t calls) idle (λ (k : ℕ) (P : Process). AllInside t P) (firstRoot t) (λ k. tt)
         (λ n h r. within-kind calls (below (nodeStep t calls) idle n) c r n h (kindAt t n) refl)
 
-    within-defined : (level d : ℕ) → Within t (defined t level d)
+    within-defined : (level d : ℕ) → AllInside t (defined t level d)
     unfolding defined
     within-defined level =
-        below-induct (λ lower e. nodeWith t lower (bodyAt t e)) idle (λ (k : ℕ) (P : Process). Within t P) level (λ k. tt)
+        below-induct (λ lower e. nodeWith t lower (bodyAt t e)) idle (λ (k : ℕ) (P : Process). AllInside t P) level (λ k. tt)
         (λ d h r. within-node (below (λ lower e. nodeWith t lower (bodyAt t e)) idle d) r (bodyAt t d))
 
-    within-process : (T : Term) → Over t T → Within t (process t T)
+    within-process : (T : Term) → Over t T → AllInside t (process t T)
     unfolding process nodeProcess
     within-process (Seq P Q) o = (within-process P (o .0), within-process Q (o .1), o .1)
     within-process (Par P Q) o = (within-process P (o .0), o .0, within-process Q (o .1), o .1)

@@ -20,7 +20,7 @@ pub record Checked (t : Table) : Type 0 where
   pub nodes : (n : ℕ) → n < t .sizes .nodes → overfull t n ≡ false
 
 -- of the lengths too: 1 to 8 have passed
-pub record Accepted (bytes : List ℕ) (stateLength scratchLength : ℕ) : Type 0 where
+pub record Acceptable (bytes : List ℕ) (stateLength scratchLength : ℕ) : Type 0 where
   pub size : length bytes ≡ 12 + 5 * sizesOf bytes .nodes
   pub state : stateLength ≡ stateWords
   pub scratch : 2 * sizesOf bytes .nodes ≤ scratchLength

@@ -30,10 +30,10 @@ actionCount (call d P) = actionCount P
 actionCount (seq P Q q) = actionCount P + tickCount P * actionCount Q
 actionCount (par P p Q q) = actionCount P + (actionCount Q + (tickCount P * actionCount Q + tickCount Q * actionCount P))
 
-abbrev pub count : Mode → Process → ℕ
-count Any P = actionCount P + tickCount P
-count Actions P = actionCount P
-count Ticks P = tickCount P
+abbrev pub countIn : Mode → Process → ℕ
+countIn Any P = actionCount P + tickCount P
+countIn Actions P = actionCount P
+countIn Ticks P = tickCount P
 
 -- the actions among the derivations of a mode
 abbrev pub actionsOf : Mode → Process → ℕ
@@ -47,8 +47,8 @@ wanted Actions d = isAction d
 wanted Ticks d = isTick d
 
 -- the derivations of a mode, in order
-unfoldable pub choices : Mode → Process → List Derivation
-choices m P = keep (wanted m) (derivations P)
+unfoldable pub derivationsIn : Mode → Process → List Derivation
+derivationsIn m P = keep (wanted m) (derivations P)
 
 abbrev pub mapped : (Derivation → Derivation) → Option Derivation → Option Derivation
 mapped f none = none
@@ -70,16 +70,16 @@ pairs n f g c = joined (f (c / n)) (g (c % n))
 -- derivation c of those of a mode, found by counting
 unfoldable pub select : Mode → Process → ℕ → Option Derivation
 select m idle c = none
-select m tick c = getElem? (choices m tick) c
-select m (act n) c = getElem? (choices m (act n)) c
-select m (choice P Q) c = split (count m P) (select m P) (select m Q) c
+select m tick c = getElem? (derivationsIn m tick) c
+select m (act n) c = getElem? (derivationsIn m (act n)) c
+select m (choice P Q) c = split (countIn m P) (select m P) (select m Q) c
 select m (guarded g P) c = mapped (under g) (select m P c)
 select m (call d P) c = select m P c
 select m (seq P Q q) c =
     split (actionsOf m P) (λ i. mapped (before q) (select Actions P i))
-    (pairs (count m Q) (select Ticks P) (select m Q)) c
+    (pairs (countIn m Q) (select Ticks P) (select m Q)) c
 select m (par P p Q q) c =
     split (actionsOf m P) (λ i. mapped (besideRight q) (select Actions P i))
     (split (actionsOf m Q) (λ i. mapped (besideLeft p) (select Actions Q i))
-    (split (tickCount P * count m Q) (pairs (count m Q) (select Ticks P) (select m Q))
-    (pairs (count m P) (select Ticks Q) (select m P)))) c
+    (split (tickCount P * countIn m Q) (pairs (countIn m Q) (select Ticks P) (select m Q))
+    (pairs (countIn m P) (select Ticks Q) (select m P)))) c

@@ -12,7 +12,7 @@ use Rattle.basis.proofs.Lists.{nth-in, nth-is}
 use Rattle.table.specs.Checks.{passes, firstOf}
 use Rattle.table.specs.Tables.{Table, tableOf}
 use Rattle.table.specs.Sound.{Limits}
-use Rattle.term.specs.Accepted.{Accepted, Checked}
+use Rattle.term.specs.Accepted.{Acceptable, Checked}
 use Rattle.term.specs.Processes.{Derivation, derivation, ticks}
 use Rattle.term.specs.Terms.{Idle}
 use Rattle.state.specs.declared.Store.{Store}
@@ -48,7 +48,7 @@ module _ (bytes s : List ℕ) (scratch : ℕ) (ready : Ready bytes s scratch) wh
   abbrev A : ℕ
   A = t .sizes .agents
 
-  accepted : Accepted bytes (length s) scratch
+  accepted : Acceptable bytes (length s) scratch
   accepted = state-checks bytes s scratch .0 (ready .passed) .0
 
   checked : Checked t

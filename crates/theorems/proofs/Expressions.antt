@@ -14,7 +14,7 @@ use Rattle.basis.proofs.Tests.{not-both, and-left, and-right, and-both, or-eith
 use Rattle.value.specs.declared.Value.{Value}
 use Rattle.value.specs.declared.Value.the-variants.{Absent, Present}
 use Rattle.value.specs.declared.Truth.{Truth}
-use Rattle.value.specs.Truths.{truth, undefined, compare}
+use Rattle.value.specs.Truths.{truth, undefined, compareValues}
 use Rattle.table.specs.Tables.{Table, kindAt, pAt, qAt, linkAt}
 use Rattle.state.specs.declared.Store.the-variants.{Attributes, Entries}
 use Rattle.state.specs.Layout.{keyLimit, wordOf, stampOf, valueIn}
@@ -70,7 +70,7 @@ module _ (know : Knowledge) where
   pub one-value : (e : Expr) (v w : ℕ) → E⟦ e ⟧ know ≡ Present v → E⟦ e ⟧ know ≡ Present w → v ≡ w
   one-value e v w p q = cc
 
-  agrees-comparison : (kind : ℕ) (a b : Value) (e f : Expr) → E⟦ e ⟧ know ≡ a → E⟦ f ⟧ know ≡ b → Agrees know (compare kind a b) (comparison kind e f)
+  agrees-comparison : (kind : ℕ) (a b : Value) (e f : Expr) → E⟦ e ⟧ know ≡ a → E⟦ f ⟧ know ≡ b → Agrees know (compareValues kind a b) (comparison kind e f)
   agrees-comparison kind Absent b e f p q = never (comparison kind e f) (λ h. h .0 p) (λ h. no-value e (h .0) p (h .2))
   agrees-comparison kind (Present v) Absent e f p q = never (comparison kind e f) (λ h. h .1 q) (λ h. no-value f (h .1) q (h .3))
   agrees-comparison kind (Present v) (Present w) e f p q = (

@@ -10,13 +10,13 @@ use lib.Dec.{ltb}
 use lib.ListN.{length, getD, List·getD-eq-default}
 use borrow.Author.Tests.{ltb-true}
 use Rattle.basis.specs.Below.{below}
-use Rattle.basis.specs.Numbers.{some, every, lowest, howMany, forEach}
+use Rattle.basis.specs.Numbers.{someBelow, every, lowest, howMany, forEach}
 use Rattle.basis.specs.KeySets.{has, plus, minus, plusAll}
 use Rattle.basis.proofs.Numbers.{every-at}
 use Rattle.basis.proofs.Tests.{lt-or-le}
 use Rattle.table.specs.Checks.{firstOf, passes, refuses}
 use Rattle.table.specs.Tables.{tableOf, withinLimits}
-use Rattle.table.specs.Nodes.{processRows, guardRows, expressionRows, lookup, fieldsHere, fits, fitting, named, namesAgain, badNode}
+use Rattle.table.specs.Nodes.{processRows, guardRows, expressionRows, rowOf, fieldsHere, fits, fitting, named, namesAgain, badNode}
 use Rattle.table.specs.Reach.{reachStep, reachedFrom, wrongKey}
 use Rattle.term.specs.Terms.{words, termsOf, areTerms}
 use Rattle.term.specs.Processes.{keep, joins, derivations, nodeStep, nodeWith, defined, nodeProcess, process, allFew}
@@ -26,7 +26,7 @@ use Rattle.state.specs.Layout.{valueIn, put, addKey, dropKey}
 use Rattle.state.specs.Evaluation.{valueStep, truthStep, readsStep}
 use Rattle.state.specs.WellFormed.{allZero, pairFormed, pendingFormed, residualFormed, agentFormed, wellFormed, loaded}
 use Rattle.steps.specs.Acts.{leave, setKey, acted}
-use Rattle.steps.specs.Offers.{takeEntry, hears, takes, answers, offer}
+use Rattle.steps.specs.Offers.{takeEntry, linked, takes, holdsNewer, offer}
 use Rattle.steps.specs.Steps.{Outcome, done, outcome, stepIn, stepOf}
 use Rattle.labs.specs.Agents.{System}
 use Rattle.labs.specs.Reading.{systemOf}
@@ -66,12 +66,12 @@ s₅ = stepped s₄ 2 1 0 .state
 
 -- by computing
 table-passes : firstOf (tableChecks fleet stateWords 16) ≡ passes
-unfolding below some lowest firstOf withinLimits processRows guardRows expressionRows lookup fieldsHere fits fitting named namesAgain badNode reachStep reachedFrom wrongKey keep joins derivations nodeStep nodeWith defined nodeProcess canTick callsBelow
+unfolding below someBelow lowest firstOf withinLimits processRows guardRows expressionRows rowOf fieldsHere fits fitting named namesAgain badNode reachStep reachedFrom wrongKey keep joins derivations nodeStep nodeWith defined nodeProcess canTick callsBelow
 table-passes = refl
 
 steps-come : (stepped s₀ 0 0 0 ≡ done 0 s₁) × (stepped s₁ 1 0 0 ≡ done 1 s₂) × (stepped s₂ 1 1 0 ≡ done 0 s₃) × (stepped s₃ 0 1 0 ≡ done 0 s₄) × (stepped s₄ 2 1 0 ≡ done 0 s₅)
     × (stepped s₀ 0 1 0 .check ≡ refuses 15 0)
-unfolding below some every lowest howMany forEach has plus minus plusAll firstOf withinLimits processRows guardRows expressionRows lookup fieldsHere fits fitting named namesAgain badNode reachStep reachedFrom wrongKey words termsOf areTerms keep joins derivations nodeStep nodeWith defined nodeProcess process allFew canTick callsBelow valueIn put addKey dropKey valueStep truthStep readsStep allZero pairFormed pendingFormed residualFormed agentFormed wellFormed loaded leave setKey acted takeEntry hears takes answers offer outcome stepIn stepOf
+unfolding below someBelow every lowest howMany forEach has plus minus plusAll firstOf withinLimits processRows guardRows expressionRows rowOf fieldsHere fits fitting named namesAgain badNode reachStep reachedFrom wrongKey words termsOf areTerms keep joins derivations nodeStep nodeWith defined nodeProcess process allFew canTick callsBelow valueIn put addKey dropKey valueStep truthStep readsStep allZero pairFormed pendingFormed residualFormed agentFormed wellFormed loaded leave setKey acted takeEntry linked takes holdsNewer offer outcome stepIn stepOf
 steps-come = (refl, refl, refl, refl, refl, refl)
 
 small-bytes : (l : List ℕ) → every (λ (i : ℕ). ltb (getD l i 0) 256) (length l) ≡ true → Bytes l

@@ -12,7 +12,7 @@ use Rattle.basis.proofs.Below.{below-at, below-same}
 use Rattle.basis.proofs.Tests.{and-left, and-right, and-when, same-or-other}
 use Rattle.table.specs.declared.Fields.{Fields}
 use Rattle.table.specs.Tables.{Table, kindAt, pAt, qAt, constantAt, firstRoot}
-use Rattle.table.specs.Nodes.{guardRows, expressionRows, lookup, fieldsOf, fieldsAt, isNode, isGuard, isExpression, leftNode, rightNode}
+use Rattle.table.specs.Nodes.{guardRows, expressionRows, rowOf, fieldsOf, fieldsAt, isNode, isGuard, isExpression, leftNode, rightNode}
 use Rattle.table.specs.Sound.{Sound}
 use Rattle.table.proofs.Operands.{left-lower, right-lower}
 use Rattle.table.proofs.Promises.{inner-fields, all-fit, guard-inner, expression-inner, not-operands, and-operands, or-operands, comparison-operands, arithmetic-operands}
@@ -96,7 +96,7 @@ module _ (t : Table) (sound : Sound t) where
         (reads-two n k x h e (ne-eqb k 34 (omega arith)) a b ∙ ap₂ (λ c d. c || d) (lower p (w .0 .0) (w .0 .1)) (lower q (w .1 .0) (w .1 .1)))
 
     expression-cases : Range (OfKind n x) 32 9
-    unfolding exprStep lookup expressionRows
+    unfolding exprStep rowOf expressionRows
     expression-cases = (
       λ e. stands (value (constantAt t n)) (rw (exprStep, e)) (reads-kind n 32 x h e),
       (
@@ -160,7 +160,7 @@ module _ (t : Table) (sound : Sound t) where
         (reads-two n k x h e (ne-eqb k 34 (omega arith)) a b ∙ ap₂ (λ c d. c || d) (expression-keys p x (w .0 .1)) (expression-keys q x (w .1 .1)))
 
     guard-cases : Range (GuardOfKind n x) 16 7
-    unfolding guardStep lookup guardRows
+    unfolding guardStep rowOf guardRows
     guard-cases = (
       λ e. guard-stands truly (rw (guardStep, e)) (reads-kind n 16 x h e),
       (

@@ -13,14 +13,14 @@ use Rattle.basis.specs.KeySets.{has, minus}
 use Rattle.basis.proofs.KeySets.{has-minus}
 use Rattle.basis.proofs.Tests.{lt-or-le, eqb-swap}
 use Rattle.agreement.specs.View.{View}
-use Rattle.agreement.specs.Moves.{quiet, propagate, confirm, takes, answers, moved}
+use Rattle.agreement.specs.Moves.{quiet, propagate, confirm, takes, holdsNewer, moved}
 use Rattle.table.specs.Tables.{Table}
 use Rattle.term.specs.Acceptance.{stateWords}
 use Rattle.state.specs.declared.Store.the-variants.{Entries}
 use Rattle.state.specs.Layout.{keyLimit, zpOf}
 use Rattle.state.proofs.Places.{Place, Zp, Zc, Mark, Word, Waits, Inside, placeAgent}
 use Rattle.state.proofs.Frames.{SameAt, drop-other, drop-word}
-use Rattle.steps.specs.Offers.{takes as takesEntry, answers as answersEntry, hears, offered, propagated, confirmed}
+use Rattle.steps.specs.Offers.{takes as takesEntry, holdsNewer as answersEntry, linked, offered, propagated, confirmed}
 use Rattle.steps.proofs.Offers.{offered-length, offered-other, offered-stamp, offered-value, offered-zp}
 use Rattle.theorems.proofs.Views.{Pair, newer, pairOf, seen, links, pair-same, pick-pair, Shows, shows-same, shows-itself, shows-key}
 
@@ -33,7 +33,7 @@ module _ (t : Table) (s : List ℕ) (x k : ℕ) where
   took = takes newer (links t s k) (seen s k) x
 
   abbrev answered : ℕ → Bool
-  answered = answers newer (links t s k) (seen s k) x
+  answered = holdsNewer newer (links t s k) (seen s k) x
 
   reaches-past : (a : ℕ) → A ≤ a → (e f : Bool) → ((not e && links t s k x a) && f) ≡ false
   reaches-past a l true f = refl
@@ -46,20 +46,20 @@ module _ (t : Table) (s : List ℕ) (x k : ℕ) where
   answered-past a l = reaches-past a l (eqb x a) (newer (pairOf s k a) (pairOf s k x))
 
   took-there : (a : ℕ) → a < A → took a ≡ takesEntry t s x k a
-  unfolding takesEntry hears
+  unfolding takesEntry linked
   took-there a l = rw (lt-ltb a A l)
 
   answered-there : (a : ℕ) → a < A → answered a ≡ answersEntry t s x k a
-  unfolding answersEntry hears
+  unfolding answersEntry linked
   answered-there a l = rw (lt-ltb a A l)
 
   -- what the offer gives the key, before x's own set changes
   abbrev given : Bool → View Pair
-  given asks = record { entry = λ a. cond (took a) (pairOf s k x) (pairOf s k a); waits = λ a. took a || ((asks && answered a) || has (zpOf s a) k) }
+  given confirming = record { entry = λ a. cond (took a) (pairOf s k x) (pairOf s k a); waits = λ a. took a || ((confirming && answered a) || has (zpOf s a) k) }
 
-  module _ (asks : Bool) (key : k < keyLimit) (few : A ≤ 32) (whole : length s ≡ stateWords) where
+  module _ (confirming : Bool) (key : k < keyLimit) (few : A ≤ 32) (whole : length s ≡ stateWords) where
     abbrev after : List ℕ
-    after = offered t s x k asks A
+    after = offered t s x k confirming A
 
     -- an agent that there is not
     past-shows : (a : ℕ) → A ≤ a → (j : ℕ) → j < keyLimit → Shows after j (seen s j) a
@@ -67,29 +67,29 @@ module _ (t : Table) (s : List ℕ) (x k : ℕ) where
         shows-same after s j (seen s j) a (kept (Word (Entries a) j) low refl) (kept (Mark (Entries a) j) low refl) (kept (Waits Zp a) tt refl) (shows-itself s j a)
       where
         kept : (q : Place) → Inside q → placeAgent q ≡ a → SameAt after s q
-        kept q h e = offered-other t s x k asks key A q h (λ y m d c. absurd (omega arith))
+        kept q h e = offered-other t s x k confirming key A q h (λ y m d c. absurd (omega arith))
 
-    offered-shows : (a : ℕ) → Shows after k (given asks) a
+    offered-shows : (a : ℕ) → Shows after k (given confirming) a
     offered-shows a = ⊎-elim there past (lt-or-le a A)
       where
         own : Bool
         own = takesEntry t s x k a
 
-        there : a < A → Shows after k (given asks) a
+        there : a < A → Shows after k (given confirming) a
         there l = record {
-          entry = pair-same (offered-value t s x k asks key A few whole a l k key) (offered-stamp t s x k asks key A few whole a l k key)
+          entry = pair-same (offered-value t s x k confirming key A few whole a l k key) (offered-stamp t s x k confirming key A few whole a l k key)
               ∙ pick-pair (own && eqb k k) _ _ _ _
               ∙ ap (λ b. cond b (pairOf s k x) (pairOf s k a)) (ap (λ b. own && b) (eq-eqb k k refl) ∙ and-true own ∙ sym (took-there a l));
-          waits = offered-zp t s x k asks key A few whole a l k
-              ∙ rw (took-there a l, answered-there a l, eq-eqb k k refl, and-true (own || (asks && answersEntry t s x k a))) (or-assoc own (asks && answersEntry t s x k a) (has (zpOf s a) k));
+          waits = offered-zp t s x k confirming key A few whole a l k
+              ∙ rw (took-there a l, answered-there a l, eq-eqb k k refl, and-true (own || (confirming && answersEntry t s x k a))) (or-assoc own (confirming && answersEntry t s x k a) (has (zpOf s a) k));
         }
 
-        past : A ≤ a → Shows after k (given asks) a
+        past : A ≤ a → Shows after k (given confirming) a
         past l =
             let w = past-shows a l k key in
             record {
               entry = w .entry ∙ ap (λ b. cond b (pairOf s k x) (pairOf s k a)) (sym (took-past a l));
-              waits = w .waits ∙ rw (took-past a l, answered-past a l, and-false asks);
+              waits = w .waits ∙ rw (took-past a l, answered-past a l, and-false confirming);
             }
 
     -- to another key the offer is nothing
@@ -101,11 +101,11 @@ module _ (t : Table) (s : List ℕ) (x k : ℕ) where
 
         there : a < A → Shows after j (seen s j) a
         there l = record {
-          entry = pair-same (offered-value t s x k asks key A few whole a l j low) (offered-stamp t s x k asks key A few whole a l j low)
+          entry = pair-same (offered-value t s x k confirming key A few whole a l j low) (offered-stamp t s x k confirming key A few whole a l j low)
               ∙ pick-pair (takesEntry t s x k a && eqb j k) _ _ _ _
               ∙ ap (λ b. cond b (pairOf s k x) (pairOf s j a)) (fails (takesEntry t s x k a) (eqb j k) (ne-eqb j k (λ e. d (sym e))));
-          waits = offered-zp t s x k asks key A few whole a l j
-              ∙ ap (λ b. b || has (zpOf s a) j) (fails (takesEntry t s x k a || (asks && answersEntry t s x k a)) (eqb k j) (ne-eqb k j d));
+          waits = offered-zp t s x k confirming key A few whole a l j
+              ∙ ap (λ b. b || has (zpOf s a) j) (fails (takesEntry t s x k a || (confirming && answersEntry t s x k a)) (eqb k j) (ne-eqb k j d));
         }
 
   module _ (key : k < keyLimit) (few : A ≤ 32) (whole : length s ≡ stateWords) (there : x < A) (j : ℕ) (low : j < keyLimit) where

@@ -21,7 +21,7 @@ use Rattle.state.specs.Layout.{put as putPair}
 use Rattle.state.specs.Evaluation.{linkHolds}
 use Rattle.state.proofs.Places.{Place, KeySet, Zc, Zp, Clock, Mark, Word, Waits, placeAt, placeKind, Inside, same-not, other-agent}
 use Rattle.state.proofs.Frames.{SameAt, put-length, drop-length, drop-other, value-same}
-use Rattle.steps.specs.Offers.{takeEntry, hears, takes, answers, offer, offered, takers, propagated, confirmed}
+use Rattle.steps.specs.Offers.{takeEntry, linked, takes, holdsNewer, offer, offered, takers, propagated, confirmed}
 use Rattle.steps.proofs.Offers.{offer-length, offered-length, offered-other, offered-turn}
 use Rattle.labs.specs.Agents.{⟨_⸴_⸴_⸴_⸴_⟩, Agent, Entry, System, _⟦_≔_⟧, _∪｛_｝, _∖｛_｝, Inserted}
 use Rattle.labs.specs.Systems.{Kind, put, qry, Message, message, Sends, PROPAGATE, CONFIRM, Older, Newer, Linked, Hears, PUT, QRY₁, QRY₂, STAY, Passed}
@@ -41,9 +41,9 @@ newer-time none n = (λ h. absurd h, λ h. omega arith)
 newer-time (some e) n = (λ h. h, λ h. h)
 
 abbrev sentKind : Bool → Kind
-sentKind asks = cond asks qry put
+sentKind confirming = cond confirming qry put
 
-asking : (asks : Bool) → sentKind asks ≡ qry → asks ≡ true
+asking : (confirming : Bool) → sentKind confirming ≡ qry → confirming ≡ true
 asking true e = refl
 asking false e = let z : _≡_ {A = ℕ} 0 1 = cc in absurd (omega arith)
 
@@ -68,45 +68,45 @@ module _ (t : Table) (was : List ℕ) (x k agents : ℕ) (whole : length was ≡
   said kind = message kind (agentOf was x) k mine
 
   takes-self : takes t was x k x ≡ false
-  unfolding takes hears
+  unfolding takes linked
   takes-self = rw (eq-eqb x x refl)
 
-  module _ (asks : Bool) where
+  module _ (confirming : Bool) where
     abbrev spread : List ℕ
-    spread = offered t was x k asks agents
+    spread = offered t was x k confirming agents
 
     spread-whole : length spread ≡ stateWords
-    spread-whole = offered-length t was x k asks agents ∙ whole
+    spread-whole = offered-length t was x k confirming agents ∙ whole
 
     sender-same : agentOf spread x ≡ agentOf was x
-    sender-same = agent-same spread was x (offered-length t was x k asks agents) (λ p i pos e. offered-other t was x k asks key agents p i (λ y l d o. absurd (d (sym o ∙ e))))
+    sender-same = agent-same spread was x (offered-length t was x k confirming agents) (λ p i pos e. offered-other t was x k confirming key agents p i (λ y l d o. absurd (d (sym o ∙ e))))
 
     -- AN AGENT THAT HEARS
     module _ (y : ℕ) (below : y < agents) (other : y ≡ x → ⊥) where
       abbrev now : List ℕ
-      now = offered t was x k asks y
+      now = offered t was x k confirming y
 
       now-whole : length now ≡ stateWords
-      now-whole = offered-length t was x k asks y ∙ whole
+      now-whole = offered-length t was x k confirming y ∙ whole
 
       before : agentOf now y ≡ agentOf was y
-      before = agent-same now was y (offered-length t was x k asks y) (λ p i pos e. offered-other t was x k asks key y p i (λ z l d o. absurd (omega arith)))
+      before = agent-same now was y (offered-length t was x k confirming y) (λ p i pos e. offered-other t was x k confirming key y p i (λ z l d o. absurd (omega arith)))
 
-      turned : agentOf spread y ≡ agentOf (offer t was x k asks y now) y
-      turned = agent-same spread (offer t was x k asks y now) y (spread-whole ∙ sym (offer-length t was x k asks y now ∙ now-whole))
-          (λ p i pos e. offered-turn t was x k asks key agents y below p i e)
+      turned : agentOf spread y ≡ agentOf (offer t was x k confirming y now) y
+      turned = agent-same spread (offer t was x k confirming y now) y (spread-whole ∙ sym (offer-length t was x k confirming y now ∙ now-whole))
+          (λ p i pos e. offered-turn t was x k confirming key agents y below p i e)
 
       abbrev Result : Bool → Agent → Type 0
-      Result b a = Hears t (systemOf was .E) (said (sentKind asks)) (agentOf was y) b a
+      Result b a = Hears t (systemOf was .E) (said (sentKind confirming)) (agentOf was y) b a
 
-      heard : hears t was x k y ≡ linkHolds t was k x y
-      unfolding hears
+      heard : linked t was x k y ≡ linkHolds t was k x y
+      unfolding linked
       heard = rw (ne-eqb x y (λ (e : x ≡ y). other (sym e)))
 
-      linked : hears t was x k y ≡ true → Linked t (systemOf was .E) (said (sentKind asks)) (agentOf was y)
+      linked : linked t was x k y ≡ true → Linked t (systemOf was .E) (said (sentKind confirming)) (agentOf was y)
       linked e = link-holds t was x y k .0 (sym heard ∙ e)
 
-      of-linked : Linked t (systemOf was .E) (said (sentKind asks)) (agentOf was y) → hears t was x k y ≡ true
+      of-linked : Linked t (systemOf was .E) (said (sentKind confirming)) (agentOf was y) → linked t was x k y ≡ true
       of-linked h = heard ∙ link-holds t was x y k .1 h
 
       held : timeIn (agentOf was y .L k) ≡ stampOf was y k
@@ -118,7 +118,7 @@ module _ (t : Table) (was : List ℕ) (x k agents : ℕ) (whole : length was ≡
       newer : Newer (agentOf was y .L k) (stampOf was x k) ↔ (stampOf was x k < timeIn (agentOf was y .L k))
       newer = newer-time (agentOf was y .L k) (stampOf was x k)
 
-      taking : (b : Bool) → stampOf was y k < stampOf was x k → hears t was x k y ≡ true → Hears t (systemOf was .E) (said (sentKind b)) (agentOf was y) true (took k mine (agentOf was y))
+      taking : (b : Bool) → stampOf was y k < stampOf was x k → linked t was x k y ≡ true → Hears t (systemOf was .E) (said (sentKind b)) (agentOf was y) true (took k mine (agentOf was y))
       taking b l e = by b
         where
           is-inserted : Inserted (agentOf was y .L) k mine (agentOf was y .L ⟦ k ≔ some mine ⟧)
@@ -128,38 +128,38 @@ module _ (t : Table) (was : List ℕ) (x k agents : ℕ) (whole : length was ≡
           by true = QRY₁ refl (linked e) (older .1 (omega (arith, held))) is-inserted
           by false = PUT refl (linked e) (older .1 (omega (arith, held))) is-inserted
 
-      by-offer : (b : Bool) → takes t was x k y ≡ b → (c : Bool) → (asks && answers t was x k y) ≡ c →
+      by-offer : (b : Bool) → takes t was x k y ≡ b → (c : Bool) → (confirming && holdsNewer t was x k y) ≡ c →
           Result b (agentOf (cond b (takeEntry k (wordOf was (Entries x) k) (stampOf was x k) y now) (cond c (addKey (zpAt y) k now) now)) y)
-      unfolding takes answers
+      unfolding takes holdsNewer
       by-offer true e c f =
           subst (Result true) (sym (took-agent k (wordOf was (Entries x) k) (stampOf was x k) y now key now-whole (omega arith) entered ∙ ap (took k mine) before))
-          (taking asks (ltb-true (stampOf was y k) (stampOf was x k) (and-right (hears t was x k y) _ e)) (and-left (hears t was x k y) _ e))
+          (taking confirming (ltb-true (stampOf was y k) (stampOf was x k) (and-right (linked t was x k y) _ e)) (and-left (linked t was x k y) _ e))
       by-offer false e true f =
-          let a = and-right asks _ f in
+          let a = and-right confirming _ f in
           subst (Result false) (sym (add-zp-agent y k now now-whole (omega arith) ∙ ap (λ (a : Agent). with Zp a (a .Zp ∪｛ k ｝)) before))
-          (QRY₂ (ap sentKind (and-left asks _ f)) (linked (and-left (hears t was x k y) _ a))
-          (newer .1 (omega (arith, held, ltb-true (stampOf was x k) (stampOf was y k) (and-right (hears t was x k y) _ a)))))
+          (QRY₂ (ap sentKind (and-left confirming _ f)) (linked (and-left (linked t was x k y) _ a))
+          (newer .1 (omega (arith, held, ltb-true (stampOf was x k) (stampOf was y k) (and-right (linked t was x k y) _ a)))))
       by-offer false e false f = subst (Result false) (sym before) (STAY
-          (λ h o. not-both (and-both (hears t was x k y) _ (of-linked h) (lt-ltb (stampOf was y k) (stampOf was x k) (omega (arith, held, older .0 o)))) e)
-          (λ q h o. not-both (and-both asks _ (asking asks q) (and-both (hears t was x k y) _ (of-linked h)
+          (λ h o. not-both (and-both (linked t was x k y) _ (of-linked h) (lt-ltb (stampOf was y k) (stampOf was x k) (omega (arith, held, older .0 o)))) e)
+          (λ q h o. not-both (and-both confirming _ (asking confirming q) (and-both (linked t was x k y) _ (of-linked h)
           (lt-ltb (stampOf was x k) (stampOf was y k) (omega (arith, held, newer .0 o))))) f))
 
       heard-by : (z : KeySet) → Result (takes t was x k y) (agentOf (dropKey (placeAt (Waits z x)) k spread) y)
       unfolding offer
-      heard-by z = subst (λ (a : Agent). Result (takes t was x k y) a) (sym (drop-away z ∙ turned)) (by-offer (takes t was x k y) refl (asks && answers t was x k y) refl)
+      heard-by z = subst (λ (a : Agent). Result (takes t was x k y) a) (sym (drop-away z ∙ turned)) (by-offer (takes t was x k y) refl (confirming && holdsNewer t was x k y) refl)
         where
           drop-away : (z : KeySet) → agentOf (dropKey (placeAt (Waits z x)) k spread) y ≡ agentOf spread y
           drop-away z = agent-same (dropKey (placeAt (Waits z x)) k spread) spread y (drop-length z x k spread)
               (λ p i pos e. drop-other z x k spread p i (other-agent p (Waits z x) (λ (o : _). other (sym e ∙ o))))
 
   -- THE STEPS
-  module _ (z : KeySet) (asks : Bool) where
+  module _ (z : KeySet) (confirming : Bool) where
     abbrev after : List ℕ
-    after = dropKey (placeAt (Waits z x)) k (spread asks)
+    after = dropKey (placeAt (Waits z x)) k (spread confirming)
 
     -- what is everyone's
     stays : (p : Place) → Inside p → placeKind p ≡ 0 → SameAt after was p
-    stays p i e = drop-other z x k (spread asks) p i (same-not p (Waits z x) (λ (o : p ≡ Waits z x). omega (arith, ap placeKind o))) ∙ offered-other t was x k asks key agents p i (λ y l d o. e)
+    stays p i e = drop-other z x k (spread confirming) p i (same-not p (Waits z x) (λ (o : p ≡ Waits z x). omega (arith, ap placeKind o))) ∙ offered-other t was x k confirming key agents p i (λ y l d o. e)
 
     environment-stays : systemOf after .E ≡ systemOf was .E
     environment-stays = fun-ext λ j. value-same after was Environment j (λ i. stays (Mark Environment j) i refl) (λ i. stays (Word Environment j) i refl)
@@ -175,7 +175,7 @@ module _ (t : Table) (was : List ℕ) (x k agents : ℕ) (whole : length was ≡
         (sym (drop-zp-agent x k (spread false) (spread-whole false) (omega arith) ∙ ap (λ (a : Agent). with Zp a (a .Zp ∖｛ k ｝)) (sender-same false)))
         (PROPAGATE h (entry-present was x k key entered));
     itself = takes-self;
-    hears = λ y l d. heard-by false y l d Zp;
+    linked = λ y l d. heard-by false y l d Zp;
     environment-stays = environment-stays Zp false;
     clock-stays = clock-stays Zp false;
   }
@@ -188,7 +188,7 @@ module _ (t : Table) (was : List ℕ) (x k agents : ℕ) (whole : length was ≡
         (sym (drop-zc-agent x k (spread true) (spread-whole true) (omega arith) ∙ ap (λ (a : Agent). with Zc a (a .Zc ∖｛ k ｝)) (sender-same true)))
         (CONFIRM h (entry-present was x k key entered));
     itself = takes-self;
-    hears = λ y l d. heard-by true y l d Zc;
+    linked = λ y l d. heard-by true y l d Zc;
     environment-stays = environment-stays Zc true;
     clock-stays = clock-stays Zc true;
   }

@@ -19,7 +19,7 @@ use Rattle.table.specs.Tables.{Table, tableOf, startAt}
 use Rattle.table.specs.Sound.{Limits}
 use Rattle.table.proofs.Promises.{start-process}
 use Rattle.term.specs.Acceptance.{stateWords, tableChecks}
-use Rattle.term.specs.Accepted.{Accepted}
+use Rattle.term.specs.Accepted.{Acceptable}
 use Rattle.term.proofs.Acceptance.{passes-accepted, accepted-passes}
 use Rattle.term.specs.Terms.{Node}
 use Rattle.state.specs.declared.Store.the-variants.{Environment, Attributes, Entries}
@@ -47,7 +47,7 @@ module _ (bytes : List ℕ) (small : Bytes bytes) (scratch : ℕ) (pass : firstO
   abbrev t : Table
   t = tableOf bytes
 
-  accepted : Accepted bytes stateWords scratch
+  accepted : Acceptable bytes stateWords scratch
   accepted = passes-accepted bytes stateWords scratch pass
 
   limits : Limits (t .sizes)
@@ -96,6 +96,6 @@ pub load-ready : (bytes lent : List ℕ) (scratch : ℕ) → Bytes bytes → loa
     Ready bytes (loadOf bytes lent scratch .state) scratch
 load-ready bytes lent scratch small e =
     let a = load-accepted bytes lent scratch e in
-    let p : Accepted bytes stateWords scratch = subst (λ (n : ℕ). Accepted bytes n scratch) (a .state) a in
+    let p : Acceptable bytes stateWords scratch = subst (λ (n : ℕ). Acceptable bytes n scratch) (a .state) a in
     subst (λ (o : Outcome). Ready bytes (o .state) scratch) (sym (accepted-load bytes lent scratch a))
     (loaded-ready bytes small scratch (accepted-passes bytes stateWords scratch p))

@@ -11,7 +11,7 @@ use lib.Signed.{mag, mag-rem, natAbs-le, quotZ, remZ}
 use mir.Syntax.{w32, w64}
 use mir.Val.{Fits, SFits, toZ, ofZ}
 use mir.Facts.{toZ-ofZ, sfits-toZ, sfits-widen}
-use Rattle.value.specs.Values.{signed}
+use Rattle.value.specs.Values.{signedOf}
 
 mag-sub : (a b : ℕ) → mag (subℕ a b) ≤ a + b
 mag-sub a b = by (ltb a b)
@@ -48,27 +48,27 @@ mag-quot (negsuc a) (pos b) = le-trans (mag-neg (suc a / b)) (div-le-self (suc a
 mag-quot (negsuc a) (negsuc b) = div-le-self (suc a) (suc b)
 
 -- a signed local holds bits: what is read back from those of a word's number
-pub whole : {w : ℕ} {x : ℤ} → Fits w32 w → x ≡ signed w → toZ w64 (ofZ w64 x) ≡ signed w
+pub whole : {w : ℕ} {x : ℤ} → Fits w32 w → x ≡ signedOf w → toZ w64 (ofZ w64 x) ≡ signedOf w
 whole f e = rw e (toZ-ofZ (sfits-widen {w = w32} tt (sfits-toZ f)))
 
 module _ {a b : ℕ} (f : Fits w32 a) (g : Fits w32 b) where
-  small-a : mag (signed a) < 2 ^ 31
+  small-a : mag (signedOf a) < 2 ^ 31
   small-a = sfits-toZ f .sfits
 
-  small-b : mag (signed b) < 2 ^ 31
+  small-b : mag (signedOf b) < 2 ^ 31
   small-b = sfits-toZ g .sfits
 
-  pub add-fits : SFits w64 (signed a +ℤ signed b)
-  add-fits = record { sfits = omega (arith, mag-add (signed a) (signed b), small-a, small-b) }
+  pub add-fits : SFits w64 (signedOf a +ℤ signedOf b)
+  add-fits = record { sfits = omega (arith, mag-add (signedOf a) (signedOf b), small-a, small-b) }
 
-  pub sub-fits : SFits w64 (signed a -ℤ signed b)
-  sub-fits = record { sfits = omega (arith, mag-add (signed a) (negℤ (signed b)), mag-negated (signed b), small-a, small-b) }
+  pub sub-fits : SFits w64 (signedOf a -ℤ signedOf b)
+  sub-fits = record { sfits = omega (arith, mag-add (signedOf a) (negℤ (signedOf b)), mag-negated (signedOf b), small-a, small-b) }
 
-  pub mul-fits : SFits w64 (signed a *ℤ signed b)
-  mul-fits = record { sfits = omega (arith, mag-mul (signed a) (signed b), mul-le-mul (natAbs-le (signed a) small-a) (natAbs-le (signed b) small-b)) }
+  pub mul-fits : SFits w64 (signedOf a *ℤ signedOf b)
+  mul-fits = record { sfits = omega (arith, mag-mul (signedOf a) (signedOf b), mul-le-mul (natAbs-le (signedOf a) small-a) (natAbs-le (signedOf b) small-b)) }
 
-  pub quot-fits : SFits w64 (quotZ (signed a) (signed b))
-  quot-fits = record { sfits = omega (arith, mag-quot (signed a) (signed b), natAbs-le (signed a) small-a) }
+  pub quot-fits : SFits w64 (quotZ (signedOf a) (signedOf b))
+  quot-fits = record { sfits = omega (arith, mag-quot (signedOf a) (signedOf b), natAbs-le (signedOf a) small-a) }
 
-  pub rem-fits : SFits w64 (remZ (signed a) (signed b))
-  rem-fits = record { sfits = omega (arith, mag-rem (signed a) (signed b), small-a) }
+  pub rem-fits : SFits w64 (remZ (signedOf a) (signedOf b))
+  rem-fits = record { sfits = omega (arith, mag-rem (signedOf a) (signedOf b), small-a) }

@@ -5,7 +5,7 @@ use mathlib.Core.Bool.{true, false}
 use mathlib.Core.Path.{_≡_, refl}
 use Rattle.value.specs.declared.Value.the-variants.{Absent, Present}
 use Rattle.value.specs.Values.{operate}
-use Rattle.value.specs.Truths.{truth, undefined, compare, connect}
+use Rattle.value.specs.Truths.{truth, undefined, compareValues, connect}
 
 -- a number below 0 is written 2 ^ 32 less its size
 
@@ -65,10 +65,10 @@ pub sum-absent : operate 36 (Present 1) Absent ≡ Absent
 sum-absent = refl
 
 -- -1 is less than 0, and not greater
-pub less-signed : compare 18 (Present (2 ^ 32 - 1)) (Present 0) ≡ truth true true
+pub less-signed : compareValues 18 (Present (2 ^ 32 - 1)) (Present 0) ≡ truth true true
 less-signed = refl
 
-pub greater-signed : compare 19 (Present (2 ^ 32 - 1)) (Present 0) ≡ truth true false
+pub greater-signed : compareValues 19 (Present (2 ^ 32 - 1)) (Present 0) ≡ truth true false
 greater-signed = refl
 
 -- not of an undefined guard does not hold; or holds by one part, defined or not

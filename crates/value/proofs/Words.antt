@@ -12,12 +12,12 @@ use mir.Val.{SFits, toZ, ofZ}
 use borrow.Author.Tests.{lt-ltb, le-ltb, ltb-true, ltb-false, le-leb, lt-leb}
 use Rattle.value.specs.declared.Value.{Value}
 use Rattle.value.specs.declared.Value.the-variants.{Absent, Present}
-use Rattle.value.specs.Values.{signed, inRange, fit, isZero}
+use Rattle.value.specs.Values.{signedOf, inRange, fit, isZero}
 
-pub low-word : (w : ℕ) → w < 2 ^ 31 → toZ w64 w ≡ signed w
+pub low-word : (w : ℕ) → w < 2 ^ 31 → toZ w64 w ≡ signedOf w
 low-word w h = simp (lt-ltb w (2 ^ 63) (omega arith), lt-ltb w (2 ^ 31) h)
 
-pub high-word : (w : ℕ) → 2 ^ 31 ≤ w → w < 2 ^ 32 → toZ w64 w -ℤ pos 4294967296 ≡ signed w
+pub high-word : (w : ℕ) → 2 ^ 31 ≤ w → w < 2 ^ 32 → toZ w64 w -ℤ pos 4294967296 ≡ signedOf w
 high-word w l h = simp (lt-ltb w (2 ^ 63) (omega arith), le-ltb w (2 ^ 31) l, lt-ltb w (2 ^ 32) h)
 
 -- the range is one bound: `mag z` is n both for n and for -(n + 1)

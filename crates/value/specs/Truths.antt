@@ -6,7 +6,7 @@ use lib.Signed.{ltZ}
 use Rattle.value.specs.declared.Truth.{Truth}
 use Rattle.value.specs.declared.Value.{Value}
 use Rattle.value.specs.declared.Value.the-variants.{Absent, Present}
-use Rattle.value.specs.Values.{signed}
+use Rattle.value.specs.Values.{signedOf}
 
 abbrev pub truth : Bool → Bool → Truth
 truth d h = record { defined = d; holds = h }
@@ -19,15 +19,15 @@ undefined = truth false false
 abbrev pub testOf : ℕ → ℕ → ℕ → Bool
 testOf kind x y =
     cond (eqb kind 17) (eqb x y)
-    (cond (eqb kind 18) (ltZ (signed x) (signed y))
-    (cond (eqb kind 19) (ltZ (signed y) (signed x))
+    (cond (eqb kind 18) (ltZ (signedOf x) (signedOf y))
+    (cond (eqb kind 19) (ltZ (signedOf y) (signedOf x))
     false))
 
 -- a comparison is well defined, and may hold, only of two present values
-abbrev pub compare : ℕ → Value → Value → Truth
-compare kind Absent b = undefined
-compare kind (Present x) Absent = undefined
-compare kind (Present x) (Present y) = truth true (testOf kind x y)
+abbrev pub compareValues : ℕ → Value → Value → Truth
+compareValues kind Absent b = undefined
+compareValues kind (Present x) Absent = undefined
+compareValues kind (Present x) (Present y) = truth true (testOf kind x y)
 
 -- node kinds 20 to 22, not, and, or: each is well defined where all its parts are.
 -- Not holds where its part is well defined and doesn't hold; and needs both; or needs one.

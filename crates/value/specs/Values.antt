@@ -10,8 +10,8 @@ use Rattle.value.specs.declared.Value.{Value}
 use Rattle.value.specs.declared.Value.the-variants.{Absent, Present}
 
 -- the number that a word holds in two's complement
-abbrev pub signed : ℕ → ℤ
-signed w = toZ w32 w
+abbrev pub signedOf : ℕ → ℤ
+signedOf w = toZ w32 w
 
 -- from -2,147,483,648 to 2,147,483,647 (`negsuc n` is -(n + 1))
 abbrev pub inRange : ℤ → Bool
@@ -47,4 +47,4 @@ arithmetic kind x y =
 abbrev pub operate : ℕ → Value → Value → Value
 operate kind Absent b = Absent
 operate kind (Present x) Absent = Absent
-operate kind (Present x) (Present y) = arithmetic kind (signed x) (signed y)
+operate kind (Present x) (Present y) = arithmetic kind (signedOf x) (signedOf y)

@@ -1,7 +1,7 @@
 // Values and truths, and the operations, comparisons and connectives on them.
 ghost use mathlib.Core.Path.{_≡_};
-ghost use Rattle.value.specs.Values.{signed, fit, arithmetic, operate as operateOf};
-ghost use Rattle.value.specs.Truths.{testOf, compare as compareOf, connect as connectOf};
+ghost use Rattle.value.specs.Values.{signedOf, fit, arithmetic, operate as operateOf};
+ghost use Rattle.value.specs.Truths.{testOf, compareValues as compareOf, connect as connectOf};
 
 // A value: absent, or a signed 32-bit number as its two's complement word.
 pub enum Value {
@@ -17,7 +17,7 @@ pub struct Truth {
 
 // The number that a word holds in two's complement.
 fn number(w: u32) -> i64
-    ensures { λ r. ⌜ r ≡ signed w ⌝ }
+    ensures { λ r. ⌜ r ≡ signedOf w ⌝ }
 {
     if w < 2147483648 {
         w as i64
@@ -45,7 +45,7 @@ fn fitted(z: i64) -> Value
 
 // A node of kind 36 to 40 on two numbers, given as their words.
 fn compute(kind: u8, a: u32, b: u32) -> Value
-    ensures { λ r. ⌜ r ≡ arithmetic kind (signed a) (signed b) ⌝ }
+    ensures { λ r. ⌜ r ≡ arithmetic kind (signedOf a) (signedOf b) ⌝ }
 {
     let x = number(a);
     let y = number(b);
@@ -85,7 +85,7 @@ fn test(kind: u8, a: u32, b: u32) -> bool
 }
 
 // The same on two values.
-pub fn compare(kind: u8, a: Value, b: Value) -> Truth
+pub fn compare_values(kind: u8, a: Value, b: Value) -> Truth
     ensures { λ r. ⌜ r ≡ compareOf kind a b ⌝ }
 {
     let Value::Present(x) = a else {

@@ -8,9 +8,9 @@ use denote.Ref.{now}
 use lib.ListN.{length, take, drop}
 use Rattle.table.specs.declared.Sizes.{Sizes}
 use Rattle.table.specs.Tables.{Table, table, sizesOf, tableOf}
-use Rattle.term.specs.Accepted.{Accepted}
+use Rattle.term.specs.Accepted.{Acceptable}
 use Rattle.accept.proofs.Answering.{accepted-table, lent-table}
-use Rattle.choice.specs.Turns.{Ready}
+use Rattle.choice.specs.Turns.{Prepared}
 use borrow.Author.Needs.{needs}
 use Rattle.tables.proofs.judge.Statement.{statement}
 use Rattle.tables.proofs.judge.Tie as tie
@@ -28,7 +28,7 @@ bytes c = now (start c .args .bytes)
 abbrev sizes : At → Sizes
 sizes c = c .before .before .before .before .answer .given .0 .0
 
-accepted : (c : At) → Accepted (bytes c) 4194 (length (now (start c .args .scratch)))
+accepted : (c : At) → Acceptable (bytes c) 4194 (length (now (start c .args .scratch)))
 accepted c = accepted-table (c .before .before .before .before .before .before .before .before .accept .ensures) (c .before .before .before .before .answer .given .1)
 
 same-sizes : (c : At) → sizes c ≡ sizesOf (bytes c)
@@ -73,7 +73,7 @@ part-print-start-end-2 c = search needs
 print-start-requires : tie.Need-print-start-requires
 print-start-requires c κs =
     let z = c .before .before .before in
-    subst (λ (t : Table). Ready t (c .before .before .before .before .before .before .before .before .before .before .before .accept .last .1 .1 .0)) (sym (lent-table (bytes z) (sizes z) (same-sizes z)))
+    subst (λ (t : Table). Prepared t (c .before .before .before .before .before .before .before .before .before .before .before .accept .last .1 .1 .0)) (sym (lent-table (bytes z) (sizes z) (same-sizes z)))
     (record { checked = accepted z .table; counted = c .before .before .before .before .before .before .before .before .before .before .before .accept .ensures .counted (sizes z) (c .before .before .before .before .before .before .before .answer .given .1) })
 
 slice-aggregate-write-all-2 : tie.Need-slice-aggregate-write-all-2

@@ -12,7 +12,7 @@ use mir.Val.{SFits, toZ, ofZ}
 use mir.Facts.{toZ-ofZ, sfits-toZ}
 use Rattle.value.specs.declared.Value.{Value}
 use Rattle.value.specs.declared.Value.the-variants.{Absent}
-use Rattle.value.specs.Values.{signed, fit, isZero}
+use Rattle.value.specs.Values.{signedOf, fit, isZero}
 use Rattle.value.proofs.Words.{zero-divisor, divisor}
 use Rattle.value.proofs.Bounds.{add-fits, sub-fits, mul-fits, quot-fits, rem-fits, whole}
 use Rattle.value.proofs.compute.Statement.{statement}
@@ -20,7 +20,7 @@ use Rattle.value.proofs.compute.Tie as tie
 
 -- an operation's result on the words' numbers fits
 abbrev Fits : tie.After-number2 → (ℤ → ℤ → ℤ) → Type 0
-Fits c op = SFits w64 (op (signed (c .before .before .args .a)) (signed (c .before .before .args .b)))
+Fits c op = SFits w64 (op (signedOf (c .before .before .args .a)) (signedOf (c .before .before .args .b)))
 
 sum : (c : tie.After-number2) → Fits c _+ℤ_
 sum c = add-fits (c .before .before .fits .a) (c .before .before .fits .b)
@@ -43,15 +43,15 @@ read c op h = rw (whole (c .before .before .fits .a) (c .before .number .ensures
 
 handed : (c : tie.After-number2) (op : ℤ → ℤ → ℤ) → Fits c op
     → fit (toZ w64 (ofZ w64 (op (toZ w64 (ofZ w64 (c .before .number .result))) (toZ w64 (ofZ w64 (c .number2 .result))))))
-    ≡ fit (op (signed (c .before .before .args .a)) (signed (c .before .before .args .b)))
+    ≡ fit (op (signedOf (c .before .before .args .a)) (signedOf (c .before .before .args .b)))
 handed c op h = rw (whole (c .before .before .fits .a) (c .before .number .ensures), whole (c .before .before .fits .b) (c .number2 .ensures)) (ap fit (toZ-ofZ h))
 
 -- the divisor's test
-by-zero : (c : tie.After-number2) → ofZ w64 (c .number2 .result) ≡ 0 → (v : Value) → Absent ≡ cond (isZero (signed (c .before .before .args .b))) Absent v
+by-zero : (c : tie.After-number2) → ofZ w64 (c .number2 .result) ≡ 0 → (v : Value) → Absent ≡ cond (isZero (signedOf (c .before .before .args .b))) Absent v
 by-zero c h = zero-divisor (sfits-toZ (c .before .before .fits .b)) (rw (c .number2 .ensures) at h)
 
-by-other : (c : tie.After-number2) → (ofZ w64 (c .number2 .result) ≡ 0 → ⊥) → (v : Value) → v ≡ cond (isZero (signed (c .before .before .args .b))) Absent v
-by-other c h = divisor (signed (c .before .before .args .b)) (rw (c .number2 .ensures) at h)
+by-other : (c : tie.After-number2) → (ofZ w64 (c .number2 .result) ≡ 0 → ⊥) → (v : Value) → v ≡ cond (isZero (signedOf (c .before .before .args .b))) Absent v
+by-other c h = divisor (signedOf (c .before .before .args .b)) (rw (c .number2 .ensures) at h)
 
 number-requires : tie.Need-number-requires
 number-requires c κs = search needs

@@ -7,7 +7,7 @@ use native.Mathlib.Omega.{arith}
 use borrow.Author.Count.{below-more}
 use Rattle.table.specs.Tables.{table}
 use Rattle.term.specs.Acceptance.{overfull}
-use Rattle.accept.specs.Counts.{Small}
+use Rattle.accept.specs.Counts.{Capped}
 use Rattle.accept.proofs.nodes.lowest_overfull.Statement.{statement}
 use Rattle.accept.proofs.nodes.lowest_overfull.Tie as tie
 use Rattle.accept.proofs.Cells.{node-room, held-small}
@@ -37,7 +37,7 @@ pair-requires c κs =
 add-if1 : tie.Need-add-if1 Inv-loop μ-loop
 add-if1 c =
     let f = c .before .before .before .before .first-root .ensures in
-    let w : Small (c .before .pair .result) = rw (c .before .pair .ensures) (held-small (start (c .before .before .before .before) .pre) (c .before .before .before .loop .n) (omega arith)) in
+    let w : Capped (c .before .pair .result) = rw (c .before .pair .ensures) (held-small (start (c .before .before .before .before) .pre) (c .before .before .before .loop .n) (omega arith)) in
     omega (arith, w .actions, w .ticks)
 
 returns : tie.Need-returns Inv-loop μ-loop

@@ -8,7 +8,7 @@ use denote.Ref.{now}
 use lib.ListN.{length, getD}
 use borrow.Author.Needs.{needs}
 use Rattle.table.specs.Tables.{Table, table, kindAt, firstRoot}
-use Rattle.accept.specs.Counts.{counts, countsOf, seqCounts, choiceCounts, parCounts, Small}
+use Rattle.accept.specs.Counts.{counts, countsOf, seqCounts, choiceCounts, parCounts, Capped}
 use Rattle.accept.specs.Scratch.{pairAt, calledAt, processAt}
 use Rattle.accept.proofs.nodes.node.Statement.{statement}
 use Rattle.accept.proofs.nodes.node.Tie as tie
@@ -54,7 +54,7 @@ room c k e a b =
     let l = start c .pre .1 in
     (node-room (start c .pre .0) (p c) (omega arith), node-room (start c .pre .0) (q c) (omega arith))
 
-small : (c : tie.After-q-at) (k : ℕ) → kind c ≡ k → 5 ≤ k → k ≤ 8 → Small (pairAt (words c) (p c)) × Small (pairAt (words c) (q c))
+small : (c : tie.After-q-at) (k : ℕ) → kind c ≡ k → 5 ≤ k → k ≤ 8 → Capped (pairAt (words c) (p c)) × Capped (pairAt (words c) (q c))
 small c k e a b =
     let w = lower c k e a b in
     (held-small (start c .pre .0) (p c) (w .0), held-small (start c .pre .0) (q c) (w .1))

@@ -4,7 +4,7 @@ use native.Mathlib.Omega.{arith}
 use denote.Ref.{now}
 use Rattle.table.specs.Tables.{Table, table}
 use Rattle.choice.specs.declared.Does.{Does}
-use Rattle.acting.specs.Gaining.{Within}
+use Rattle.acting.specs.Gaining.{LabelKey}
 use Rattle.acting.proofs.Gains.{label-none, label-expression}
 use borrow.Author.Needs.{needs}
 use Rattle.acting.proofs.gaining.label_keys.Statement.{statement}
@@ -22,7 +22,7 @@ enum-known-does c = search needs
 q-at-requires : tie.Need-q-at-requires
 q-at-requires c κs =
     let a = c .before .before .before .before .before in
-    omega (arith, a .pre .0 .operands, subst (λ (d : Does). Within (tb a) d) (c .before .does .given .1) (a .pre .1))
+    omega (arith, a .pre .0 .operands, subst (λ (d : Does). LabelKey (tb a) d) (c .before .does .given .1) (a .pre .1))
 
 keys-read-requires : tie.Need-keys-read-requires
 keys-read-requires c κs = search needs

@@ -14,10 +14,10 @@ use Rattle.term.specs.Processes.{Derivation, nodeProcess}
 use Rattle.choice.specs.declared.Side.{Side}
 use Rattle.choice.specs.declared.Turn.{Turn}
 use Rattle.choice.specs.declared.Turn.the-variants.{On}
-use Rattle.choice.specs.Chosen.{chosen}
+use Rattle.choice.specs.Chosen.{chosenIn}
 use Rattle.choice.specs.Turns.{Reached, Turned}
 use Rattle.choice.specs.Outcomes.{reach}
-use Rattle.choice.specs.Marking.{Marks, Marked}
+use Rattle.choice.specs.Marking.{WalkMarks, Marked}
 use Rattle.choice.proofs.Collecting.{reached-process, only-first, marked-none, mark-guard, marked-guard, marked-join, marked-before, marked-after, marked-same}
 use Prim.Native.Nat.{ℕ, _<_, _+_, _*_}
 use borrow.Fn.Kinds.{In}
@@ -72,7 +72,7 @@ module _ (t : ℕ) where
   abbrev reached : (c : Tested) → Reached (tb c) (start c .args .level) (start c .args .mode) (start c .args .n) (start c .args .c)
   reached c = start c .pre .1 .1 .0
 
-  abbrev marks : (c : Tested) → Marks (tb c) (now (start c .args .marks))
+  abbrev marks : (c : Tested) → WalkMarks (tb c) (now (start c .args .marks))
   marks c = start c .pre .1 .1 .1
 
   low : (c : Tested) → start c .args .n < start c .args .sizes .nodes
@@ -80,7 +80,7 @@ module _ (t : ℕ) where
 
   -- the only tick
   only : (c : Tested) → c .only-tick .result ≡ true
-      → chosen (start c .args .mode) (nodeProcess (tb c) (start c .args .n)) (start c .args .c) .guards ≡ chosen Ticks (nodeProcess (tb c) (start c .args .n)) 0 .guards
+      → chosenIn (start c .args .mode) (nodeProcess (tb c) (start c .args .n)) (start c .args .c) .guards ≡ chosenIn Ticks (nodeProcess (tb c) (start c .args .n)) 0 .guards
   only c e =
       ap (λ (d : Derivation). d .guards)
       (only-first (start c .args .mode) (c .before .pair .result) (nodeProcess (tb c) (start c .args .n)) (start c .args .c) (sym (c .only-tick .ensures) ∙ e)
@@ -90,8 +90,8 @@ module _ (t : ℕ) where
   process c = reached-process (tb c) (start c .args .level) (start c .args .mode) (start c .args .n) (start c .args .c) (reached c)
 
   noted : (c : Tested) → c .only-tick .result ≡ true → (mid vs : List ℕ)
-      → Marked (tb c) (chosen (start c .args .mode) (nodeProcess (tb c) (start c .args .n)) (start c .args .c) .guards) (now (start c .args .marks)) mid → vs ≡ set mid (start c .args .n) 1
-      → Marked (tb c) (chosen (start c .args .mode) (nodeProcess (tb c) (start c .args .n)) (start c .args .c) .guards) (now (start c .args .marks)) vs
+      → Marked (tb c) (chosenIn (start c .args .mode) (nodeProcess (tb c) (start c .args .n)) (start c .args .c) .guards) (now (start c .args .marks)) mid → vs ≡ set mid (start c .args .n) 1
+      → Marked (tb c) (chosenIn (start c .args .mode) (nodeProcess (tb c) (start c .args .n)) (start c .args .c) .guards) (now (start c .args .marks)) vs
   noted c e mid vs m f =
       marked-same (only c e) (marked-after (tb c) (now (start c .args .marks)) (marks c) (start c .args .n) (process c) (low c) mid (marked-same (sym (only c e)) m) vs f)
 
@@ -146,12 +146,12 @@ module _ (t : ℕ) where
   abbrev ms : At → List ℕ
   ms c = now (begin c .args .marks)
 
-  abbrev kept : (c : At) → Marks (tab c) (ms c)
+  abbrev kept : (c : At) → WalkMarks (tab c) (ms c)
   kept c = begin c .pre .1 .1 .1
 
   -- the derivation that is walked to, and that of a node
   abbrev goal : At → Derivation
-  goal c = chosen (begin c .args .mode) (nodeProcess (tab c) (begin c .args .n)) (begin c .args .c)
+  goal c = chosenIn (begin c .args .mode) (nodeProcess (tab c) (begin c .args .n)) (begin c .args .c)
 
   abbrev Step : At → Turn → Type 0
   Step c r = Turned (tab c) (begin c .args .level) (begin c .args .mode) (begin c .args .n) (begin c .args .c) (goal c) r
@@ -318,7 +318,7 @@ module _ (t : ℕ) where
   walk-node-returns-8 c =
       let z = c .before .before .before .before .before .before .before .before in
       let e = step z _ (c .before .before .before .before .before .before .turn4 .given .1) in
-      let same = e .2 ∙ ap (λ (x : ℕ). chosen (begin z .args .mode) (nodeProcess (tab z) x) (begin z .args .c)) (sym (c .before .before .before .before .body-at .ensures)) in
+      let same = e .2 ∙ ap (λ (x : ℕ). chosenIn (begin z .args .mode) (nodeProcess (tab z) x) (begin z .args .c)) (sym (c .before .before .before .before .body-at .ensures)) in
       marked-same (ap (λ (d : Derivation). d .guards) same) (c .before .before .mark-node7 .ensures)
 
 pub +mark-node+walk-node-spec : {M : Type 1} → statement M

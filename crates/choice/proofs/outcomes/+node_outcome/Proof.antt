@@ -6,7 +6,7 @@ use Rattle.table.specs.Tables.{Table, table, bodyAt}
 use Rattle.table.specs.Sound.{Shaped}
 use Rattle.term.specs.Processes.{Derivation, nodeProcess}
 use Rattle.choice.specs.declared.Turn.{Turn}
-use Rattle.choice.specs.Chosen.{chosen}
+use Rattle.choice.specs.Chosen.{chosenIn}
 use Rattle.choice.specs.Turns.{Reached, Turned}
 use Rattle.choice.specs.Outcomes.{reach, most}
 use Rattle.choice.proofs.Turning.{collected-same}
@@ -53,7 +53,7 @@ module _ (t : ℕ) where
 
   -- the derivation that is walked to
   abbrev goal : At → Derivation
-  goal c = chosen (start c .args .mode) (nodeProcess (tb c) (start c .args .n)) (start c .args .c)
+  goal c = chosenIn (start c .args .mode) (nodeProcess (tb c) (start c .args .n)) (start c .args .c)
 
   abbrev Step : At → Turn → Type 0
   Step c r = Turned (tb c) (start c .args .level) (start c .args .mode) (start c .args .n) (start c .args .c) (goal c) r
@@ -142,7 +142,7 @@ module _ (t : ℕ) where
       let z = c .before .before .before .before in
       let v = c .before .before .turn .given .0 in
       let e = step z _ (c .before .before .turn .given .1) in
-      let d = chosen (start z .args .mode) (nodeProcess (tb z) (v .0)) (v .1 .0) in
+      let d = chosenIn (start z .args .mode) (nodeProcess (tb z) (v .0)) (v .1 .0) in
       tells-same (goal z) d (most (start z .args .level) (v .0)) (most (start z .args .level) (start z .args .n)) _ (c .node-outcome .ensures) (collected-same (tb z) (start z .args .level) (start z .args .n) (goal z) d (v .1 .1 .0) (e .2)) (omega (arith, e .0))
 
   returns-4 : node-outcome-lts.Need-returns-4 claims (node-outcome-at t) node-outcome.Post
@@ -162,7 +162,7 @@ module _ (t : ℕ) where
       let z = c .before .before .before .before .before in
       let e = step z _ (c .before .before .before .turn4 .given .1) in
       let f = c .before .body-at .ensures in
-      let same = e .2 ∙ ap (λ (x : ℕ). chosen (start z .args .mode) (nodeProcess (tb z) x) (start z .args .c)) (sym f) in
+      let same = e .2 ∙ ap (λ (x : ℕ). chosenIn (start z .args .mode) (nodeProcess (tb z) x) (start z .args .c)) (sym f) in
       tells-same (goal z) _ _ (most (start z .args .level) (start z .args .n)) _ (c .node-outcome4 .ensures) (ap (λ (x : Derivation). x .label) same, ap (λ (x : Derivation). x .leaving) same)
       (let b = body z _ _ f (e .0, e .1) in omega (arith, start z .pre .0))
 

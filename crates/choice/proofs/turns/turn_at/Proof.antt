@@ -8,12 +8,12 @@ use lib.ListN.{length}
 use Rattle.table.specs.Tables.{Table, table, kindAt, pAt, qAt}
 use Rattle.term.specs.Processes.{nodeProcess}
 use Rattle.accept.specs.declared.Counts.{Counts}
-use Rattle.accept.specs.Counts.{Small}
+use Rattle.accept.specs.Counts.{Capped}
 use Rattle.accept.specs.Scratch.{pairAt}
 use Rattle.choice.specs.declared.Side.the-variants.{Under}
 use Rattle.choice.specs.declared.Turn.{Turn}
 use Rattle.choice.specs.declared.Turn.the-variants.{On, Call}
-use Rattle.choice.specs.Chosen.{chosen}
+use Rattle.choice.specs.Chosen.{chosenIn}
 use Rattle.choice.specs.Picks.{actingOf, totalOf, pickOf}
 use Rattle.choice.specs.Turns.{pickTurn, choiceTurn, Turned}
 use Rattle.choice.proofs.Turning.{lower-nodes, lower-small, lower-room, turned-tick, turned-act, turned-seq, turned-par, turned-choice, turned-guarded, turned-call}
@@ -41,7 +41,7 @@ q-is : (c : At) → c .q-at .result ≡ qAt (tb c) (start c .args .n)
 q-is c = c .q-at .ensures .is
 
 abbrev Is : (c : At) → Turn → Type 0
-Is c r = Turned (tb c) (start c .args .level) (start c .args .mode) (start c .args .n) (start c .args .c) (chosen (start c .args .mode) (nodeProcess (tb c) (start c .args .n)) (start c .args .c)) r
+Is c r = Turned (tb c) (start c .args .level) (start c .args .mode) (start c .args .n) (start c .args .c) (chosenIn (start c .args .mode) (nodeProcess (tb c) (start c .args .n)) (start c .args .c)) r
 
 lower : (c : At) (k : ℕ) → kindAt (tb c) (start c .args .n) ≡ k → 5 ≤ k → k ≤ 8 → (pAt (tb c) (start c .args .n) < start c .args .n) × (qAt (tb c) (start c .args .n) < start c .args .n)
 lower c k e a b =
@@ -52,7 +52,7 @@ room c k x e h =
     let r = lower-room (tb c) (words c) (start c .pre .0) (start c .args .level) (start c .args .mode) (start c .args .n) (start c .args .c) (start c .pre .1) k h in
     omega arith
 
-small : (c : At) (k x : ℕ) (r : Counts) → r ≡ pairAt (words c) x → x ≡ k → k < start c .args .n → Small r
+small : (c : At) (k x : ℕ) (r : Counts) → r ≡ pairAt (words c) x → x ≡ k → k < start c .args .n → Capped r
 small c k x r f e h =
     rw (f ∙ ap (λ (i : ℕ). pairAt (words c) i) e)
     (lower-small (tb c) (words c) (start c .pre .0) (start c .args .level) (start c .args .mode) (start c .args .n) (start c .args .c) (start c .pre .1) k h)

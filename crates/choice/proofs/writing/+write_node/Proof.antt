@@ -10,7 +10,7 @@ use Rattle.term.specs.declared.Mode.the-variants.{Actions}
 use Rattle.term.specs.Terms.{Term, words}
 use Rattle.term.specs.Processes.{Derivation, nodeProcess}
 use Rattle.choice.specs.declared.Turn.{Turn}
-use Rattle.choice.specs.Chosen.{chosen}
+use Rattle.choice.specs.Chosen.{chosenIn}
 use Rattle.choice.specs.Turns.{Reached, Around, Turned}
 use Rattle.choice.specs.Outcomes.{reach}
 use Rattle.choice.specs.Writing.{Room}
@@ -59,7 +59,7 @@ module _ (t : ℕ) where
 
   -- the derivation that is walked to
   abbrev goal : At → Derivation
-  goal c = chosen (start c .args .mode) (nodeProcess (tb c) (start c .args .n)) (start c .args .c)
+  goal c = chosenIn (start c .args .mode) (nodeProcess (tb c) (start c .args .n)) (start c .args .c)
 
   abbrev Step : At → Turn → Type 0
   Step c r = Turned (tb c) (start c .args .level) (start c .args .mode) (start c .args .n) (start c .args .c) (goal c) r
@@ -80,10 +80,10 @@ module _ (t : ℕ) where
   one-word : (c : At) (w : ℕ) → words (goal c .leaving) ≡ w ∷ [] → start c .args .front + 1 ≤ start c .args .back
   one-word c w e = room-end (tb c) (start c .args .level) (start c .args .mode) (start c .args .n) (start c .args .c) (start c .args .front) (start c .args .back) (ws c) (room c) w e
 
-  between : (c : At) (k i : ℕ) (pre post : List ℕ) → Around (goal c) (chosen Actions (nodeProcess (tb c) k) i) pre post → start c .args .front + (length pre + length post) ≤ start c .args .back
-  between c k i pre post a = room-between (tb c) (start c .args .level) (start c .args .mode) (start c .args .n) (start c .args .c) (start c .args .front) (start c .args .back) (ws c) (room c) (chosen Actions (nodeProcess (tb c) k) i) pre post a
+  between : (c : At) (k i : ℕ) (pre post : List ℕ) → Around (goal c) (chosenIn Actions (nodeProcess (tb c) k) i) pre post → start c .args .front + (length pre + length post) ≤ start c .args .back
+  between c k i pre post a = room-between (tb c) (start c .args .level) (start c .args .mode) (start c .args .n) (start c .args .c) (start c .args .front) (start c .args .back) (ws c) (room c) (chosenIn Actions (nodeProcess (tb c) k) i) pre post a
 
-  around : (c : At) (k i : ℕ) (pre post : List ℕ) (vs : List ℕ) → Reached (tb c) (start c .args .level) Actions k i → Around (goal c) (chosen Actions (nodeProcess (tb c) k) i) pre post → length vs ≡ length (ws c)
+  around : (c : At) (k i : ℕ) (pre post : List ℕ) (vs : List ℕ) → Reached (tb c) (start c .args .level) Actions k i → Around (goal c) (chosenIn Actions (nodeProcess (tb c) k) i) pre post → length vs ≡ length (ws c)
       → (f b : ℕ) → f ≡ start c .args .front + length pre → b + length post ≡ start c .args .back → Room (tb c) (start c .args .level) Actions k i f b vs
   around c k i pre post vs r a h = room-around (tb c) (start c .args .level) (start c .args .mode) (start c .args .n) (start c .args .c) (start c .args .front) (start c .args .back) (ws c) (room c) Actions k i pre post vs r a h
 
@@ -134,7 +134,7 @@ module _ (t : ℕ) where
       let z = c .before .before .before .before in
       let v = c .before .before .turn .given .0 in
       let e = step z _ (c .before .before .turn .given .1) in
-      let d = chosen (start z .args .mode) (nodeProcess (tb z) (v .0)) (v .1 .0) in (
+      let d = chosenIn (start z .args .mode) (nodeProcess (tb z) (v .0)) (v .1 .0) in (
         omega (arith, e .0, start z .pre .0),
         (
           start z .pre .1 .0,
@@ -241,7 +241,7 @@ module _ (t : ℕ) where
       let z = c .before .before .before .before .before .before .before in
       let v = c .before .before .before .before .before .turn .given .0 in
       let e = step z _ (c .before .before .before .before .before .turn .given .1) in
-      let d = chosen (start z .args .mode) (nodeProcess (tb z) (v .0)) (v .1 .0) in
+      let d = chosenIn (start z .args .mode) (nodeProcess (tb z) (v .0)) (v .1 .0) in
       written-same (ap (λ (T : Term). words T) (collected-same (tb z) (start z .args .level) (start z .args .n) (goal z) d (v .1 .1 .0) (e .2) .1)) (c .before .before .write-node .ensures)
 
   same-length-4 : write-node-lts.Need-same-length-4 claims (write-node-at t) write-node.Post
@@ -271,7 +271,7 @@ module _ (t : ℕ) where
   returns-6 c =
       let z = c .before .before .before .before .before .before .before .before in
       let e = step z _ (c .before .before .before .before .before .before .turn4 .given .1) in
-      let same = e .2 ∙ ap (λ (x : ℕ). chosen (start z .args .mode) (nodeProcess (tb z) x) (start z .args .c)) (sym (c .before .before .before .before .body-at .ensures)) in
+      let same = e .2 ∙ ap (λ (x : ℕ). chosenIn (start z .args .mode) (nodeProcess (tb z) x) (start z .args .c)) (sym (c .before .before .before .before .body-at .ensures)) in
       written-same (ap (λ (x : Derivation). words (x .leaving)) same) (c .before .before .write-node4 .ensures)
 
 pub +write-node-spec : {M : Type 1} → statement M

@@ -28,13 +28,13 @@ value-of-requires c κs = search needs
 value-of-requires-2 : tie.Need-value-of-requires-2
 value-of-requires-2 c κs = search needs
 
-compare-requires : tie.Need-compare-requires
-compare-requires c κs = search needs
+compare-values-requires : tie.Need-compare-values-requires
+compare-values-requires c κs = search needs
 
 returns-3 : tie.Need-returns-3
 unfolding truthStep
 returns-3 c =
-    rw (ne-eqb _ _ (c .before .before .before .before .before .before .if1 .left), lt-ltb _ _ (c .before .before .before .before .before .if2 .left), ← c .before .before .before .before .p-at .ensures .is, ← c .before .before .before .q-at .ensures .is, ← c .before .before .value-of .ensures, ← c .before .value-of2 .ensures) (c .compare .ensures)
+    rw (ne-eqb _ _ (c .before .before .before .before .before .before .if1 .left), lt-ltb _ _ (c .before .before .before .before .before .if2 .left), ← c .before .before .before .before .p-at .ensures .is, ← c .before .before .before .q-at .ensures .is, ← c .before .before .value-of .ensures, ← c .before .value-of2 .ensures) (c .compare-values .ensures)
 
 pub atom-spec : {M : Type 1} → statement M
 atom-spec =
@@ -47,5 +47,5 @@ atom-spec =
     q-at-requires
     value-of-requires
     value-of-requires-2
-    compare-requires
+    compare-values-requires
     returns-3)

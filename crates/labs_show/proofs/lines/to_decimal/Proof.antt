@@ -6,15 +6,15 @@ use mathlib.Core.Path.{_≡_, ap}
 use native.Mathlib.Omega.{arith}
 use borrow.Author.Needs.{needs}
 use borrow.Author.Tests.{lt-ltb, le-ltb}
-use Rattle.value.specs.Values.{signed}
+use Rattle.value.specs.Values.{signedOf}
 use Rattle.labs_show.specs.Lines.{decimalOf}
 use Rattle.labs_show.proofs.lines.to_decimal.Statement.{statement}
 use Rattle.labs_show.proofs.lines.to_decimal.Tie as tie
 
-low : (w : ℕ) → w < 2147483648 → record { minus = false; size = w } ≡ decimalOf (signed w)
+low : (w : ℕ) → w < 2147483648 → record { minus = false; size = w } ≡ decimalOf (signedOf w)
 low w h = simp (lt-ltb w (2 ^ 31) h)
 
-high : (w : ℕ) → 2147483648 ≤ w → w < 4294967296 → record { minus = true; size = 4294967295 - w + 1 } ≡ decimalOf (signed w)
+high : (w : ℕ) → 2147483648 ≤ w → w < 4294967296 → record { minus = true; size = 4294967295 - w + 1 } ≡ decimalOf (signedOf w)
 high w l h = simp (le-ltb w (2 ^ 31) l) (ap (λ (n : ℕ). record { minus = true; size = n }) (omega arith))
 
 sub-t4 : tie.Need-sub-t4

@@ -12,8 +12,8 @@ use borrow.Author.Needs.{needs}
 use Rattle.table.specs.Tables.{Table, table}
 use Rattle.steps.specs.Runs.{stepsOf, begun, ran}
 use Rattle.machine.specs.declared.Totals.{Totals}
-use Rattle.machine.specs.Answers.{Goes}
-use Rattle.machine.specs.Running.{added}
+use Rattle.machine.specs.Answers.{Reports}
+use Rattle.machine.specs.Running.{tallied}
 use Rattle.machine.proofs.Going.{Halfway, none-done, taken-few, next-done, within-more}
 use Rattle.machine.proofs.running.run_steps.Statement.{statement}
 use Rattle.machine.proofs.running.run_steps.Tie as tie
@@ -95,7 +95,7 @@ loop-again c =
     let n = next-done (T a) (schedule a) (was a) (bytes a) i (c .before .before .before .before .before .before .before .loop .state) out (c .before .before .before .before .before .before .before .loop .totals) (h .0) (c .before .before .before .before .step-at .result) left (c .before .before .before .before .step-at .ensures)
     (a .pre .0 .checked .sound) (narrow a (c .before .before .before .before .before .before .before .before .before .before .before .before .before .shared-slice-known2 .given)) l in (
       subst (λ (d : Totals). Halfway (T a) (schedule a) (was a) (bytes a) (i + 1) left (set out i (c .before .answer-byte .result)) d) (sym (c .add .ensures))
-          (subst (λ (w : ℕ). Halfway (T a) (schedule a) (was a) (bytes a) (i + 1) left (set out i w) (added (c .before .before .before .before .before .before .before .loop .totals) (c .before .before .before .before .step-at .result))) (sym (c .before .answer-byte .ensures)) n),
+          (subst (λ (w : ℕ). Halfway (T a) (schedule a) (was a) (bytes a) (i + 1) left (set out i w) (tallied (c .before .before .before .before .before .before .before .loop .totals) (c .before .before .before .before .step-at .result))) (sym (c .before .answer-byte .ensures)) n),
       omega arith,
     )
 
@@ -111,7 +111,7 @@ returns c =
     let h = c .before .loop .inv in
     let u : c .before .before .u16-at .result ≡ stepsOf (schedule a) = c .before .before .u16-at .ensures .is in
     let e : c .before .loop .i ≡ stepsOf (schedule a) = omega arith in
-    subst (λ (i : ℕ). Goes (ran (T a) (schedule a) i (begun (was a) (bytes a))) (c .before .loop .totals) (c .before .loop .state) (c .before .loop .answers)) e (h .0 .goes)
+    subst (λ (i : ℕ). Reports (ran (T a) (schedule a) i (begun (was a) (bytes a))) (c .before .loop .totals) (c .before .loop .state) (c .before .loop .answers)) e (h .0 .goes)
 
 pub run-steps-spec : {M : Type 1} → statement M
 run-steps-spec =

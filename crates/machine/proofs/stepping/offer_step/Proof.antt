@@ -31,7 +31,7 @@ waits a e f = ap (λ (w : ℕ). has w (a .args .key)) (sym e) ∙ sym f
 
 -- an offer that asks, or does not
 abbrev Steps-as : tie.Start → Bool → Stepped → List ℕ → Type 0
-Steps-as a asks r left = Steps (ownStep (T a) (was a) (offerKind asks) (a .args .agent) (a .args .key)) r left
+Steps-as a confirming r left = Steps (ownStep (T a) (was a) (offerKind confirming) (a .args .agent) (a .args .key)) r left
 
 pending-requires : tie.Need-pending-requires
 pending-requires c κs = search needs
@@ -56,12 +56,12 @@ same-length-2 c = search needs
 returns-2 : tie.Need-returns-2
 returns-2 c =
     let a = c .before .before .before .before .before .before .before .before .before .before .before .before in
-    let asks = c .before .before .before .before .if2 .taken in
+    let confirming = c .before .before .before .before .if2 .taken in
     let w = waits a (c .before .before .before .before .before .before .before .pending .ensures) (c .before .before .before .before .before .before .has .ensures) ∙ not-false (c .before .before .before .before .before .before .has .result) (c .before .before .before .before .before .if1 .left) in
     let p = c .before .before .confirm .ensures in
-    subst (λ (b : Bool). Steps-as a b (Done (c .before .before .confirm .result)) (c .before .before .confirm .last .1 .1 .1 .0)) (sym asks)
+    subst (λ (b : Bool). Steps-as a b (Done (c .before .before .confirm .result)) (c .before .before .confirm .last .1 .1 .1 .0)) (sym confirming)
     (confirm-done (T a) (was a) (a .args .agent) (a .args .key)
-    (subst (λ (b : Bool). has (cond b (zcOf (was a) (a .args .agent)) (zpOf (was a) (a .args .agent))) (a .args .key) ≡ true) asks w) (p .answer) (p .state))
+    (subst (λ (b : Bool). has (cond b (zcOf (was a) (a .args .agent)) (zpOf (was a) (a .args .agent))) (a .args .key) ≡ true) confirming w) (p .answer) (p .state))
 
 propagate-requires : tie.Need-propagate-requires
 propagate-requires c κs = search needs
@@ -72,12 +72,12 @@ same-length-3 c = search needs
 returns-3 : tie.Need-returns-3
 returns-3 c =
     let a = c .before .before .before .before .before .before .before .before .before .before .before .before in
-    let asks = c .before .before .before .before .if2 .left in
+    let confirming = c .before .before .before .before .if2 .left in
     let w = waits a (c .before .before .before .before .before .before .before .pending .ensures) (c .before .before .before .before .before .before .has .ensures) ∙ not-false (c .before .before .before .before .before .before .has .result) (c .before .before .before .before .before .if1 .left) in
     let p = c .before .before .propagate .ensures in
-    subst (λ (b : Bool). Steps-as a b (Done (c .before .before .propagate .result)) (c .before .before .propagate .last .1 .1 .1 .0)) (sym asks)
+    subst (λ (b : Bool). Steps-as a b (Done (c .before .before .propagate .result)) (c .before .before .propagate .last .1 .1 .1 .0)) (sym confirming)
     (propagate-done (T a) (was a) (a .args .agent) (a .args .key)
-    (subst (λ (b : Bool). has (cond b (zcOf (was a) (a .args .agent)) (zpOf (was a) (a .args .agent))) (a .args .key) ≡ true) asks w) (p .answer) (p .state))
+    (subst (λ (b : Bool). has (cond b (zcOf (was a) (a .args .agent)) (zpOf (was a) (a .args .agent))) (a .args .key) ≡ true) confirming w) (p .answer) (p .state))
 
 pub offer-step-spec : {M : Type 1} → statement M
 offer-step-spec =

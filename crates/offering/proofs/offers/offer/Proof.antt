@@ -1,11 +1,11 @@
--- `offer` meets its contract: whether the other hears it, and the two stamps, pick the case. Assumes nothing.
+-- `offer` meets its contract: whether the other is linked, and the two stamps, pick the case. Assumes nothing.
 use mathlib.Core.Bool.{true}
 use mathlib.Core.Path.{_≡_, sym, _∙_}
 use native.Mathlib.Omega.{arith}
 use denote.Ref.{now}
 use Rattle.table.specs.Tables.{table}
-use Rattle.steps.specs.Offers.{hears}
-use Rattle.offering.proofs.Turns.{unheard, taken, answered, level, unasked}
+use Rattle.steps.specs.Offers.{linked}
+use Rattle.offering.proofs.Turns.{unlinked, taken, holds-newer, level, not-confirming}
 use borrow.Author.Tests.{not-true, not-false}
 use borrow.Author.Needs.{needs}
 use Rattle.offering.proofs.offers.offer.Statement.{statement}
@@ -14,17 +14,17 @@ use Rattle.offering.proofs.offers.offer.Tie as tie
 abbrev start : tie.Else1 → tie.Start
 start c = c .before .before .before .before .before .before
 
-heard : (c : tie.Else1) → hears (table (start c .args .sizes) (now (start c .args .kinds)) (now (start c .args .operands))) (now (start c .args .state)) (start c .args .agent) (start c .args .key) (start c .args .other) ≡ true
-heard c = sym (c .before .hears .ensures) ∙ not-false _ (c .if1 .left)
+is-linked : (c : tie.Else1) → linked (table (start c .args .sizes) (now (start c .args .kinds)) (now (start c .args .operands))) (now (start c .args .state)) (start c .args .agent) (start c .args .key) (start c .args .other) ≡ true
+is-linked c = sym (c .before .linked .ensures) ∙ not-false _ (c .if1 .left)
 
-hears-requires : tie.Need-hears-requires
-hears-requires c κs = search needs
+linked-requires : tie.Need-linked-requires
+linked-requires c κs = search needs
 
 same-length : tie.Need-same-length
 same-length c = search needs
 
 returns : tie.Need-returns
-returns c = unheard _ _ _ _ _ _ (sym (c .before .hears .ensures) ∙ not-true _ (c .if1 .taken))
+returns c = unlinked _ _ _ _ _ _ (sym (c .before .linked .ensures) ∙ not-true _ (c .if1 .taken))
 
 stamp-of-requires : tie.Need-stamp-of-requires
 stamp-of-requires c κs = search needs
@@ -45,7 +45,7 @@ returns-2 : tie.Need-returns-2
 returns-2 c =
     let second = c .before .before .before .before .before .before .before in
     let first = second .before .before in
-    taken _ _ _ _ _ _ (heard (first .before .before)) _ _ (first .stamp-of .ensures) (second .stamp-of2 .ensures)
+    taken _ _ _ _ _ _ (is-linked (first .before .before)) _ _ (first .stamp-of .ensures) (second .stamp-of2 .ensures)
     (omega (arith, c .before .before .before .before .before .before .if2 .taken)) _ (c .before .before .before .before .word-of .ensures) _ (c .before .before .take-entry .ensures)
 
 zp-at-requires : tie.Need-zp-at-requires
@@ -61,7 +61,7 @@ returns-3 : tie.Need-returns-3
 returns-3 c =
     let second = c .before .before .before .before .before .before .before .before in
     let first = second .before .before in
-    answered _ _ _ _ _ _ (heard (first .before .before)) _ _ (first .stamp-of .ensures) (second .stamp-of2 .ensures)
+    holds-newer _ _ _ _ _ _ (is-linked (first .before .before)) _ _ (first .stamp-of .ensures) (second .stamp-of2 .ensures)
     (c .before .before .before .before .before .before .if3 .taken) (omega (arith, c .before .before .before .before .before .if4 .taken)) _ (c .before .before .before .zp-at .ensures .is) _ (c .before .before .add-key .ensures)
 
 same-length-4 : tie.Need-same-length-4
@@ -71,7 +71,7 @@ returns-4 : tie.Need-returns-4
 returns-4 c =
     let second = c .before .before .before in
     let first = second .before .before in
-    level _ _ _ _ _ _ (heard (first .before .before)) _ _ (first .stamp-of .ensures) (second .stamp-of2 .ensures)
+    level _ _ _ _ _ _ (is-linked (first .before .before)) _ _ (first .stamp-of .ensures) (second .stamp-of2 .ensures)
     (omega (arith, c .before .before .if2 .left)) (omega (arith, c .if4 .left))
 
 same-length-5 : tie.Need-same-length-5
@@ -81,14 +81,14 @@ returns-5 : tie.Need-returns-5
 returns-5 c =
     let second = c .before .before in
     let first = second .before .before in
-    unasked _ _ _ _ _ _ (heard (first .before .before)) _ _ (first .stamp-of .ensures) (second .stamp-of2 .ensures)
+    not-confirming _ _ _ _ _ _ (is-linked (first .before .before)) _ _ (first .stamp-of .ensures) (second .stamp-of2 .ensures)
     (c .if3 .left) (omega (arith, c .before .if2 .left))
 
 pub offer-spec : {M : Type 1} → statement M
 offer-spec =
     tie.close
     (tie.spec
-    hears-requires
+    linked-requires
     same-length
     returns
     stamp-of-requires

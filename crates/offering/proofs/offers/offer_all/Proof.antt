@@ -16,10 +16,10 @@ use Rattle.offering.proofs.offers.offer_all.Statement.{statement}
 use Rattle.offering.proofs.offers.offer_all.Tie as tie
 
 abbrev Inv-loop : tie.InvT-loop
-Inv-loop sizes kinds operands state₀ agent key asks taken₀ other₀ state taken other = (other ≤ sizes .agents) × Passed (takers (table sizes kinds operands) state₀ agent key other) (offered (table sizes kinds operands) state₀ agent key asks other) taken state
+Inv-loop sizes kinds operands state₀ agent key confirming taken₀ other₀ state taken other = (other ≤ sizes .agents) × Passed (takers (table sizes kinds operands) state₀ agent key other) (offered (table sizes kinds operands) state₀ agent key confirming other) taken state
 
 abbrev μ-loop : tie.MeasureT-loop
-μ-loop sizes kinds operands state₀ agent key asks taken₀ other₀ state taken other = sizes .agents - other
+μ-loop sizes kinds operands state₀ agent key confirming taken₀ other₀ state taken other = sizes .agents - other
 
 -- the words are still as many
 whole : (c : tie.At-loop Inv-loop μ-loop) → length (c .loop .state) ≡ stateWords

@@ -7,8 +7,8 @@ use lib.ListN.{length}
 use Rattle.table.specs.Tables.{Table, table}
 use Rattle.term.specs.Terms.{Term}
 use Rattle.term.specs.Processes.{Derivation}
-use Rattle.choice.specs.Turns.{Ready}
-use Rattle.choice.specs.Marking.{Marks}
+use Rattle.choice.specs.Turns.{Prepared}
+use Rattle.choice.specs.Marking.{WalkMarks}
 use Rattle.choice.proofs.Collecting.{marked-none, marked-join, marked-same}
 use Rattle.residual.specs.declared.Step.{Step}
 use Rattle.residual.specs.Steps.{Stepped, Stands}
@@ -53,7 +53,7 @@ module _ (t : ℕ) where
   abbrev ms : At → List ℕ
   ms c = now (start c .args .marks)
 
-  abbrev ready : (c : At) → Ready (tb c) (now (start c .args .scratch))
+  abbrev ready : (c : At) → Prepared (tb c) (now (start c .args .scratch))
   ready c = start c .pre .1 .0
 
   abbrev StandsAt : At → Term → Type 0
@@ -63,7 +63,7 @@ module _ (t : ℕ) where
   abbrev some : (c : At) → (T : Term) × StandsAt c T
   some c = start c .pre .1 .1 .1 .0
 
-  abbrev kept : (c : At) → Marks (tb c) (ms c)
+  abbrev kept : (c : At) → WalkMarks (tb c) (ms c)
   kept c = start c .pre .1 .1 .1 .1
 
   abbrev StepAt : At → Term → Step → Type 0

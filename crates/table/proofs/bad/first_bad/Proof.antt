@@ -11,7 +11,7 @@ use borrow.Author.Count.{below-more}
 use borrow.Author.Tests.{not-true, not-false}
 use Rattle.basis.proofs.Numbers.{lowest-at, lowest-none}
 use Rattle.table.specs.Tables.{Table, pAt, qAt, table}
-use Rattle.table.specs.Marks.{Shows, Marks}
+use Rattle.table.specs.Marks.{Shows, TwoMarks}
 use Rattle.table.specs.Nodes.{fitting, leftNode, rightNode, named, badNode}
 use Rattle.table.proofs.Marking.{marks-length, marks-found, marks-inside}
 use Rattle.table.proofs.Naming.{named-none, bad-unfit, bad-is, shows-more}
@@ -47,7 +47,7 @@ turn c =
     let r = c .mark-both .result in
     let good : fitting t i ≡ true = sym (k .ensures .fitting) ∙ not-false (k .result .fitting) (c .before .before .before .before .if1 .left) in
     let m =
-    subst (λ (x : ℕ). Marks (l .marks) after (ltb i x && leftNode t i) (pAt t i) (ltb i x && rightNode t i) (qAt t i) r) (f .ensures)
+    subst (λ (x : ℕ). TwoMarks (l .marks) after (ltb i x && leftNode t i) (pAt t i) (ltb i x && rightNode t i) (qAt t i) r) (f .ensures)
     (marks-found t (ltb i (f .result)) (l .marks) (k .ensures) (c .mark-both .ensures)) in
     let long : t .sizes .nodes ≤ length (l .marks) = omega arith in
     let small : i < t .sizes .nodes = omega arith in (

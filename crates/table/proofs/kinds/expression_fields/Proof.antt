@@ -1,48 +1,48 @@
 -- `table::kinds::expression_fields` meets its contract: the kind picks the row.
 -- Assumes nothing.
 use borrow.Author.Tests.{ne-eqb}
-use Rattle.table.specs.Nodes.{expressionRows, lookup}
+use Rattle.table.specs.Nodes.{expressionRows, rowOf}
 use Rattle.table.proofs.kinds.expression_fields.Statement.{statement}
 use Rattle.table.proofs.kinds.expression_fields.Tie as tie
 
 returns : tie.Need-returns
-unfolding expressionRows lookup
+unfolding expressionRows rowOf
 returns c = rw (c .match .keys1)
 
 returns-2 : tie.Need-returns-2
-unfolding expressionRows lookup
+unfolding expressionRows rowOf
 returns-2 c = rw (c .match .keys2)
 
 returns-3 : tie.Need-returns-3
-unfolding expressionRows lookup
+unfolding expressionRows rowOf
 returns-3 c = rw (c .match .keys3)
 
 returns-4 : tie.Need-returns-4
-unfolding expressionRows lookup
+unfolding expressionRows rowOf
 returns-4 c = rw (c .match .keys4)
 
 returns-5 : tie.Need-returns-5
-unfolding expressionRows lookup
+unfolding expressionRows rowOf
 returns-5 c = rw (c .match .keys5)
 
 returns-6 : tie.Need-returns-6
-unfolding expressionRows lookup
+unfolding expressionRows rowOf
 returns-6 c = rw (c .match .keys6)
 
 returns-7 : tie.Need-returns-7
-unfolding expressionRows lookup
+unfolding expressionRows rowOf
 returns-7 c = rw (c .match .keys7)
 
 returns-8 : tie.Need-returns-8
-unfolding expressionRows lookup
+unfolding expressionRows rowOf
 returns-8 c = rw (c .match .keys8)
 
 returns-9 : tie.Need-returns-9
-unfolding expressionRows lookup
+unfolding expressionRows rowOf
 returns-9 c = rw (c .match .keys9)
 
 returns-10 : tie.Need-returns-10
-unfolding expressionRows lookup
+unfolding expressionRows rowOf
 returns-10 c =
     let r = c .match .rest in
     simp (

@@ -11,7 +11,7 @@ use native.Mathlib.Omega.{arith}
 use lib.ListN.{length}
 use Rattle.basis.specs.Numbers.{howMany}
 use Rattle.basis.proofs.Numbers.{howMany-more, howMany-bound, howMany-none}
-use Rattle.choice.specs.Marking.{isMarked}
+use Rattle.choice.specs.Marking.{hasMark}
 use Rattle.tables.specs.Guards.{markedGuard}
 use Rattle.tables.proofs.choices.marked_guards.Statement.{statement}
 use Rattle.tables.proofs.choices.marked_guards.Tie as tie
@@ -63,7 +63,7 @@ loop-again : tie.Need-loop-again Inv-loop μ-loop
 loop-again c =
     let a = c .before .before .before .before .before .before .before .before .args in
     let l = c .before .before .before .before .before .loop in
-    let g = ap (λ (x : Bool). x && isMarked (now (a .marks)) (l .i)) (sym (c .before .before .is-guard .ensures)) in (
+    let g = ap (λ (x : Bool). x && hasMark (now (a .marks)) (l .i)) (sym (c .before .before .is-guard .ensures)) in (
       omega arith,
       ⊎-elim (λ t. counted (now (a .kinds)) (now (a .marks)) (l .i) (l .inv .1) (g ∙ t .0 .taken) (t .1)) (λ t. passed (now (a .kinds)) (now (a .marks)) (l .i) (l .inv .1) (g ∙ t .0 .left) (t .1)) (c .if1 .came),
     )

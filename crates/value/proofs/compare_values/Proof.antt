@@ -1,8 +1,8 @@
--- `value::compare` meets its contract: both values are present, or nothing is defined.
+-- `value::compare_values` meets its contract: both values are present, or nothing is defined.
 -- Assumes nothing.
 use borrow.Author.Needs.{needs}
-use Rattle.value.proofs.compare.Statement.{statement}
-use Rattle.value.proofs.compare.Tie as tie
+use Rattle.value.proofs.compare_values.Statement.{statement}
+use Rattle.value.proofs.compare_values.Tie as tie
 
 enum-known-a : tie.Need-enum-known-a
 enum-known-a c = search needs
@@ -28,8 +28,8 @@ test-requires c κs = search needs
 returns-3 : tie.Need-returns-3
 returns-3 c = rw (c .before .before .before .before .before .a .given .1, c .before .before .b .given .1, c .test .ensures)
 
-pub compare-spec : {M : Type 1} → statement M
-compare-spec =
+pub compare-values-spec : {M : Type 1} → statement M
+compare-values-spec =
     tie.close
     (tie.spec
     enum-known-a
