@@ -17,7 +17,7 @@ use Rattle.table.specs.declared.Measured.the-variants.{Fine as MeasuredFine, Re
 use Rattle.table.specs.Checks.{Check, passes, refuses, refuseAt, firstOf}
 use Rattle.table.specs.Tables.{Table, table, sizesOf, tableOf, kindsOf, operandsOf}
 use Rattle.table.specs.Measuring.{measuredCheck, sizeChecks, Measure}
-use Rattle.table.proofs.Checks.{first-later, first-refuses, append-later, append-refuses, refuseIf-true, refuseIf-false, refuseAt-below, refuseAt-past}
+use Rattle.table.proofs.Checks.{first-later, first-refuses, append-later, append-refuses, refuseAt-below, refuseAt-past}
 use Rattle.table.proofs.Limits.{kinds-part}
 use Rattle.term.specs.Exposure.{badCall}
 use Rattle.term.specs.Acceptance.{stateWords, contentChecks, lentCheck}
@@ -73,13 +73,13 @@ module _ (bytes : List ℕ) (stateLength scratchLength : ℕ) where
   short = not (eqb stateLength stateWords) || ltb scratchLength (2 * sizesOf bytes .nodes)
 
   pub lent-state : (stateLength ≡ stateWords → ⊥) → lentCheck bytes stateLength scratchLength ≡ refuses 8 0
-  lent-state h = refuseIf-true 8 short (rw (ne-eqb stateLength stateWords h))
+  lent-state h = (rw (ne-eqb stateLength stateWords h))
 
   pub lent-short : stateLength ≡ stateWords → scratchLength < 2 * sizesOf bytes .nodes → lentCheck bytes stateLength scratchLength ≡ refuses 8 0
-  lent-short e h = refuseIf-true 8 short (rw (eq-eqb stateLength stateWords e, lt-ltb scratchLength (2 * sizesOf bytes .nodes) h))
+  lent-short e h = (rw (eq-eqb stateLength stateWords e, lt-ltb scratchLength (2 * sizesOf bytes .nodes) h))
 
   pub lent-enough : stateLength ≡ stateWords → 2 * sizesOf bytes .nodes ≤ scratchLength → lentCheck bytes stateLength scratchLength ≡ passes
-  lent-enough e h = refuseIf-false 8 short (rw (eq-eqb stateLength stateWords e, le-ltb scratchLength (2 * sizesOf bytes .nodes) h))
+  lent-enough e h = (rw (eq-eqb stateLength stateWords e, le-ltb scratchLength (2 * sizesOf bytes .nodes) h))
 
 -- 1 to 3
 module _ {bytes : List ℕ} {m : Measured} (measured : Measure bytes m) where

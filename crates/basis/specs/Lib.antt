@@ -3,3 +3,4 @@ pub mod Numbers
 pub mod Bytes
 pub mod Read
 pub mod KeySets
+pub mod Kinds

@@ -6,7 +6,7 @@ use mathlib.Core.Path.{_≡_, refl, sym, ap, _∙_}
 use mathlib.Core.List.{List, [], _∷_}
 use lib.Dec.{leb, ltb}
 use Rattle.value.specs.declared.Value.the-variants.{Absent, Present}
-use Rattle.table.proofs.Checks.{test-refuses, test-later, none-passes}
+use Rattle.table.proofs.Checks.{first-refuses, first-later, none-passes}
 use Rattle.table.specs.Checks.{Check, refuseIf, firstOf}
 use Rattle.table.specs.Tables.{Table}
 use Rattle.term.specs.Processes.{Label, ticks, acts}
@@ -19,7 +19,7 @@ use Rattle.judging.specs.Outcomes.{refusedBy, allowed, doesOf, wordFor, 
 module _ (t : Table) (was : List ℕ) (x : ℕ) (label : Label) (size : ℕ) where
   -- 15
   ends-absent : lacksValue t was x label ≡ true → (r : Judgement) → r ≡ refusedBy 15 → r ≡ ended t was x label size
-  ends-absent e r f = f ∙ sym (ap (found t was x label) (test-refuses 15 (lacksValue t was x label) _ e))
+  ends-absent e r f = f ∙ sym (ap (found t was x label) (first-refuses (refuseIf 15 (lacksValue t was x label)) _ e))
 
   module _ (present : lacksValue t was x label ≡ false) where
     abbrev long : List Check
@@ -30,7 +30,7 @@ module _ (t : Table) (was : List ℕ) (x : ℕ) (label : Label) (size : ℕ) whe
 
     -- 16
     ends-full : full ≡ true → (r : Judgement) → r ≡ refusedBy 16 → r ≡ ended t was x label size
-    ends-full e r f = f ∙ sym (ap (found t was x label) (test-later 15 (lacksValue t was x label) (refuseIf 16 full ∷ long) present ∙ test-refuses 16 full long e))
+    ends-full e r f = f ∙ sym (ap (found t was x label) (first-later (refuseIf 15 (lacksValue t was x label)) (refuseIf 16 full ∷ long) present ∙ first-refuses (refuseIf 16 full) long e))
 
     -- 17, or nothing
     ends-sized : full ≡ false → (r : Judgement) → r ≡ sized (doesOf label) (wordFor t was x label) size → r ≡ ended t was x label size
@@ -38,11 +38,11 @@ module _ (t : Table) (was : List ℕ) (x : ℕ) (label : Label) (size : ℕ) whe
     ends-sized e r f = f ∙ by (ltb residualWords size) refl
       where
         last : firstOf (lastChecks t was x label size) ≡ firstOf long
-        last = test-later 15 (lacksValue t was x label) (refuseIf 16 full ∷ long) present ∙ test-later 16 full long e
+        last = first-later (refuseIf 15 (lacksValue t was x label)) (refuseIf 16 full ∷ long) present ∙ first-later (refuseIf 16 full) long e
 
         by : (b : Bool) → ltb residualWords size ≡ b → cond b (refusedBy 17) (allowed (doesOf label) (wordFor t was x label)) ≡ ended t was x label size
-        by true d = sym (ap (found t was x label) (last ∙ test-refuses 17 (ltb residualWords size) [] d))
-        by false d = sym (ap (found t was x label) (last ∙ test-later 17 (ltb residualWords size) [] d ∙ none-passes))
+        by true d = sym (ap (found t was x label) (last ∙ first-refuses (refuseIf 17 (ltb residualWords size)) [] d))
+        by false d = sym (ap (found t was x label) (last ∙ first-later (refuseIf 17 (ltb residualWords size)) [] d ∙ none-passes))
 
 module _ (t : Table) (was : List ℕ) (x : ℕ) where
   -- a tick

@@ -8,7 +8,7 @@ use native.Mathlib.Omega.{arith}
 use lib.Dec.{eqb, leb, ltb}
 use lib.ListN.{length}
 use borrow.Author.Tests.{ne-eqb, le-leb, lt-leb}
-use Rattle.table.proofs.Checks.{refuseIf-true, test-refuses, test-later}
+use Rattle.table.proofs.Checks.{first-refuses, first-later}
 use Rattle.table.specs.Checks.{Check, passes, refuses, refuseIf, firstOf, numberOf, refusalCheck}
 use Rattle.table.specs.Tables.{Table}
 use Rattle.term.specs.Terms.{words}
@@ -50,28 +50,28 @@ module _ (t : Table) (was : List ℕ) (x c : ℕ) where
       }
 
   pub judges-11 : not (eqb (zcOf was x) 0 && eqb (zpOf was x) 0) ≡ true → (marks : List ℕ) (r : Judgement) → r ≡ refusedBy 11 → Judges t was x c marks r
-  judges-11 e = judges-refused 11 (test-refuses 11 (not idle) from12 e)
+  judges-11 e = judges-refused 11 (first-refuses (refuseIf 11 (not idle)) from12 e)
 
   module _ (confirmed : zcOf was x ≡ 0) (propagated : zpOf was x ≡ 0) where
     past-11 : firstOf (actChecks t was x c) ≡ firstOf from12
-    past-11 = test-later 11 (not idle) from12 (rw (confirmed, propagated))
+    past-11 = first-later (refuseIf 11 (not idle)) from12 (rw (confirmed, propagated))
 
     pub judges-12 : allFew t (termIn was x) ≡ false → (marks : List ℕ) (r : Judgement) → r ≡ refusedBy 12 → Judges t was x c marks r
-    judges-12 e = judges-refused 12 (past-11 ∙ test-refuses 12 (not (allFew t (termIn was x))) from13 (ap not e))
+    judges-12 e = judges-refused 12 (past-11 ∙ first-refuses (refuseIf 12 (not (allFew t (termIn was x)))) from13 (ap not e))
 
     module _ (few : allFew t (termIn was x) ≡ true) where
       past-12 : firstOf (actChecks t was x c) ≡ firstOf from13
-      past-12 = past-11 ∙ test-later 12 (not (allFew t (termIn was x))) from13 (ap not few)
+      past-12 = past-11 ∙ first-later (refuseIf 12 (not (allFew t (termIn was x)))) from13 (ap not few)
 
       pub judges-13 : length (choices t was x) ≤ c → (marks : List ℕ) (r : Judgement) → r ≡ refusedBy 13 → Judges t was x c marks r
-      judges-13 h = judges-refused 13 (past-12 ∙ test-refuses 13 (leb (length (choices t was x)) c) from14 (le-leb (length (choices t was x)) c h))
+      judges-13 h = judges-refused 13 (past-12 ∙ first-refuses (refuseIf 13 (leb (length (choices t was x)) c)) from14 (le-leb (length (choices t was x)) c h))
 
       module _ (there : c < length (choices t was x)) where
         past-13 : firstOf (actChecks t was x c) ≡ firstOf from14
-        past-13 = past-12 ∙ test-later 13 (leb (length (choices t was x)) c) from14 (lt-leb (length (choices t was x)) c there)
+        past-13 = past-12 ∙ first-later (refuseIf 13 (leb (length (choices t was x)) c)) from14 (lt-leb (length (choices t was x)) c there)
 
         pub judges-14 : allHold t was x (chosen t was x c .guards) ≡ false → (marks : List ℕ) (r : Judgement) → r ≡ refusedBy 14 → Judges t was x c marks r
-        judges-14 e = judges-refused 14 (past-13 ∙ test-refuses 14 (not held) from15 (ap not e))
+        judges-14 e = judges-refused 14 (past-13 ∙ first-refuses (refuseIf 14 (not held)) from15 (ap not e))
 
         -- 15 to 17, or nothing
         pub judges-last : allHold t was x (chosen t was x c .guards) ≡ true → (marks : List ℕ) → GuardsMarked t (chosen t was x c .guards) marks
@@ -80,7 +80,7 @@ module _ (t : Table) (was : List ℕ) (x c : ℕ) where
         judges-last e marks guards o tells r ends =
             record {
               is = ends ∙ ap₂ (λ (l : Label) (n : ℕ). ended t was x l n) (tells .label) (tells .size)
-                  ∙ sym (ap (found t was x (chosen t was x c .label)) (past-13 ∙ test-later 14 (not held) from15 (ap not e)));
+                  ∙ sym (ap (found t was x (chosen t was x c .label)) (past-13 ∙ first-later (refuseIf 14 (not held)) from15 (ap not e)));
               guards = λ p. guards;
             }
 

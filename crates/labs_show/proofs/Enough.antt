@@ -14,7 +14,7 @@ use Rattle.basis.specs.Bytes.{u16At}
 use Rattle.table.specs.Checks.{Check, passes, refuses, refuseIf, firstOf}
 use Rattle.table.specs.Measuring.{sizeChecks}
 use Rattle.table.specs.Tables.{sizesOf, withinLimits, tableOf}
-use Rattle.table.proofs.Checks.{first-later, first-refuses, append-later, append-refuses, refuseIf-false, refuseIf-true}
+use Rattle.table.proofs.Checks.{first-later, first-refuses, append-later, append-refuses}
 use Rattle.table.proofs.Limits.{within-limits}
 use Rattle.term.specs.Acceptance.{lengthChecks, contentChecks, tableChecks}
 use Rattle.state.specs.WellFormed.{loaded}
@@ -80,8 +80,8 @@ module _ (table : List ℕ) (h : 12 ≤ length table) (many : 4096 < u16At table
 
   size-refuses : firstOf (sizeChecks table) ≡ refuses 2 0
   size-refuses =
-      first-later (refuseIf 1 (ltb (length table) 12)) _ (refuseIf-false 1 (ltb (length table) 12) (le-ltb (length table) 12 h))
-      ∙ first-refuses (refuseIf 2 (not (withinLimits (sizesOf table)))) _ (refuseIf-true 2 (not (withinLimits (sizesOf table))) (ap not (outside (withinLimits (sizesOf table)) refl)))
+      first-later (refuseIf 1 (ltb (length table) 12)) _ ((le-ltb (length table) 12 h))
+      ∙ first-refuses (refuseIf 2 (not (withinLimits (sizesOf table)))) _ ((ap not (outside (withinLimits (sizesOf table)) refl)))
 
   load-refuses-2 : (was : List ℕ) (scratch : ℕ) → loadOf table was scratch .check ≡ refuses 2 0
   load-refuses-2 was scratch =

@@ -12,7 +12,7 @@ use Rattle.table.specs.Checks.{Check, passes, refuses, refuseIf, firstOf}
 use Rattle.table.specs.Tables.{Table, table, sizesOf, tableOf}
 use Rattle.table.specs.Sound.{Limits, Shaped}
 use Rattle.table.proofs.Limits.{kinds-part, length-kinds, length-operands}
-use Rattle.table.proofs.Checks.{append-refuses, append-later, test-refuses}
+use Rattle.table.proofs.Checks.{append-refuses, append-later, first-refuses}
 use Rattle.term.specs.Accepted.{Acceptable as AcceptedTable}
 use Rattle.term.specs.Acceptance.{stateWords, tableChecks}
 use Rattle.term.proofs.Acceptance.{accepted-passes}
@@ -75,7 +75,7 @@ module _ (was : List ℕ) {bytes before after : List ℕ} {r : Acceptance} (a : 
     open-broken f =
         record {
           check = sym (append-later (tableChecks bytes (length was) (length before)) (refuseIf 9 (not (wellFormed (tableOf bytes) was)) ∷ []) (accepts-is (Acceptable n) e)
-              ∙ test-refuses 9 (not (wellFormed (tableOf bytes) was)) [] (ap not f));
+              ∙ first-refuses (refuseIf 9 (not (wellFormed (tableOf bytes) was))) [] (ap not f));
           opened = λ m g. absurd (let z : _≡_ {A = ℕ} 0 1 = cc in omega arith);
         }
 

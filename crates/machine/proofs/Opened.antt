@@ -9,7 +9,7 @@ use borrow.Author.Tests.{ne-eqb}
 use Rattle.table.specs.declared.Sizes.{Sizes}
 use Rattle.table.specs.Checks.{Check, passes, refuses, firstOf, refusalCheck}
 use Rattle.table.specs.Tables.{Table, table, tableOf}
-use Rattle.table.proofs.Checks.{append-refuses, append-later, refuseIf-true}
+use Rattle.table.proofs.Checks.{append-refuses, append-later}
 use Rattle.accept.specs.declared.Acceptance.{Acceptance}
 use Rattle.accept.specs.declared.Acceptance.the-variants.{Accepted, Refused}
 use Rattle.accept.specs.Answers.{acceptanceCheck}

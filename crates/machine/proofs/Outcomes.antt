@@ -9,7 +9,7 @@ use borrow.Author.Tests.{ne-eqb}
 use Rattle.basis.specs.KeySets.{has}
 use Rattle.table.specs.Checks.{passes, refuses, refuseIf, firstOf, refusalCheck}
 use Rattle.table.specs.Tables.{Table}
-use Rattle.table.proofs.Checks.{test-refuses, test-later, refuseIf-true}
+use Rattle.table.proofs.Checks.{first-refuses, first-later}
 use Rattle.state.specs.Layout.{zcOf, zpOf}
 use Rattle.steps.specs.Acts.{actChecks, chosen, acted}
 use Rattle.steps.specs.Offers.{takers, propagated, confirmed}
@@ -65,10 +65,10 @@ module _ (t : Table) (was : List ℕ) where
     pub offer-refused : (confirming : Bool) → has (cond confirming (zcOf was x) (zpOf was x)) k ≡ false → Steps (ownStep t was (offerKind confirming) x k) (Refused 18 0) was
     offer-refused true h =
         steps-refused (outcome-refused was (takers t was x k (t .sizes .agents)) (confirmed t was x k (t .sizes .agents)) (firstOf (ownChecks t was 2 x k))
-        (test-refuses 18 (not (has (zcOf was x) k)) [] (ap not h)))
+        (first-refuses (refuseIf 18 (not (has (zcOf was x) k))) [] (ap not h)))
     offer-refused false h =
         steps-refused (outcome-refused was (takers t was x k (t .sizes .agents)) (propagated t was x k (t .sizes .agents)) (firstOf (ownChecks t was 1 x k))
-        (test-refuses 18 (not (has (zpOf was x) k)) [] (ap not h)))
+        (first-refuses (refuseIf 18 (not (has (zpOf was x) k))) [] (ap not h)))
 
   -- A STEP
   module _ (kind x number : ℕ) where
@@ -76,10 +76,10 @@ module _ (t : Table) (was : List ℕ) where
     unfolding stepIn
     step-out e =
         steps-refused (outcome-refused was (takenBy t was kind x number) (after t was kind x number) (firstOf (refuseIf 10 (outOfRange t was kind x number) ∷ ownChecks t was kind x number))
-        (test-refuses 10 (outOfRange t was kind x number) (ownChecks t was kind x number) e))
+        (first-refuses (refuseIf 10 (outOfRange t was kind x number)) (ownChecks t was kind x number) e))
 
     pub step-own : outOfRange t was kind x number ≡ false → stepIn t was kind x number ≡ ownStep t was kind x number
     unfolding stepIn
     step-own e =
         ap (λ c. outcome c was (takenBy t was kind x number) (after t was kind x number))
-        (test-later 10 (outOfRange t was kind x number) (ownChecks t was kind x number) e)
+        (first-later (refuseIf 10 (outOfRange t was kind x number)) (ownChecks t was kind x number) e)

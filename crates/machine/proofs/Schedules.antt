@@ -10,7 +10,7 @@ use lib.ListN.{length}
 use borrow.Author.Tests.{lt-ltb, le-ltb, eq-eqb, ne-eqb, ltb-false, eqb-true, not-false}
 use Rattle.basis.proofs.Tests.{or-left, or-right, or-neither}
 use Rattle.table.specs.Checks.{passes, refuses, refuseIf, firstOf}
-use Rattle.table.proofs.Checks.{test-refuses, test-later, test-passes}
+use Rattle.table.proofs.Checks.{first-refuses, first-later, first-passes}
 use Rattle.steps.specs.Runs.{stepsOf, scheduleChecks}
 use Rattle.machine.specs.Running.{Runnable}
 
@@ -28,7 +28,7 @@ module _ (schedule answers : List ℕ) where
   wrong = ltb (length schedule) 2 || (odd || long)
 
   refused-19 : wrong ≡ true → firstOf (scheduleChecks schedule answers) ≡ refuses 19 0
-  refused-19 e = test-refuses 19 wrong _ e
+  refused-19 e = first-refuses (refuseIf 19 wrong) _ e
 
   pub schedule-short : length schedule < 2 → firstOf (scheduleChecks schedule answers) ≡ refuses 19 0
   schedule-short h = refused-19 (or-left (ltb (length schedule) 2) (odd || long) (lt-ltb (length schedule) 2 h))
@@ -44,19 +44,19 @@ module _ (schedule answers : List ℕ) where
     right = rw (le-ltb (length schedule) 2 (omega arith), eq-eqb (length schedule) (2 + 5 * n) size, le-ltb 8192 n few)
 
     past-19 : firstOf (scheduleChecks schedule answers) ≡ firstOf (refuseIf 20 (ltb (length answers) n) ∷ [])
-    past-19 = test-later 19 wrong _ right
+    past-19 = first-later (refuseIf 19 wrong) _ right
 
     pub answers-short : length answers < n → firstOf (scheduleChecks schedule answers) ≡ refuses 20 0
-    answers-short h = past-19 ∙ test-refuses 20 (ltb (length answers) n) [] (lt-ltb (length answers) n h)
+    answers-short h = past-19 ∙ first-refuses (refuseIf 20 (ltb (length answers) n)) [] (lt-ltb (length answers) n h)
 
     pub schedule-passes : n ≤ length answers → firstOf (scheduleChecks schedule answers) ≡ passes
     unfolding firstOf
-    schedule-passes h = past-19 ∙ test-later 20 (ltb (length answers) n) [] (le-ltb (length answers) n h)
+    schedule-passes h = past-19 ∙ first-later (refuseIf 20 (ltb (length answers) n)) [] (le-ltb (length answers) n h)
 
   pub passes-runnable : firstOf (scheduleChecks schedule answers) ≡ passes → Runnable schedule answers
   passes-runnable e =
-      let f = test-passes 19 wrong _ e in
-      let g = test-passes 20 (ltb (length answers) n) [] (f .1) in
+      let f = first-passes (refuseIf 19 wrong) _ e in
+      let g = first-passes (refuseIf 20 (ltb (length answers) n)) [] (f .1) in
       let w = or-neither odd long (or-neither (ltb (length schedule) 2) (odd || long) (f .0) .1) in
       record {
         size = eqb-true (length schedule) (2 + 5 * n) (not-false (eqb (length schedule) (2 + 5 * n)) (w .0));

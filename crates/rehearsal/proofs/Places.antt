@@ -11,7 +11,7 @@ use borrow.Author.Tests.{ltb-true, not-false}
 use Rattle.table.specs.Checks.{Check, passes, refuses, refuseIf, refuseAt, andThen, firstOf, numberOf, placeOf}
 use Rattle.table.specs.Tables.{Table, sizesOf, withinLimits, tableOf}
 use Rattle.table.specs.Sound.{Limits}
-use Rattle.table.proofs.Checks.{first-passes, first-append, refuseIf-passes}
+use Rattle.table.proofs.Checks.{first-passes, first-append}
 use Rattle.table.proofs.Limits.{within-limits}
 use Rattle.term.specs.Acceptance.{lengthChecks, contentChecks}
 use Rattle.term.proofs.Each.{Each}
@@ -62,7 +62,7 @@ module _ (bytes : List ℕ) (stateLength scratch : ℕ) where
   limits : firstOf (lengthChecks bytes stateLength scratch) ≡ passes → Limits (sizesOf bytes)
   limits e =
       let w = first-passes _ _ (first-passes _ _ e .1) .0 in
-      within-limits (sizesOf bytes) (not-false (withinLimits (sizesOf bytes)) (refuseIf-passes 2 (not (withinLimits (sizesOf bytes))) w))
+      within-limits (sizesOf bytes) (not-false (withinLimits (sizesOf bytes)) (w))
 
   table-near : Near (firstOf checks)
   table-near =

@@ -12,7 +12,7 @@ use Rattle.basis.proofs.Numbers.{forEach-keeps}
 use Rattle.table.specs.Checks.{Check, passes, refuses, refuseIf, firstOf}
 use Rattle.table.specs.Tables.{Table, sizesOf, tableOf}
 use Rattle.table.specs.Sound.{Limits, Sound}
-use Rattle.table.proofs.Checks.{first-passes, refuseIf-passes}
+use Rattle.table.proofs.Checks.{first-passes}
 use Rattle.table.proofs.Promises.{start-process}
 use Rattle.term.specs.Accepted.{Acceptable}
 use Rattle.term.proofs.Acceptance.{passes-accepted}
@@ -60,7 +60,7 @@ module _ (t : Table) (sound : Sound t) (bytes : (i : ℕ) → getD (t .operands)
       by : (c : Check) → firstOf (refuseIf 10 (outOfRange t was kind x number) ∷ ownChecks t was kind x number) ≡ c
           → ProperFacts t (outcome c was (takenBy t was kind x number) (after t was kind x number) .state)
       by passes e = let r = first-passes (refuseIf 10 (outOfRange t was kind x number)) (ownChecks t was kind x number) e in
-          after-proper kind x number (in-range t was kind x number .0 (refuseIf-passes 10 (outOfRange t was kind x number) (r .0))) (r .1)
+          after-proper kind x number (in-range t was kind x number .0 ((r .0))) (r .1)
       by (refuses n place) e = proper
 
 -- THE STEPS OF A RUN

@@ -13,7 +13,7 @@ use Rattle.basis.specs.KeySets.{has}
 use Rattle.basis.proofs.Tests.{not-both, and-left, and-right, and-fails, or-neither}
 use Rattle.table.specs.Checks.{Check, passes, refuses, refuseIf, firstOf}
 use Rattle.table.specs.Tables.{Table, tableOf}
-use Rattle.table.proofs.Checks.{test-passes, passes-test, none-passes, append-passes, append-both}
+use Rattle.table.proofs.Checks.{first-passes, first-both, none-passes, append-passes, append-both}
 use Rattle.term.specs.Terms.{words}
 use Rattle.term.specs.Processes.{allFew}
 use Rattle.term.specs.Accepted.{Acceptable}
@@ -112,13 +112,13 @@ module _ (t : Table) (was : List ℕ) (x : ℕ) where
 
       there : firstOf (actChecks t was x c) ≡ passes → Able t was x c
       there e =
-          let e11 = test-passes 11 (not idle) _ e in
-          let e12 = test-passes 12 (not (allFew t (termIn was x))) _ (e11 .1) in
-          let e13 = test-passes 13 (leb (length (choices t was x)) c) _ (e12 .1) in
-          let e14 = test-passes 14 (not holds) _ (e13 .1) in
-          let e15 = test-passes 15 lacks _ (e14 .1) in
-          let e16 = test-passes 16 (writes && leb 65535 (clockOf was)) _ (e15 .1) in
-          let e17 = test-passes 17 (ltb residualWords long) [] (e16 .1) in
+          let e11 = first-passes (refuseIf 11 (not idle)) _ e in
+          let e12 = first-passes (refuseIf 12 (not (allFew t (termIn was x)))) _ (e11 .1) in
+          let e13 = first-passes (refuseIf 13 (leb (length (choices t was x)) c)) _ (e12 .1) in
+          let e14 = first-passes (refuseIf 14 (not holds)) _ (e13 .1) in
+          let e15 = first-passes (refuseIf 15 lacks) _ (e14 .1) in
+          let e16 = first-passes (refuseIf 16 (writes && leb 65535 (clockOf was))) _ (e15 .1) in
+          let e17 = first-passes (refuseIf 17 (ltb residualWords long)) [] (e16 .1) in
           let still = not-false idle (e11 .0) in
           record {
             confirmed = eqb-true (zcOf was x) 0 (and-left (eqb (zcOf was x) 0) (eqb (zpOf was x) 0) still);
@@ -137,25 +137,25 @@ module _ (t : Table) (was : List ℕ) (x : ℕ) where
 
       back : Able t was x c → firstOf (actChecks t was x c) ≡ passes
       back a =
-          passes-test 11 (not idle) _ (rw (a .confirmed, a .propagated)) (
-          passes-test 12 (not (allFew t (termIn was x))) _ (ap not (a .few)) (
-          passes-test 13 (leb (length (choices t was x)) c) _ (lt-leb (length (choices t was x)) c (a .there)) (
-          passes-test 14 (not holds) _ (ap not (a .guards)) (
-          passes-test 15 lacks _ (a .present) (
-          passes-test 16 (writes && leb 65535 (clockOf was)) _ (full a writes refl) (
-          passes-test 17 (ltb residualWords long) [] (le-ltb residualWords long (a .short)) none-passes))))))
+          first-both (refuseIf 11 (not idle)) _ (rw (a .confirmed, a .propagated)) (
+          first-both (refuseIf 12 (not (allFew t (termIn was x)))) _ (ap not (a .few)) (
+          first-both (refuseIf 13 (leb (length (choices t was x)) c)) _ (lt-leb (length (choices t was x)) c (a .there)) (
+          first-both (refuseIf 14 (not holds)) _ (ap not (a .guards)) (
+          first-both (refuseIf 15 lacks) _ (a .present) (
+          first-both (refuseIf 16 (writes && leb 65535 (clockOf was))) _ (full a writes refl) (
+          first-both (refuseIf 17 (ltb residualWords long)) [] (le-ltb residualWords long (a .short)) none-passes))))))
 
   -- 18 has passed
   pub propagates : (k : ℕ) → firstOf (ownChecks t was 1 x k) ≡ passes ↔ (has (zpOf was x) k ≡ true)
   propagates k = (
-    λ e. not-false (has (zpOf was x) k) (test-passes 18 (not (has (zpOf was x) k)) [] e .0),
-    λ e. passes-test 18 (not (has (zpOf was x) k)) [] (ap not e) none-passes,
+    λ e. not-false (has (zpOf was x) k) (first-passes (refuseIf 18 (not (has (zpOf was x) k))) [] e .0),
+    λ e. first-both (refuseIf 18 (not (has (zpOf was x) k))) [] (ap not e) none-passes,
   )
 
   pub confirms : (k : ℕ) → firstOf (ownChecks t was 2 x k) ≡ passes ↔ (has (zcOf was x) k ≡ true)
   confirms k = (
-    λ e. not-false (has (zcOf was x) k) (test-passes 18 (not (has (zcOf was x) k)) [] e .0),
-    λ e. passes-test 18 (not (has (zcOf was x) k)) [] (ap not e) none-passes,
+    λ e. not-false (has (zcOf was x) k) (first-passes (refuseIf 18 (not (has (zcOf was x) k))) [] e .0),
+    λ e. first-both (refuseIf 18 (not (has (zcOf was x) k))) [] (ap not e) none-passes,
   )
 
 -- A STEP is done where the table is accepted, the state well formed, the step in range, and its own checks have passed
@@ -172,9 +172,9 @@ module _ (bytes was : List ℕ) (scratch : ℕ) where
   pub state-checks : firstOf (stateChecks bytes was scratch) ≡ passes ↔ (Acceptable bytes (length was) scratch × (wellFormed (tableOf bytes) was ≡ true))
   state-checks = (
     λ e. let w = append-passes (tableChecks bytes (length was) scratch) _ e in
-        (passes-accepted bytes (length was) scratch (w .0), not-false (wellFormed t was) (test-passes 9 (not (wellFormed t was)) [] (w .1) .0)),
+        (passes-accepted bytes (length was) scratch (w .0), not-false (wellFormed t was) (first-passes (refuseIf 9 (not (wellFormed t was))) [] (w .1) .0)),
     λ p. append-both (tableChecks bytes (length was) scratch) _ (accepted-passes bytes (length was) scratch (p .0))
-        (passes-test 9 (not (wellFormed t was)) [] (ap not (p .1)) none-passes),
+        (first-both (refuseIf 9 (not (wellFormed t was))) [] (ap not (p .1)) none-passes),
   )
 
   module _ (kind x number : ℕ) where
@@ -203,7 +203,7 @@ module _ (bytes was : List ℕ) (scratch : ℕ) where
             → Done bytes was scratch kind x number
         by passes d e =
             let p = state-checks .0 d in
-            let w = test-passes 10 (outOfRange t was kind x number) (ownChecks t was kind x number) (sym in-check ∙ e) in
+            let w = first-passes (refuseIf 10 (outOfRange t was kind x number)) (ownChecks t was kind x number) (sym in-check ∙ e) in
             record { accepted = p .0; formed = p .1; range = in-range t was kind x number .0 (w .0); own = w .1 }
         by (refuses n place) d e = absurd (let z : _≡_ {A = ℕ} 0 1 = cc in omega arith)
 
@@ -214,7 +214,7 @@ module _ (bytes was : List ℕ) (scratch : ℕ) where
     step-done d =
         step-in (state-checks .1 (d .accepted, d .formed))
         ∙ outcome-done was (takenBy t was kind x number) (after t was kind x number) (firstOf checks)
-        (passes-test 10 (outOfRange t was kind x number) (ownChecks t was kind x number) (in-range t was kind x number .1 (d .range)) (d .own))
+        (first-both (refuseIf 10 (outOfRange t was kind x number)) (ownChecks t was kind x number) (in-range t was kind x number .1 (d .range)) (d .own))
 
     -- a refused step leaves the state as it was
     pub step-refused : {n place : ℕ} → stepOf bytes was scratch kind x number .check ≡ refuses n place → stepOf bytes was scratch kind x number ≡ refused n place was

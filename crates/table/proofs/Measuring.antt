@@ -15,7 +15,7 @@ use Rattle.table.specs.Checks.{passes, refuseIf, firstOf}
 use Rattle.table.specs.Tables.{sizesOf, withinLimits, tableOf}
 use Rattle.table.specs.Measuring.{sizeChecks, Measure}
 use Rattle.table.specs.Sound.{Shaped}
-use Rattle.table.proofs.Checks.{first-passes, refuseIf-passes}
+use Rattle.table.proofs.Checks.{first-passes}
 use Rattle.table.proofs.Limits.{shaped}
 
 abbrev sized : ℕ → ℕ → ℕ → ℕ → ℕ → ℕ → Sizes
@@ -69,7 +69,7 @@ module _ (bytes : List ℕ) (p : firstOf (sizeChecks bytes) ≡ passes) where
       let a = first-passes (refuseIf 1 (ltb (length bytes) 12)) (refuseIf 2 (not limits) ∷ (refuseIf 3 (not whole) ∷ [])) p in
       let b = first-passes (refuseIf 2 (not limits)) (refuseIf 3 (not whole) ∷ []) (a .1) in
       let c = first-passes (refuseIf 3 (not whole)) [] (b .1) in
-      (not-false limits (refuseIf-passes 2 (not limits) (b .0)), not-false whole (refuseIf-passes 3 (not whole) (c .0)))
+      (not-false limits (b .0), not-false whole (c .0))
 
   pub measured-limits : withinLimits (sizesOf bytes) ≡ true
   measured-limits = checked .0

@@ -11,7 +11,8 @@ use Rattle.basis.proofs.Tests.{not-both, and-left, and-right, and-both, or-left
 use Rattle.table.specs.declared.Field.{Field}
 use Rattle.table.specs.declared.Field.the-variants.{Never, Zero, Attribute, Stigmergy, Environment, Party, Definition, Process, Guard, Expression, Value}
 use Rattle.table.specs.Tables.{Table, kindAt, pAt, qAt}
-use Rattle.table.specs.Nodes.{isNode, isProcess, isGuard, isExpression, fieldsAt, fits, fitting, leftNode, rightNode, names, LowerProcess, LowerGuard, LowerExpression}
+use Rattle.table.specs.Nodes.{isNode, isProcess, isGuard, isExpression, fieldsAt, fits, fitting, leftNode, rightNode, names}
+use Rattle.table.specs.Sound.{LowerProcess, LowerGuard, LowerExpression}
 
 module _ (t : Table) where
   -- what a field of node n says of its number

@@ -17,24 +17,25 @@ use Rattle.table.specs.declared.Field.the-variants.{Never, Zero, Process
 use Rattle.table.specs.declared.Fields.{Fields}
 use Rattle.table.specs.Checks.{passes, refuseAt}
 use Rattle.table.specs.Tables.{Table, sizesOf, withinLimits, tableOf, kindAt, pAt, qAt, firstRoot, firstLinkRoot, firstAgentRoot, bodyAt, linkAt, startAt}
-use Rattle.table.specs.Nodes.{processRows, guardRows, expressionRows, rowOf, fields, fieldsOf, fieldsHere, fieldsAt, rootNames, isProcess, isGuard, isExpression, inner, fitting, leftNode, rightNode, names, named, namesAgain, badNode, LowerProcess, LowerGuard, LowerExpression}
+use Rattle.table.specs.Nodes.{processRows, guardRows, expressionRows, rowOf, fields, fieldsOf, fieldsHere, fieldsAt, rootNames, isProcess, isGuard, isExpression, inner, fitting, leftNode, rightNode, names, named, namesAgain, badNode}
+use Rattle.table.specs.Sound.{LowerProcess, LowerGuard, LowerExpression}
 use Rattle.table.specs.Reach.{processNode, linkRoot, reachedFrom, wrongKey}
 use Rattle.table.specs.Sound.{Sound}
-use Rattle.table.proofs.Checks.{refuseAt-passes}
+use Rattle.table.proofs.Checks.{lowest-passes}
 use Rattle.table.proofs.Limits.{shaped}
 use Rattle.table.proofs.Operands.{Holds, left-holds, right-holds, names-left}
 use Rattle.table.proofs.Reaches.{reached-start, reached-named}
 
 -- bytes that checks 1 to 5 pass are a sound table
 pub sound-table : (bytes : List ℕ) → withinLimits (sizesOf bytes) ≡ true → length bytes ≡ 12 + 5 * sizesOf bytes .nodes
-    → refuseAt 4 (sizesOf bytes .nodes) (lowest (badNode (tableOf bytes)) (sizesOf bytes .nodes)) ≡ passes
-    → refuseAt 5 (sizesOf bytes .nodes) (lowest (wrongKey (tableOf bytes)) (sizesOf bytes .nodes)) ≡ passes
+    → ltb (lowest (badNode (tableOf bytes)) (sizesOf bytes .nodes)) (sizesOf bytes .nodes) ≡ false
+    → ltb (lowest (wrongKey (tableOf bytes)) (sizesOf bytes .nodes)) (sizesOf bytes .nodes) ≡ false
     → Sound (tableOf bytes)
 sound-table bytes w h d e =
     record {
       shaped = shaped bytes w h;
-      nodes = refuseAt-passes 4 (sizesOf bytes .nodes) (badNode (tableOf bytes)) d;
-      keys = refuseAt-passes 5 (sizesOf bytes .nodes) (wrongKey (tableOf bytes)) e;
+      nodes = lowest-passes (sizesOf bytes .nodes) (badNode (tableOf bytes)) d;
+      keys = lowest-passes (sizesOf bytes .nodes) (wrongKey (tableOf bytes)) e;
     }
 
 module _ (t : Table) where

@@ -1,31 +1,32 @@
 -- Refusals in order: a call's checks are a list, and the first that refuses decides.
 use Prim.Native.Nat.{ℕ}
-use mathlib.Core.Bool.{Bool, true, false, cond, not}
+use mathlib.Core.Bool.{Bool, true, false, cond}
 use mathlib.Core.List.{List, [], _∷_}
 use lib.Dec.{eqb, ltb}
 
--- what a check comes to: it passes, or refuses with the paper's number and a place
+-- a line of the paper's table of refusals: the number returned, when, and the place
+pub record Refusal : Type 0 where
+  pub number : ℕ
+  pub when : Bool
+  pub place : ℕ
+
+-- refuses with this number, and no place, where the test holds
+abbrev pub refuseIf : ℕ → Bool → Refusal
+refuseIf number test = record { number = number; when = test; place = 0 }
+
+-- refuses with this number at this place, where the place is below a limit
+abbrev pub refuseAt : ℕ → ℕ → ℕ → Refusal
+refuseAt number limit place = record { number = number; when = ltb place limit; place = place }
+
+-- what checks come to: they pass, or refuse with the paper's number and a place
 pub data Check : Type 0 where
   passes : Check
   refuses : ℕ → ℕ → Check
 
--- refuses with this number, and no place, where the test holds
-abbrev pub refuseIf : ℕ → Bool → Check
-refuseIf number test = cond test (refuses number 0) passes
-
--- refuses with this number at this place, where the place is below a limit
-abbrev pub refuseAt : ℕ → ℕ → ℕ → Check
-refuseAt number limit place = cond (ltb place limit) (refuses number place) passes
-
--- b where a passes
-abbrev pub andThen : Check → Check → Check
-andThen passes b = b
-andThen (refuses number place) b = refuses number place
-
--- the first of the checks that refuses
-unfoldable pub firstOf : List Check → Check
+-- the first of the lines that refuses
+unfoldable pub firstOf : List Refusal → Check
 firstOf [] = passes
-firstOf (c ∷ cs) = andThen c (firstOf cs)
+firstOf (r ∷ rs) = cond (r .when) (refuses (r .number) (r .place)) (firstOf rs)
 
 abbrev pub passed : Check → Bool
 passed passes = true
@@ -42,4 +43,4 @@ placeOf (refuses number place) = place
 
 -- a refusal's number with no place, where 0 stands for none
 abbrev pub refusalCheck : ℕ → Check
-refusalCheck number = refuseIf number (not (eqb number 0))
+refusalCheck number = cond (eqb number 0) passes (refuses number 0)

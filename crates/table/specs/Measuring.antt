@@ -8,19 +8,20 @@ use lib.ListN.{length}
 use Rattle.table.specs.declared.Sizes.{Sizes}
 use Rattle.table.specs.declared.Measured.{Measured}
 use Rattle.table.specs.declared.Measured.the-variants.{Fine, Refused}
-use Rattle.table.specs.Checks.{Check, passes, refuses, refuseIf, firstOf}
-use Rattle.table.specs.Tables.{sizesOf, withinLimits}
+use Rattle.table.specs.Checks.{Check, passes, refuses, Refusal, refuseIf, firstOf}
+use Rattle.table.specs.Tables.{headerBytes, sizesOf, withinLimits}
 
 -- the paper's number and place for each case of the answer
 abbrev pub measuredCheck : Measured → Check
 measuredCheck (Fine n) = passes
 measuredCheck (Refused number place) = refuses number place
 
-abbrev pub sizeChecks : List ℕ → List Check
+-- the first three lines of a table's checks
+abbrev pub sizeChecks : List ℕ → List Refusal
 sizeChecks bytes =
-    refuseIf 1 (ltb (length bytes) 12)
+    refuseIf 1 (ltb (length bytes) headerBytes)
     ∷ refuseIf 2 (not (withinLimits (sizesOf bytes)))
-    ∷ refuseIf 3 (not (eqb (length bytes) (12 + 5 * sizesOf bytes .nodes)))
+    ∷ refuseIf 3 (not (eqb (length bytes) (headerBytes + 5 * sizesOf bytes .nodes)))
     ∷ []
 
 -- what measuring ensures: its check, and the table's sizes where it passes

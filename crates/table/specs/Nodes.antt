@@ -1,10 +1,10 @@
 -- Refusal 4: a node with a bad kind or operand.
-use Prim.Native.Nat.{ℕ, _<_}
-use mathlib.Core.Path.{_≡_}
+use Prim.Native.Nat.{ℕ}
 use mathlib.Core.Bool.{Bool, true, false, cond, not, _&&_, _||_}
 use mathlib.Core.List.{List, [], _∷_}
 use lib.Dec.{ltb, leb, eqb}
 use Rattle.basis.specs.Numbers.{someBelow}
+use Rattle.basis.specs.Kinds as kind
 use Rattle.table.specs.declared.Field.{Field}
 use Rattle.table.specs.declared.Field.the-variants.{Never, Zero, Attribute, Stigmergy, Environment, Party, Definition, Process, Guard, Expression, Value}
 use Rattle.table.specs.declared.Fields.{Fields}
@@ -17,7 +17,7 @@ fields p q = record { p = p; q = q }
 pub data Row : Type 0 where
   row : ℕ → Field → Field → Row
 
--- the list of kinds, but for the root: kind, p, q
+-- the list of kinds, but for the root: kind, p, q, and its name
 unfoldable pub processRows : List Row
 processRows =
     row 0 Zero Zero  -- idle
@@ -58,24 +58,24 @@ expressionRows =
 
 -- the row of a kind; a kind without a row has fields that nothing fits
 unfoldable pub rowOf : List Row → ℕ → Fields
-rowOf [] kind = fields Never Never
-rowOf (row k p q ∷ more) kind = cond (eqb kind k) (fields p q) (rowOf more kind)
+rowOf [] n = fields Never Never
+rowOf (row k p q ∷ more) n = cond (eqb n k) (fields p q) (rowOf more n)
 
 abbrev pub fieldsOf : ℕ → Fields
-fieldsOf kind =
-    cond (ltb kind 16) (rowOf processRows kind)
-    (cond (ltb kind 32) (rowOf guardRows kind)
-    (rowOf expressionRows kind))
+fieldsOf k =
+    cond (ltb k kind.true) (rowOf processRows k)
+    (cond (ltb k kind.constant) (rowOf guardRows k)
+    (rowOf expressionRows k))
 
 -- kinds of processes, guards and expressions
 abbrev pub isProcess : ℕ → Bool
-isProcess kind = leb kind 9
+isProcess k = leb k kind.call
 
 abbrev pub isGuard : ℕ → Bool
-isGuard kind = leb 16 kind && leb kind 22
+isGuard k = leb kind.true k && leb k kind.or
 
 abbrev pub isExpression : ℕ → Bool
-isExpression kind = leb 32 kind && leb kind 40
+isExpression k = leb kind.constant k && leb k kind.remainder
 
 -- a field that names a node
 abbrev pub isNode : Field → Bool
@@ -102,9 +102,9 @@ module _ (t : Table) where
 
   -- what p and q of node n hold, if it has this kind: the last D + S + A nodes, and no others, are roots
   unfoldable pub fieldsHere : ℕ → ℕ → Fields
-  fieldsHere n kind =
-      cond (inner n) (fieldsOf kind)
-      (cond (eqb kind 64) (fields (rootNames n) Zero)
+  fieldsHere n k =
+      cond (inner n) (fieldsOf k)
+      (cond (eqb k kind.root) (fields (rootNames n) Zero)
       (fields Never Never))
 
   abbrev pub fieldsAt : ℕ → Fields
@@ -123,16 +123,6 @@ module _ (t : Table) where
   fits n Guard x = ltb x n && isGuard (kindAt t x)
   fits n Expression x = ltb x n && isExpression (kindAt t x)
   fits n Value x = true
-
-  -- x is lower than n, and a process, a guard, an expression
-  abbrev pub LowerProcess : ℕ → ℕ → Type 0
-  LowerProcess n x = (x < n) × (isProcess (kindAt t x) ≡ true)
-
-  abbrev pub LowerGuard : ℕ → ℕ → Type 0
-  LowerGuard n x = (x < n) × (isGuard (kindAt t x) ≡ true)
-
-  abbrev pub LowerExpression : ℕ → ℕ → Type 0
-  LowerExpression n x = (x < n) × (isExpression (kindAt t x) ≡ true)
 
   -- both fields of node n are as the list has them
   unfoldable pub fitting : ℕ → Bool

@@ -4,6 +4,7 @@ use mathlib.Core.Bool.{Bool, false, not, _&&_, _||_}
 use lib.Dec.{ltb, leb, eqb}
 use Rattle.basis.specs.Numbers.{someBelow}
 use Rattle.basis.specs.Below.{below}
+use Rattle.basis.specs.Kinds as kind
 use Rattle.table.specs.Tables.{Table, kindAt, pAt, qAt, firstLinkRoot, firstAgentRoot}
 use Rattle.table.specs.Nodes.{isProcess, leftNode, rightNode}
 
@@ -16,7 +17,7 @@ module _ (t : Table) where
   linkRoot n = leb (firstLinkRoot t) n && ltb n (firstAgentRoot t)
 
   abbrev pub keyNode : ℕ → Bool
-  keyNode n = leb 33 (kindAt t n) && leb (kindAt t n) 35
+  keyNode n = leb kind.attribute (kindAt t n) && leb (kindAt t n) kind.environment
 
   -- node n reaches itself, and what the nodes reach that it names
   unfoldable pub reachStep : (ℕ → ℕ → Bool) → ℕ → ℕ → Bool
@@ -34,4 +35,4 @@ module _ (t : Table) where
   wrongKey n =
       keyNode n
       && ((reachedFrom processNode n && not (eqb (qAt t n) 0))
-      || (reachedFrom linkRoot n && (eqb (kindAt t n) 35 || eqb (qAt t n) 0)))
+      || (reachedFrom linkRoot n && (eqb (kindAt t n) kind.environment || eqb (qAt t n) 0)))

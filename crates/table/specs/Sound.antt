@@ -1,11 +1,11 @@
 -- What checks 1 to 5 leave of a table: sizes within limits, lists of the right lengths, no bad node, no wrong key.
 use Prim.Native.Nat.{ℕ, _*_, _<_, _≤_}
 use mathlib.Core.Path.{_≡_}
-use mathlib.Core.Bool.{false}
+use mathlib.Core.Bool.{true, false}
 use lib.ListN.{length}
 use Rattle.table.specs.declared.Sizes.{Sizes}
-use Rattle.table.specs.Tables.{Table, rootsOf}
-use Rattle.table.specs.Nodes.{badNode}
+use Rattle.table.specs.Tables.{Table, agentLimit, kindAt, rootsOf}
+use Rattle.table.specs.Nodes.{isProcess, isGuard, isExpression, badNode}
 use Rattle.table.specs.Reach.{wrongKey}
 
 pub record Limits (n : Sizes) : Type 0 where
@@ -13,7 +13,7 @@ pub record Limits (n : Sizes) : Type 0 where
   pub nodes : n .nodes ≤ 4096
   pub definitions : n .definitions ≤ 64
   pub some-agent : 1 ≤ n .agents
-  pub agents : n .agents ≤ 32
+  pub agents : n .agents ≤ agentLimit
   pub attributes : n .attributes ≤ 16
   pub stigmergy : n .stigmergy ≤ 16
   pub environment : n .environment ≤ 16
@@ -30,3 +30,14 @@ pub record Sound (t : Table) : Type 0 where
   pub shaped : Shaped t
   pub nodes : (n : ℕ) → n < t .sizes .nodes → badNode t n ≡ false
   pub keys : (n : ℕ) → n < t .sizes .nodes → wrongKey t n ≡ false
+
+-- x is lower than n, and a process, a guard, an expression
+module _ (t : Table) where
+  abbrev pub LowerProcess : ℕ → ℕ → Type 0
+  LowerProcess n x = (x < n) × (isProcess (kindAt t x) ≡ true)
+
+  abbrev pub LowerGuard : ℕ → ℕ → Type 0
+  LowerGuard n x = (x < n) × (isGuard (kindAt t x) ≡ true)
+
+  abbrev pub LowerExpression : ℕ → ℕ → Type 0
+  LowerExpression n x = (x < n) × (isExpression (kindAt t x) ≡ true)

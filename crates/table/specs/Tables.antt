@@ -7,6 +7,13 @@ use lib.ListN.{getD, take, drop}
 use Rattle.basis.specs.Bytes.{u16At, u32At}
 use Rattle.table.specs.declared.Sizes.{Sizes}
 
+-- bytes of the sizes; agents of a fleet at most
+abbrev pub headerBytes : ℕ
+headerBytes = 12
+
+abbrev pub agentLimit : ℕ
+agentLimit = 32
+
 -- N, D, A, I, S, V
 abbrev pub sizesOf : List ℕ → Sizes
 sizesOf bytes =
@@ -28,7 +35,7 @@ unfoldable pub withinLimits : Sizes → Bool
 withinLimits n =
     leb 1 (n .nodes) && (leb (n .nodes) 4096
     && (leb (n .definitions) 64
-    && (leb 1 (n .agents) && (leb (n .agents) 32
+    && (leb 1 (n .agents) && (leb (n .agents) agentLimit
     && (leb (n .attributes) 16 && (leb (n .stigmergy) 16 && (leb (n .environment) 16
     && leb (rootsOf n) (n .nodes))))))))
 
@@ -42,10 +49,10 @@ table n kinds operands = record { sizes = n; kinds = kinds; operands = operands 
 
 -- the operands begin right after the kinds, at byte 12 + N
 abbrev pub kindsOf : List ℕ → ℕ → List ℕ
-kindsOf bytes n = take n (drop 12 bytes)
+kindsOf bytes n = take n (drop headerBytes bytes)
 
 abbrev pub operandsOf : List ℕ → ℕ → List ℕ
-operandsOf bytes n = drop (12 + n) bytes
+operandsOf bytes n = drop (headerBytes + n) bytes
 
 abbrev pub tableOf : List ℕ → Table
 tableOf bytes = table (sizesOf bytes) (kindsOf bytes (sizesOf bytes .nodes)) (operandsOf bytes (sizesOf bytes .nodes))

@@ -1,14 +1,20 @@
-// The sizes in a table's first 12 bytes, and refusals 1 to 3.
+// The sizes in a table's header, and refusals 1 to 3.
 ghost use mathlib.Core.Path.{_≡_};
 ghost use Prim.Native.Nat.{_≤_};
 ghost use lib.ListN.{length};
-ghost use Rattle.table.specs.Tables.{withinLimits};
+ghost use Rattle.table.specs.Tables.{headerBytes, withinLimits};
 ghost use Rattle.table.specs.Measuring.{SixteenBits, Header, Measure};
 use super::Measured;
 use super::Sizes;
 
+// Bytes of the sizes, before the kinds.
+pub const HEADER_BYTES: usize = 12;
+
+// Agents that a fleet has at most.
+pub const AGENTS: usize = 32;
+
 fn header(table: &[u8]) -> Sizes
-    requires { ⌜ 12 ≤ length (now table) ⌝ }
+    requires { ⌜ headerBytes ≤ length (now table) ⌝ }
     ensures { λ r. ⌜ Header (now (table .entry)) r ⌝ }
 {
     Sizes {
@@ -29,7 +35,7 @@ fn within(sizes: Sizes) -> bool
         & ((sizes.nodes <= 4096)
             & ((sizes.definitions <= 64)
                 & ((1 <= sizes.agents)
-                    & ((sizes.agents <= 32)
+                    & ((sizes.agents <= AGENTS)
                         & ((sizes.attributes <= 16)
                             & ((sizes.stigmergy <= 16)
                                 & ((sizes.environment <= 16)
@@ -41,14 +47,14 @@ fn within(sizes: Sizes) -> bool
 pub fn measure(table: &[u8]) -> Measured
     ensures { λ r. ⌜ Measure (now (table .entry)) r ⌝ }
 {
-    if table.len() < 12 {
+    if table.len() < HEADER_BYTES {
         return Measured::Refused(1, 0);
     }
     let sizes = header(table);
     if !within(sizes) {
         return Measured::Refused(2, 0);
     }
-    if table.len() != 12 + 5 * sizes.nodes {
+    if table.len() != HEADER_BYTES + 5 * sizes.nodes {
         return Measured::Refused(3, 0);
     }
     Measured::Fine(sizes)

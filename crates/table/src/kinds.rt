@@ -12,19 +12,19 @@ use super::Sizes;
 pub fn is_process(kind: u8) -> bool
     ensures { λ r. ⌜ r ≡ isProcess kind ⌝ }
 {
-    kind <= 9
+    kind <= basis::kinds::CALL
 }
 
 pub fn is_guard(kind: u8) -> bool
     ensures { λ r. ⌜ r ≡ isGuard kind ⌝ }
 {
-    (16 <= kind) & (kind <= 22)
+    (basis::kinds::TRUE <= kind) & (kind <= basis::kinds::OR)
 }
 
 pub fn is_expression(kind: u8) -> bool
     ensures { λ r. ⌜ r ≡ isExpression kind ⌝ }
 {
-    (32 <= kind) & (kind <= 40)
+    (basis::kinds::CONSTANT <= kind) & (kind <= basis::kinds::REMAINDER)
 }
 
 const NOTHING: Fields = Fields {
@@ -56,28 +56,28 @@ fn process_fields(kind: u8) -> Fields
     ensures { λ r. ⌜ r ≡ rowOf processRows kind ⌝ }
 {
     match kind {
-        0 => ZEROS,
-        1 => ZEROS,
-        2 => Fields {
+        basis::kinds::IDLE => ZEROS,
+        basis::kinds::TICK => ZEROS,
+        basis::kinds::SET_ATTRIBUTE => Fields {
             p: Field::Attribute,
             q: Field::Expression,
         },
-        3 => Fields {
+        basis::kinds::SET_STIGMERGY => Fields {
             p: Field::Stigmergy,
             q: Field::Expression,
         },
-        4 => Fields {
+        basis::kinds::SET_ENVIRONMENT => Fields {
             p: Field::Environment,
             q: Field::Expression,
         },
-        5 => PROCESSES,
-        6 => PROCESSES,
-        7 => Fields {
+        basis::kinds::SEQUENCE => PROCESSES,
+        basis::kinds::CHOICE => PROCESSES,
+        basis::kinds::GUARDED => Fields {
             p: Field::Guard,
             q: Field::Process,
         },
-        8 => PROCESSES,
-        9 => Fields {
+        basis::kinds::PARALLEL => PROCESSES,
+        basis::kinds::CALL => Fields {
             p: Field::Definition,
             q: Field::Zero,
         },
@@ -89,16 +89,16 @@ fn guard_fields(kind: u8) -> Fields
     ensures { λ r. ⌜ r ≡ rowOf guardRows kind ⌝ }
 {
     match kind {
-        16 => ZEROS,
-        17 => EXPRESSIONS,
-        18 => EXPRESSIONS,
-        19 => EXPRESSIONS,
-        20 => Fields {
+        basis::kinds::TRUE => ZEROS,
+        basis::kinds::EQUAL => EXPRESSIONS,
+        basis::kinds::LESS => EXPRESSIONS,
+        basis::kinds::GREATER => EXPRESSIONS,
+        basis::kinds::NOT => Fields {
             p: Field::Guard,
             q: Field::Zero,
         },
-        21 => GUARDS,
-        22 => GUARDS,
+        basis::kinds::AND => GUARDS,
+        basis::kinds::OR => GUARDS,
         _ => NOTHING,
     }
 }
@@ -107,27 +107,27 @@ fn expression_fields(kind: u8) -> Fields
     ensures { λ r. ⌜ r ≡ rowOf expressionRows kind ⌝ }
 {
     match kind {
-        32 => Fields {
+        basis::kinds::CONSTANT => Fields {
             p: Field::Value,
             q: Field::Value,
         },
-        33 => Fields {
+        basis::kinds::ATTRIBUTE => Fields {
             p: Field::Attribute,
             q: Field::Party,
         },
-        34 => Fields {
+        basis::kinds::STIGMERGY => Fields {
             p: Field::Stigmergy,
             q: Field::Party,
         },
-        35 => Fields {
+        basis::kinds::ENVIRONMENT => Fields {
             p: Field::Environment,
             q: Field::Zero,
         },
-        36 => EXPRESSIONS,
-        37 => EXPRESSIONS,
-        38 => EXPRESSIONS,
-        39 => EXPRESSIONS,
-        40 => EXPRESSIONS,
+        basis::kinds::PLUS => EXPRESSIONS,
+        basis::kinds::MINUS => EXPRESSIONS,
+        basis::kinds::TIMES => EXPRESSIONS,
+        basis::kinds::DIVIDE => EXPRESSIONS,
+        basis::kinds::REMAINDER => EXPRESSIONS,
         _ => NOTHING,
     }
 }
@@ -136,10 +136,10 @@ fn expression_fields(kind: u8) -> Fields
 fn fields_of(kind: u8) -> Fields
     ensures { λ r. ⌜ r ≡ fieldsOf kind ⌝ }
 {
-    if kind < 16 {
+    if kind < basis::kinds::TRUE {
         return process_fields(kind);
     }
-    if kind < 32 {
+    if kind < basis::kinds::CONSTANT {
         return guard_fields(kind);
     }
     expression_fields(kind)
@@ -185,7 +185,7 @@ pub fn fields_here(sizes: Sizes, node: usize, kind: u8) -> Fields
     if node < first_root(sizes) {
         return fields_of(kind);
     }
-    if kind == 64 {
+    if kind == basis::kinds::ROOT {
         return root_fields(sizes, node);
     }
     NOTHING

@@ -42,9 +42,9 @@ fn suits(sizes: Sizes, kinds: &[u8], node: usize, field: Field, x: usize) -> boo
         Field::Environment => x < sizes.environment,
         Field::Party => x <= 2,
         Field::Definition => x < sizes.definitions,
-        Field::Process => lower(kinds, node, x, 0, 9),
-        Field::Guard => lower(kinds, node, x, 16, 22),
-        Field::Expression => lower(kinds, node, x, 32, 40),
+        Field::Process => lower(kinds, node, x, basis::kinds::IDLE, basis::kinds::CALL),
+        Field::Guard => lower(kinds, node, x, basis::kinds::TRUE, basis::kinds::OR),
+        Field::Expression => lower(kinds, node, x, basis::kinds::CONSTANT, basis::kinds::REMAINDER),
         Field::Value => true,
     }
 }

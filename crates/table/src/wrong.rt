@@ -70,9 +70,9 @@ fn wrong_here(links: bool, kind: u8, party: usize, reached: bool) -> bool
     ensures { λ r. ⌜ r ≡ wrongHere links kind party reached ⌝ }
 {
     if links {
-        (33 <= kind) & (kind <= 35) & (reached & ((kind == 35) | (party == 0)))
+        (basis::kinds::ATTRIBUTE <= kind) & (kind <= basis::kinds::ENVIRONMENT) & (reached & ((kind == basis::kinds::ENVIRONMENT) | (party == 0)))
     } else {
-        (33 <= kind) & (kind <= 35) & (reached & (party != 0))
+        (basis::kinds::ATTRIBUTE <= kind) & (kind <= basis::kinds::ENVIRONMENT) & (reached & (party != 0))
     }
 }
 

@@ -15,7 +15,7 @@ use Rattle.table.specs.Tables.{Table, sizesOf, withinLimits, tableOf, kindAt, p
 use Rattle.table.specs.Nodes.{isProcess, badNode}
 use Rattle.table.specs.Reach.{wrongKey}
 use Rattle.table.specs.Sound.{Sound}
-use Rattle.table.proofs.Checks.{first-passes, first-both, refuseIf-passes, refuseIf-false, refuseAt-passes, refuseAt-none}
+use Rattle.table.proofs.Checks.{first-passes, first-both, refuseAt-passes, refuseAt-none}
 use Rattle.table.proofs.Limits.{limits-within}
 use Rattle.table.proofs.Promises.{sound-table, root-kind, past-kind, call-operands}
 use Rattle.term.specs.Processes.{Process, idle, derivations, few, byKind, defined, nodeProcess}
@@ -49,9 +49,9 @@ module _ (bytes : List ℕ) (stateLength scratchLength : ℕ) where
   pub passes-accepted : firstOf (lengthChecks bytes stateLength scratchLength ++ contentChecks (tableOf bytes)) ≡ passes → Acceptable bytes stateLength scratchLength
   passes-accepted e =
       let c = each-passes checks e in
-      let limits = not-false (withinLimits (sizesOf bytes)) (refuseIf-passes 2 (not (withinLimits (sizesOf bytes))) (c .1 .0)) in
-      let size = eqb-true (length bytes) (12 + 5 * N) (not-false (eqb (length bytes) (12 + 5 * N)) (refuseIf-passes 3 (not (eqb (length bytes) (12 + 5 * N))) (c .1 .1 .0))) in
-      let lent = or-neither (not (eqb stateLength stateWords)) (ltb scratchLength (2 * N)) (refuseIf-passes 8 (not (eqb stateLength stateWords) || ltb scratchLength (2 * N)) (c .1 .1 .1 .0)) in
+      let limits = not-false (withinLimits (sizesOf bytes)) ((c .1 .0)) in
+      let size = eqb-true (length bytes) (12 + 5 * N) (not-false (eqb (length bytes) (12 + 5 * N)) ((c .1 .1 .0))) in
+      let lent = or-neither (not (eqb stateLength stateWords)) (ltb scratchLength (2 * N)) ((c .1 .1 .1 .0)) in
       record {
         size = size;
         state = eqb-true stateLength stateWords (not-false (eqb stateLength stateWords) (lent .0));
@@ -68,13 +68,13 @@ module _ (bytes : List ℕ) (stateLength scratchLength : ℕ) where
   accepted-passes a =
       let s : Sound t = a .table .sound in
       passes-each checks (
-        refuseIf-false 1 (ltb (length bytes) 12) (le-ltb (length bytes) 12 (omega (arith, a .size))),
+        (le-ltb (length bytes) 12 (omega (arith, a .size))),
         (
-          refuseIf-false 2 (not (withinLimits (sizesOf bytes))) (ap not (limits-within (sizesOf bytes) (s .shaped .limits))),
+          (ap not (limits-within (sizesOf bytes) (s .shaped .limits))),
           (
-            refuseIf-false 3 (not (eqb (length bytes) (12 + 5 * N))) (ap not (eq-eqb (length bytes) (12 + 5 * N) (a .size))),
+            (ap not (eq-eqb (length bytes) (12 + 5 * N) (a .size))),
             (
-              refuseIf-false 8 (not (eqb stateLength stateWords) || ltb scratchLength (2 * N)) (rw (eq-eqb stateLength stateWords (a .state), le-ltb scratchLength (2 * N) (a .scratch))),
+              (rw (eq-eqb stateLength stateWords (a .state), le-ltb scratchLength (2 * N) (a .scratch))),
               (
                 refuseAt-none 4 N (badNode t) (s .nodes),
                 (

@@ -11,7 +11,7 @@ use Rattle.basis.specs.Below.{below}
 use Rattle.basis.proofs.Below.{below-induct}
 use Rattle.table.specs.Tables.{Table, kindAt, pAt, qAt, firstRoot, bodyAt}
 use Rattle.table.specs.Sound.{Sound}
-use Rattle.table.specs.Nodes.{LowerProcess, LowerGuard}
+use Rattle.table.specs.Sound.{LowerProcess, LowerGuard}
 use Rattle.table.proofs.Promises.{sequence-operands, guarded-operands, parallel-operands}
 use Rattle.term.specs.Terms.{Term, Seq, Par, Tick, Idle, Node, Over}
 use Rattle.term.specs.Processes.{Process, idle, tick, act, choice, guarded, call, seq, par, Label, ticks, acts}

@@ -6,7 +6,7 @@ use lib.Dec.{leb}
 use lib.ListN.{getD, length}
 use Rattle.basis.specs.Below.{below}
 use Rattle.table.specs.Tables.{Table, kindAt, pAt, qAt, firstRoot, bodyAt}
-use Rattle.table.specs.Nodes.{LowerGuard}
+use Rattle.table.specs.Sound.{LowerGuard}
 use Rattle.term.specs.Terms.{Term, Seq, Par, Tick, Idle, Node}
 
 -- A tree of nodes, with calls opened: `act n` is the action at node n, `guarded g P` has the guard at node g, `call d P` calls definition d,

@@ -5,7 +5,8 @@ use mathlib.Core.List.{List, [], _∷_, _++_}
 use lib.Dec.{eqb, ltb}
 use lib.ListN.{getD, drop}
 use Rattle.table.specs.Tables.{Table, kindAt, firstRoot}
-use Rattle.table.specs.Nodes.{isProcess, LowerProcess}
+use Rattle.table.specs.Nodes.{isProcess}
+use Rattle.table.specs.Sound.{LowerProcess}
 
 pub data Term : Type 0 where
   Seq Par : Term → Term → Term

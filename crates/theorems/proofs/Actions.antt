@@ -12,7 +12,7 @@ use lib.ListN.{getD}
 use borrow.Author.Tests.{lt-ltb}
 use Rattle.table.specs.Tables.{Table, kindAt, pAt, qAt}
 use Rattle.table.specs.Sound.{Sound}
-use Rattle.table.specs.Nodes.{LowerExpression}
+use Rattle.table.specs.Sound.{LowerExpression}
 use Rattle.table.proofs.Promises.{attribute-set-operands, stigmergy-set-operands, environment-set-operands}
 use Rattle.term.specs.Processes.{Label, ticks, acts, Derivation, ActionNode, GuardNode, Labelled}
 use Rattle.term.proofs.Each.{Each}

@@ -6,6 +6,7 @@ use lib.IntN.{ℤ, pos, negsuc, _+ℤ_, _-ℤ_, _*ℤ_}
 use lib.Signed.{leZ, quotZ, remZ}
 use mir.Syntax.{w32}
 use mir.Val.{toZ, ofZ}
+use Rattle.basis.specs.Kinds as kind
 use Rattle.value.specs.declared.Value.{Value}
 use Rattle.value.specs.declared.Value.the-variants.{Absent, Present}
 
@@ -33,18 +34,18 @@ quotient x y = quotZ x y
 abbrev pub remainder : ℤ → ℤ → ℤ
 remainder x y = remZ x y
 
--- node kinds 36 to 40, +, -, ×, divide, remainder, on two numbers; a zero divisor gives absent
+-- +, -, ×, divide, remainder on two numbers; a zero divisor gives absent
 abbrev pub arithmetic : ℕ → ℤ → ℤ → Value
-arithmetic kind x y =
-    cond (eqb kind 36) (fit (x +ℤ y))
-    (cond (eqb kind 37) (fit (x -ℤ y))
-    (cond (eqb kind 38) (fit (x *ℤ y))
-    (cond (eqb kind 39) (cond (isZero y) Absent (fit (quotient x y)))
-    (cond (eqb kind 40) (cond (isZero y) Absent (fit (remainder x y)))
+arithmetic k x y =
+    cond (eqb k kind.plus) (fit (x +ℤ y))
+    (cond (eqb k kind.minus) (fit (x -ℤ y))
+    (cond (eqb k kind.times) (fit (x *ℤ y))
+    (cond (eqb k kind.divide) (cond (isZero y) Absent (fit (quotient x y)))
+    (cond (eqb k kind.remainder) (cond (isZero y) Absent (fit (remainder x y)))
     Absent))))
 
 -- the same on two values: an absent operand gives absent
 abbrev pub operate : ℕ → Value → Value → Value
-operate kind Absent b = Absent
-operate kind (Present x) Absent = Absent
-operate kind (Present x) (Present y) = arithmetic kind (signedOf x) (signedOf y)
+operate k Absent b = Absent
+operate k (Present x) Absent = Absent
+operate k (Present x) (Present y) = arithmetic k (signedOf x) (signedOf y)

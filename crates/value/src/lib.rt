@@ -1,4 +1,5 @@
 // Values and truths, and the operations, comparisons and connectives on them.
+use basis::kinds;
 ghost use mathlib.Core.Path.{_≡_};
 ghost use Rattle.value.specs.Values.{signedOf, fit, arithmetic, operate as operateOf};
 ghost use Rattle.value.specs.Truths.{testOf, compareValues as compareOf, connect as connectOf};
@@ -43,18 +44,18 @@ fn fitted(z: i64) -> Value
     }
 }
 
-// A node of kind 36 to 40 on two numbers, given as their words.
+// An operation on two numbers, given as their words.
 fn compute(kind: u8, a: u32, b: u32) -> Value
     ensures { λ r. ⌜ r ≡ arithmetic kind (signedOf a) (signedOf b) ⌝ }
 {
     let x = number(a);
     let y = number(b);
     match kind {
-        36 => fitted(x + y),
-        37 => fitted(x - y),
-        38 => fitted(x * y),
-        39 => { if y == 0 { Value::Absent } else { fitted(x / y) } }
-        40 => { if y == 0 { Value::Absent } else { fitted(x % y) } }
+        kinds::PLUS => fitted(x + y),
+        kinds::MINUS => fitted(x - y),
+        kinds::TIMES => fitted(x * y),
+        kinds::DIVIDE => { if y == 0 { Value::Absent } else { fitted(x / y) } }
+        kinds::REMAINDER => { if y == 0 { Value::Absent } else { fitted(x % y) } }
         _ => Value::Absent,
     }
 }
@@ -72,14 +73,14 @@ pub fn operate(kind: u8, a: Value, b: Value) -> Value
     compute(kind, x, y)
 }
 
-// A node of kind 17 to 19 on two numbers, given as their words.
+// A comparison of two numbers, given as their words.
 fn test(kind: u8, a: u32, b: u32) -> bool
     ensures { λ r. ⌜ r ≡ testOf kind a b ⌝ }
 {
     match kind {
-        17 => a == b,
-        18 => number(a) < number(b),
-        19 => number(b) < number(a),
+        kinds::EQUAL => a == b,
+        kinds::LESS => number(a) < number(b),
+        kinds::GREATER => number(b) < number(a),
         _ => false,
     }
 }
@@ -106,20 +107,20 @@ pub fn compare_values(kind: u8, a: Value, b: Value) -> Truth
     }
 }
 
-// A node of kind 20 to 22 on what its parts come to.
+// Not, and, or on what their parts come to.
 pub fn connect(kind: u8, a: Truth, b: Truth) -> Truth
     ensures { λ r. ⌜ r ≡ connectOf kind a b ⌝ }
 {
     match kind {
-        20 => Truth {
+        kinds::NOT => Truth {
             defined: a.defined,
             holds: a.defined & !a.holds,
         },
-        21 => Truth {
+        kinds::AND => Truth {
             defined: a.defined & b.defined,
             holds: a.holds & b.holds,
         },
-        22 => Truth {
+        kinds::OR => Truth {
             defined: a.defined & b.defined,
             holds: a.holds | b.holds,
         },
