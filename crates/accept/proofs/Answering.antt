@@ -1,7 +1,7 @@
 -- Answers of checks in order.
 -- Assumes nothing.
 use Prim.Native.Nat.{ℕ, _+_, _-_, _*_, _≤_, _<_}
-use mathlib.Core.Bool.{Bool, false, not, _||_}
+use mathlib.Core.Bool.{Bool, true, false, cond, not, _||_}
 use mathlib.Core.Path.{_≡_, refl, sym, ap, subst, _∙_}
 use mathlib.Core.List.{List, [], _∷_}
 use native.Mathlib.Omega.{arith}
@@ -14,13 +14,14 @@ use Rattle.basis.proofs.Numbers.{lowest-before, lowest-bound}
 use Rattle.table.specs.declared.Sizes.{Sizes}
 use Rattle.table.specs.declared.Measured.{Measured}
 use Rattle.table.specs.declared.Measured.the-variants.{Fine as MeasuredFine, Refused as MeasuredRefused}
-use Rattle.table.specs.Checks.{Check, passes, refuses, refuseAt, firstOf}
+use Rattle.table.specs.Checks.{Check, passes, refuses, Refusal, refuseAt, firstOf}
 use Rattle.table.specs.Tables.{Table, table, sizesOf, tableOf, kindsOf, operandsOf}
 use Rattle.table.specs.Measuring.{measuredCheck, sizeChecks, Measure}
-use Rattle.table.proofs.Checks.{first-later, first-refuses, append-later, append-refuses, refuseAt-below, refuseAt-past}
+use Rattle.table.proofs.Checks.{first-later, first-refuses, append-later, append-refuses}
 use Rattle.table.proofs.Limits.{kinds-part}
 use Rattle.term.specs.Exposure.{badCall}
-use Rattle.term.specs.Acceptance.{stateWords, contentChecks, lentCheck}
+use Rattle.term.specs.Acceptance.{stateWords}
+use Rattle.term.specs.Parts.{contentChecks, lentCheck}
 use Rattle.term.specs.Accepted.{Acceptable}
 use Rattle.term.proofs.Acceptance.{passes-accepted}
 use Rattle.accept.specs.Scratch.{Held, Counted}
@@ -34,11 +35,16 @@ not-accepted : {number place : ℕ} {n : Sizes} → Refused number place ≡ Acc
 not-accepted e = let z : _≡_ {A = ℕ} 0 1 = cc in omega arith
 
 module _ {t : Table} {s : List ℕ} where
-  -- the first check refuses; it passes, and the others decide; there is none
-  pub judged-refused : {c : Check} {cs : List Check} {number place : ℕ} → c ≡ refuses number place → Judged t (c ∷ cs) s (Refused number place)
-  judged-refused {c} {cs} e = record { check = sym (first-refuses c cs e); sizes = λ n f. absurd (not-accepted f); counted = λ n f. absurd (not-accepted f) }
+  -- the first line refuses; it passes, and the others decide; there is none
+  pub judged-refused : {c : Refusal} {cs : List Refusal} {place : ℕ} → c .when ≡ true → c .place ≡ place → Judged t (c ∷ cs) s (Refused (c .number) place)
+  judged-refused {c} {cs} e f =
+      record {
+        check = sym (first-refuses c cs e ∙ ap (λ (p : ℕ). refuses (c .number) p) f);
+        sizes = λ n f. absurd (not-accepted f);
+        counted = λ n f. absurd (not-accepted f);
+      }
 
-  pub judged-later : {c : Check} {cs : List Check} {r : Acceptance} → c ≡ passes → Judged t cs s r → Judged t (c ∷ cs) s r
+  pub judged-later : {c : Refusal} {cs : List Refusal} {r : Acceptance} → c .when ≡ false → Judged t cs s r → Judged t (c ∷ cs) s r
   judged-later {c} {cs} e j = record { check = j .check ∙ sym (first-later c cs e); sizes = j .sizes; counted = j .counted }
 
   pub judged-none : Counted t s → Judged t [] s (Accepted (t .sizes))
@@ -47,11 +53,11 @@ module _ {t : Table} {s : List ℕ} where
 
 -- a lowest number that code has found
 module _ (number limit : ℕ) (test : ℕ → Bool) {x : ℕ} (e : x ≡ lowest test limit) where
-  pub refuses-at : x < limit → refuseAt number limit (lowest test limit) ≡ refuses number x
-  refuses-at h = subst (λ (y : ℕ). refuseAt number limit y ≡ refuses number x) e (refuseAt-below number limit x h)
+  pub refuses-at : {t : Table} {s : List ℕ} {cs : List Refusal} → x < limit → Judged t (refuseAt number limit (lowest test limit) ∷ cs) s (Refused number x)
+  refuses-at h = judged-refused (lt-ltb (lowest test limit) limit (omega arith)) (sym e)
 
-  pub passes-at : limit ≤ x → refuseAt number limit (lowest test limit) ≡ passes
-  passes-at h = refuseAt-past number limit (lowest test limit) (omega arith)
+  pub passes-at : limit ≤ x → ltb (lowest test limit) limit ≡ false
+  passes-at h = le-ltb (lowest test limit) limit (omega arith)
 
   pub none-at : limit ≤ x → (k : ℕ) → k < limit → test k ≡ false
   none-at h k l = lowest-before test limit k (omega arith)
@@ -72,14 +78,14 @@ module _ (bytes : List ℕ) (stateLength scratchLength : ℕ) where
   abbrev short : Bool
   short = not (eqb stateLength stateWords) || ltb scratchLength (2 * sizesOf bytes .nodes)
 
-  pub lent-state : (stateLength ≡ stateWords → ⊥) → lentCheck bytes stateLength scratchLength ≡ refuses 8 0
-  lent-state h = (rw (ne-eqb stateLength stateWords h))
+  pub lent-state : (stateLength ≡ stateWords → ⊥) → short ≡ true
+  lent-state h = rw (ne-eqb stateLength stateWords h)
 
-  pub lent-short : stateLength ≡ stateWords → scratchLength < 2 * sizesOf bytes .nodes → lentCheck bytes stateLength scratchLength ≡ refuses 8 0
-  lent-short e h = (rw (eq-eqb stateLength stateWords e, lt-ltb scratchLength (2 * sizesOf bytes .nodes) h))
+  pub lent-short : stateLength ≡ stateWords → scratchLength < 2 * sizesOf bytes .nodes → short ≡ true
+  lent-short e h = rw (eq-eqb stateLength stateWords e, lt-ltb scratchLength (2 * sizesOf bytes .nodes) h)
 
-  pub lent-enough : stateLength ≡ stateWords → 2 * sizesOf bytes .nodes ≤ scratchLength → lentCheck bytes stateLength scratchLength ≡ passes
-  lent-enough e h = (rw (eq-eqb stateLength stateWords e, le-ltb scratchLength (2 * sizesOf bytes .nodes) h))
+  pub lent-enough : stateLength ≡ stateWords → 2 * sizesOf bytes .nodes ≤ scratchLength → short ≡ false
+  lent-enough e h = rw (eq-eqb stateLength stateWords e, le-ltb scratchLength (2 * sizesOf bytes .nodes) h)
 
 -- 1 to 3
 module _ {bytes : List ℕ} {m : Measured} (measured : Measure bytes m) where

@@ -10,10 +10,10 @@ use lib.Seq.{getD-set-same, getD-set-other}
 use Rattle.basis.proofs.Tests.{below-or-last}
 use Rattle.table.specs.Tables.{Table, firstRoot, bodyAt}
 use Rattle.table.specs.Sound.{Sound}
-use Rattle.term.specs.Processes.{defined}
+use Rattle.term.specs.Processes.{defined, processAt}
 use Rattle.term.proofs.Calls.{defined-body}
 use Rattle.accept.specs.Counts.{countsOf, Capped}
-use Rattle.accept.specs.Scratch.{pairAt, stored, processAt, Held}
+use Rattle.accept.specs.Scratch.{pairAt, stored, Held}
 use Rattle.accept.specs.declared.Counts.{Counts}
 use Rattle.accept.proofs.Caps.{counts-small}
 

@@ -11,10 +11,10 @@ use borrow.Author.Tests.{ltb-true, ltb-false}
 use Rattle.basis.proofs.Below.{below-out}
 use Rattle.table.specs.Tables.{Table, kindAt, pAt, qAt, firstRoot, bodyAt}
 use Rattle.term.specs.Terms.{Node}
-use Rattle.term.specs.Processes.{idle, byKind, nodeWith, defined}
+use Rattle.term.specs.Processes.{idle, byKind, nodeWith, defined, processAt}
 use Rattle.term.proofs.Opened.{sound-lower, node-opened}
 use Rattle.accept.specs.Counts.{counts, choiceCounts, seqCounts, parCounts, countsOf}
-use Rattle.accept.specs.Scratch.{pairAt, calledAt, processAt, Held}
+use Rattle.accept.specs.Scratch.{pairAt, calledAt, Held}
 use Rattle.accept.specs.declared.Counts.{Counts}
 use Rattle.accept.proofs.Caps.{counts-idle, counts-tick, counts-act, counts-guarded, counts-call, counts-choice, counts-seq, counts-par}
 

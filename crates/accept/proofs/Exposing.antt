@@ -9,13 +9,13 @@ use lib.Dec.{ltb}
 use lib.ListN.{getD}
 use borrow.Author.Tests.{lt-ltb, le-ltb}
 use Rattle.table.specs.Tables.{Table, kindAt, pAt, qAt, firstRoot, bodyAt}
-use Rattle.term.specs.Processes.{Process, idle, byKind, defined}
+use Rattle.term.specs.Processes.{Process, idle, byKind, defined, processAt}
 use Rattle.term.specs.Choices.{tickCount}
 use Rattle.term.specs.Exposure.{canTick, callsBelow, badCall}
 use Rattle.term.proofs.Counting.{can-tick}
 use Rattle.term.proofs.Opened.{sound-lower, node-opened}
 use Rattle.accept.specs.Counts.{capped, countsOf}
-use Rattle.accept.specs.Scratch.{pairAt, processAt, Held}
+use Rattle.accept.specs.Scratch.{pairAt, Held}
 use Rattle.accept.specs.Calls.{answered, AllBelow, Exposes}
 use Rattle.accept.specs.declared.Counts.{Counts}
 use Rattle.accept.specs.declared.Exposed.{Exposed}

@@ -3,7 +3,7 @@ use Prim.Native.Nat.{ℕ}
 use mathlib.Core.Path.{_≡_}
 use mathlib.Core.List.{List}
 use lib.ListN.{length}
-use Rattle.table.specs.Checks.{Check, passes, refuses, firstOf}
+use Rattle.table.specs.Checks.{Check, passes, refuses, Refusal, firstOf}
 use Rattle.table.specs.Tables.{Table, sizesOf, tableOf}
 use Rattle.table.specs.declared.Sizes.{Sizes}
 use Rattle.term.specs.Acceptance.{tableChecks}
@@ -17,7 +17,7 @@ acceptanceCheck (Accepted n) = passes
 acceptanceCheck (Refused number place) = refuses number place
 
 -- the answer r by some checks; s is what the words hold then
-pub record Judged (t : Table) (checks : List Check) (s : List ℕ) (r : Acceptance) : Type 0 where
+pub record Judged (t : Table) (checks : List Refusal) (s : List ℕ) (r : Acceptance) : Type 0 where
   pub check : acceptanceCheck r ≡ firstOf checks
   pub sizes : (n : Sizes) → r ≡ Accepted n → n ≡ t .sizes
   pub counted : (n : Sizes) → r ≡ Accepted n → Counted t s

@@ -6,7 +6,8 @@ use mathlib.Core.List.{List}
 use Rattle.basis.specs.Numbers.{lowest}
 use Rattle.table.specs.Tables.{Table}
 use Rattle.term.specs.Exposure.{callsBelow, badCall}
-use Rattle.accept.specs.Scratch.{processAt, Held}
+use Rattle.term.specs.Processes.{processAt}
+use Rattle.accept.specs.Scratch.{Held}
 use Rattle.accept.specs.declared.Exposed.{Exposed}
 use Rattle.accept.specs.declared.Exposed.the-variants.{Settled, One, Both}
 

@@ -7,7 +7,7 @@ use lib.Dec.{ltb}
 use lib.ListN.{length, getD, set}
 use Rattle.table.specs.Tables.{Table, firstRoot}
 use Rattle.table.specs.Sound.{Sound}
-use Rattle.term.specs.Processes.{Process, nodeWith, defined, nodeProcess}
+use Rattle.term.specs.Processes.{derivationLimit, defined, processAt, nodeProcess}
 use Rattle.accept.specs.Counts.{counts, trueCounts, countsOf}
 use Rattle.accept.specs.declared.Counts.{Counts}
 
@@ -22,10 +22,6 @@ stored s n c = set (set s (2 * n) (c .actions)) (2 * n + 1) (c .ticks)
 abbrev pub calledAt : List ℕ → ℕ → ℕ → ℕ → Counts
 calledAt s roots level d = cond (ltb d level) (pairAt s (roots + d)) (counts 0 0)
 
--- the process of node n where the definitions below a level may be called
-abbrev pub processAt : Table → ℕ → ℕ → Process
-processAt t level n = nodeWith t (defined t level) n
-
 -- The table is sound, and the words hold the counts of the definitions below a level, and of the nodes below n with calls of those.
 pub record Held (t : Table) (level n : ℕ) (s : List ℕ) : Type 0 where
   pub sound : Sound t
@@ -39,4 +35,4 @@ pub record Held (t : Table) (level n : ℕ) (s : List ℕ) : Type 0 where
 pub record Counted (t : Table) (s : List ℕ) : Type 0 where
   pub words : 2 * t .sizes .nodes ≤ length s
   pub nodes : (n : ℕ) → n < firstRoot t → pairAt s n ≡ trueCounts (nodeProcess t n)
-  pub few : (n : ℕ) → n < firstRoot t → pairAt s n .actions + pairAt s n .ticks ≤ 65535
+  pub few : (n : ℕ) → n < firstRoot t → pairAt s n .actions + pairAt s n .ticks ≤ derivationLimit

@@ -13,7 +13,8 @@ ghost use lib.ListN.{length};
 ghost use Rattle.table.specs.Tables.{table, firstRoot};
 ghost use Rattle.table.specs.Sound.{Sound};
 ghost use Rattle.term.specs.Exposure.{callsBelow};
-ghost use Rattle.accept.specs.Scratch.{processAt, Held};
+ghost use Rattle.term.specs.Processes.{processAt};
+ghost use Rattle.accept.specs.Scratch.{Held};
 ghost use Rattle.accept.specs.Calls.{Exposes, CallsJudged};
 
 // What node n leaves to ask for definition d. The right of a sequence is exposed where the left can tick.

@@ -26,7 +26,7 @@ ghost use Rattle.table.specs.Checks.{passes, firstOf};
 ghost use Rattle.table.specs.Measuring.{sizeChecks};
 ghost use Rattle.table.specs.Sound.{Shaped, Sound};
 ghost use Rattle.table.specs.Tables.{table as tableFrom, sizesOf, tableOf};
-ghost use Rattle.term.specs.Acceptance.{lentCheck, termChecks, contentChecks};
+ghost use Rattle.term.specs.Parts.{lentCheck, termChecks, contentChecks};
 ghost use Rattle.accept.specs.Answers.{Judged, Accepts};
 
 // How many actions and ticks a process has. 65,536 stands for any larger number too.
@@ -93,14 +93,14 @@ fn judge_lent(table: &[u8], sizes: Sizes, state_length: usize, scratch: &mut [u3
     requires { ⌜ (firstOf (sizeChecks (now table)) ≡ passes) × (sizes ≡ sizesOf (now table)) ⌝ }
     ensures { λ r. ⌜ Judged (tableOf (now (table .entry))) (lentCheck (now (table .entry)) «state_length» (length (now (scratch .entry))) ∷ contentChecks (tableOf (now (table .entry)))) (now (scratch .exit)) r ⌝ }
 {
-    if state_length != 4194 {
+    if state_length != term::STATE_WORDS {
         return Acceptance::Refused(8, 0);
     }
     if scratch.len() < 2 * sizes.nodes {
         return Acceptance::Refused(8, 0);
     }
-    let operands = 12 + sizes.nodes;
-    judge(sizes, &table[12..operands], &table[operands..], scratch)
+    let operands = table::HEADER_BYTES + sizes.nodes;
+    judge(sizes, &table[table::HEADER_BYTES..operands], &table[operands..], scratch)
 }
 
 // Judges a table, for a state of this length and the lent words: refusals 1, 2, 3, 8, 4, 5, 6 and 7, in this order.

@@ -18,7 +18,8 @@ ghost use Rattle.basis.specs.Numbers.{lowest};
 ghost use Rattle.table.specs.Tables.{table, firstRoot};
 ghost use Rattle.term.specs.Acceptance.{overfull};
 ghost use Rattle.accept.specs.Counts.{countsOf};
-ghost use Rattle.accept.specs.Scratch.{processAt, calledAt, Held};
+ghost use Rattle.term.specs.Processes.{processAt};
+ghost use Rattle.accept.specs.Scratch.{calledAt, Held};
 ghost use lib.ListN.{length};
 
 // The counts of definition d, at its root, and none where it is not below the level.
@@ -92,7 +93,7 @@ pub fn lowest_overfull(sizes: Sizes, kinds: &[u8], operands: &[u8], scratch: &[u
     let mut n = 0;
     while n < end {
         let c = pair(scratch, n);
-        if 65535 < c.actions + c.ticks {
+        if term::DERIVATIONS < c.actions + c.ticks {
             return n;
         }
         n += 1;

@@ -17,12 +17,12 @@ use Rattle.judging.proofs.Ordering.{judged-check}
 use Rattle.acting.specs.Acting.{Acts, Decided}
 
 -- a judgement without a refusal
-pub judged-decided : (t : Table) (was : List ℕ) (x c : ℕ) {marks : List ℕ} {r : Judgement} → Judges t was x c marks r → r .refusal ≡ 0 → Decided t was x c marks (r .does) (r .value)
+pub judged-decided : (t : Table) (was : List ℕ) (x c : ℕ) {marks : List ℕ} {r : Judgement} → Judges t was x c marks r → r .refusal ≡ 0 → Decided t was x c marks (r .label) (r .value)
 unfolding judged
 judged-decided t was x c {marks} {r} j z =
     let able : firstOf (actChecks t was x c) ≡ passes = sym (judged-check t was x c j) ∙ ap refusalCheck z in
     let is : r ≡ found t was x (chosen t was x c .label) passes = j .is ∙ ap (found t was x (chosen t was x c .label)) able in
-    record { able = able; does = ap (λ (q : Judgement). q .does) is; value = ap (λ (q : Judgement). q .value) is; guards = j .guards able }
+    record { able = able; label = ap (λ (q : Judgement). q .label) is; value = ap (λ (q : Judgement). q .value) is; guards = j .guards able }
 
 module _ (t : Table) (was : List ℕ) (x c r : ℕ) (check : refusalCheck r ≡ firstOf (actChecks t was x c)) where
   abbrev done : List ℕ

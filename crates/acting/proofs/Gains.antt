@@ -8,6 +8,8 @@ use mathlib.Core.List.{List, [], _∷_}
 use lib.Dec.{eqb, ltb}
 use lib.ListN.{getD}
 use borrow.Author.Tests.{eqb-true, eq-eqb}
+use Rattle.term.specs.declared.Label.{Label}
+use Rattle.term.specs.declared.Label.the-variants.{Ticking, Acting}
 use Rattle.basis.specs.Numbers.{someBelow}
 use Rattle.basis.specs.KeySets.{has, plus, plusAll}
 use Rattle.basis.proofs.Numbers.{some-at, some-witness, some-more}
@@ -16,9 +18,6 @@ use Rattle.basis.proofs.Tests.{not-both, or-either, or-left, or-right, and-left
 use Rattle.table.specs.Tables.{Table, kindAt, qAt}
 use Rattle.table.specs.Nodes.{isGuard}
 use Rattle.choice.specs.Marking.{hasMark, isIn}
-use Rattle.choice.specs.declared.Does.{Does}
-use Rattle.choice.specs.declared.Does.the-variants.{Ticking, Acting}
-use Rattle.choice.specs.Outcomes.{labelOf}
 use Rattle.state.specs.declared.Store.the-variants.{Entries}
 use Rattle.state.specs.Layout.{keyLimit, markAt, stampOf}
 use Rattle.state.specs.Evaluation.{reads}
@@ -93,19 +92,19 @@ module _ (t : Table) (was : List ℕ) (x : ℕ) where
           (and-both (isGuard (kindAt t b) && hasMark marks b) (reads t b k) (and-both (isGuard (kindAt t b)) (hasMark marks b) (n .1) (c .guards b (n .1) ∙ w .1)) (w .2))
 
 -- WHAT AN ACTION'S EXPRESSION READS
-module _ (t : Table) (was : List ℕ) (x : ℕ) (does : Does) where
-  pub label-none : does ≡ Ticking → (w : ℕ) → Adds (labelReads t was x (labelOf does)) w w
-  label-none e w = adds-none (λ k l. ap (λ (d : Does). labelReads t was x (labelOf d) k) e)
+module _ (t : Table) (was : List ℕ) (x : ℕ) (label : Label) where
+  pub label-none : label ≡ Ticking → (w : ℕ) → Adds (labelReads t was x label) w w
+  label-none e w = adds-none (λ k l. ap (λ (d : Label). labelReads t was x d k) e)
 
-  pub label-expression : {n : ℕ} → does ≡ Acting n → (q : ℕ) → q ≡ qAt t n → (w : ℕ) → w < 2 ^ keyLimit → (r : ℕ) → r ≡ plusAll (reads t q) keyLimit w → Adds (labelReads t was x (labelOf does)) w r
+  pub label-expression : {n : ℕ} → label ≡ Acting n → (q : ℕ) → q ≡ qAt t n → (w : ℕ) → w < 2 ^ keyLimit → (r : ℕ) → r ≡ plusAll (reads t q) keyLimit w → Adds (labelReads t was x label) w r
   label-expression e q f w low r a =
-      adds-same (λ k. ap (λ (d : Does). labelReads t was x (labelOf d) k) e ∙ sym (ap (λ (m : ℕ). reads t m k) f)) (all-adds low a)
+      adds-same (λ k. ap (λ (d : Label). labelReads t was x d k) e ∙ sym (ap (λ (m : ℕ). reads t m k) f)) (all-adds low a)
 
 -- WHAT ZC GAINS
-pub gains : (t : Table) (was : List ℕ) (x : ℕ) (marks : List ℕ) (does : Does) (v r : ℕ)
-    → Adds (markedReads t marks (t .sizes .nodes)) 0 v → Adds (labelReads t was x (labelOf does)) v r
-    → Gains t was x marks does (plusAll (hasEntry was x r) keyLimit 0)
-gains t was x marks does v r a b d e c =
+pub gains : (t : Table) (was : List ℕ) (x : ℕ) (marks : List ℕ) (label : Label) (v r : ℕ)
+    → Adds (markedReads t marks (t .sizes .nodes)) 0 v → Adds (labelReads t was x label) v r
+    → Gains t was x marks label (plusAll (hasEntry was x r) keyLimit 0)
+gains t was x marks label v r a b d e c =
     plusAll-ext (hasEntry was x r) (toConfirm t was x d) keyLimit 0 (λ k l. ap (λ f. f && ltb 0 (stampOf was x k)) (read k l))
   where
     read : (k : ℕ) → k < keyLimit → has r k ≡ (guardsRead t was x (d .guards) k || labelReads t was x (d .label) k)

@@ -9,12 +9,12 @@ use lib.ListN.{length, set, length-set}
 use borrow.Author.Tests.{eq-eqb}
 use Rattle.basis.specs.KeySets.{plusAll}
 use Rattle.table.specs.Tables.{Table, kindAt, pAt, firstRoot}
+use Rattle.term.specs.declared.Label.{Label}
+use Rattle.term.specs.declared.Label.the-variants.{Ticking, Acting}
 use Rattle.term.specs.Terms.{Term, words}
-use Rattle.term.specs.Processes.{Label, ticks, acts, Derivation, ActionNode, Labelled}
+use Rattle.term.specs.Processes.{Derivation}
+use Rattle.term.specs.Accepted.{ActionNode, Labelled}
 use Rattle.term.proofs.Inside.{Inside as InsideTable}
-use Rattle.choice.specs.declared.Does.{Does}
-use Rattle.choice.specs.declared.Does.the-variants.{Ticking, Acting}
-use Rattle.choice.specs.Outcomes.{labelOf}
 use Rattle.choice.specs.Turns.{Prepared}
 use Rattle.residual.specs.Wholes.{taken}
 use Rattle.state.specs.declared.Store.{Store}
@@ -27,13 +27,13 @@ use Rattle.state.proofs.Keep.{residual-kept}
 use Rattle.steps.specs.Acts.{writesEntry, chosen, toConfirm, storeOf, setKey, leave, acted}
 use Rattle.steps.proofs.Steps.{Able, act-able}
 use Rattle.steps.proofs.Acts.{chosen-inside, action-key, set-tick, set-key-other, set-length}
-use Rattle.judging.specs.Outcomes.{doesOf, wordFor}
+use Rattle.judging.specs.Outcomes.{wordFor}
 use Rattle.acting.specs.Acting.{Decided, Leaving, Setting}
 use Rattle.acting.specs.Gaining.{LabelKey, Gaining, Gains}
 
-label-back : (l : Label) → labelOf (doesOf l) ≡ l
-label-back ticks = refl
-label-back (acts n) = refl
+label-back : (l : Label) → l ≡ l
+label-back Ticking = refl
+label-back (Acting n) = refl
 
 -- a place that no setting of a key of agent x changes
 record Still (x : ℕ) (q : Place) : Type 0 where
@@ -55,36 +55,36 @@ module _ (t : Table) (scratch : List ℕ) (ready : Prepared t scratch) (was : Li
 
   -- WHAT A LABEL'S KEY LEAVES
   label-other : (l : Label) → Labelled t l → (q : Place) → Still x q → SameAt (setKey t was x l) was q
-  label-other ticks h q s = ap (λ (u : List ℕ). wordAt u q) (set-tick t was x)
-  label-other (acts n) h q s = set-key-other t was x n (action-key t was x (ready .checked .sound) n h) q (s .inside) (s .clock) (s .waits) (s .mark (storeOf t was x n) (pAt t n)) (s .word (storeOf t was x n) (pAt t n))
+  label-other Ticking h q s = ap (λ (u : List ℕ). wordAt u q) (set-tick t was x)
+  label-other (Acting n) h q s = set-key-other t was x n (action-key t was x (ready .checked .sound) n h) q (s .inside) (s .clock) (s .waits) (s .mark (storeOf t was x n) (pAt t n)) (s .word (storeOf t was x n) (pAt t n))
 
-  module _ (c : ℕ) (marks : List ℕ) (does : Does) (v : ℕ) (d : Decided t was x c marks does v) where
+  module _ (c : ℕ) (marks : List ℕ) (label : Label) (v : ℕ) (d : Decided t was x c marks label v) where
     abbrev D : Derivation
     D = chosen t was x c
 
     able : Able t was x c
     able = act-able t was x c .0 (d .able)
 
-    label : labelOf does ≡ D .label
-    label = ap labelOf (d .does) ∙ label-back (D .label)
+    label : label ≡ D .label
+    label = ap (d .label) ∙ label-back (D .label)
 
     inside : InsideTable t D
     inside = chosen-inside t was x (ready .checked .sound) (formed .over) c (able .there)
 
-    labelled : Labelled t (labelOf does)
+    labelled : Labelled t label
     labelled = subst (Labelled t) (sym label) (inside .label)
 
-    within : (e : Does) → Labelled t (labelOf e) → LabelKey t e
+    within : (e : Label) → Labelled t e → LabelKey t e
     within Ticking h = tt
     within (Acting n) h = omega arith
 
-    pub decided-gaining : Gaining t was x marks does
+    pub decided-gaining : Gaining t was x marks label
     decided-gaining =
-        record { shaped = ready .checked .sound .shaped; whole = proper .whole; agent = low; room = d .guards .room; within = within does labelled }
+        record { shaped = ready .checked .sound .shaped; whole = proper .whole; agent = low; room = d .guards .room; within = within label labelled }
 
-    pub decided-setting : (n : ℕ) → does ≡ Acting n → Setting t was x n v
+    pub decided-setting : (n : ℕ) → label ≡ Acting n → Setting t was x n v
     decided-setting n e =
-        let l : acts n ≡ D .label = sym (ap labelOf e) ∙ label in
+        let l : Acting n ≡ D .label = sym (ap e) ∙ label in
         let a : ActionNode t n = subst (Labelled t) (sym l) (inside .label) in
         record {
           shaped = ready .checked .sound .shaped;
@@ -97,12 +97,12 @@ module _ (t : Table) (scratch : List ℕ) (ready : Prepared t scratch) (was : Li
         }
 
     -- AFTER THE KEY AND ZC
-    module _ (g : ℕ) (keySet s : List ℕ) (set-key : keySet ≡ setKey t was x (labelOf does)) (set-zc : s ≡ set keySet (zcAt x) g) where
+    module _ (g : ℕ) (keySet s : List ℕ) (set-key : keySet ≡ setKey t was x label) (set-zc : s ≡ set keySet (zcAt x) g) where
       long : length s ≡ length was
-      long = ap (λ (u : List ℕ). length u) set-zc ∙ length-set keySet (zcAt x) g ∙ ap (λ (u : List ℕ). length u) set-key ∙ set-length t was x (labelOf does)
+      long = ap (λ (u : List ℕ). length u) set-zc ∙ length-set keySet (zcAt x) g ∙ ap (λ (u : List ℕ). length u) set-key ∙ set-length t was x label
 
       key-still : (q : Place) → Still x q → SameAt keySet was q
-      key-still q h = ap (λ (u : List ℕ). wordAt u q) set-key ∙ label-other (labelOf does) labelled q h
+      key-still q h = ap (λ (u : List ℕ). wordAt u q) set-key ∙ label-other label labelled q h
 
       still : (q : Place) → Still x q → same q (Waits Zc x) ≡ false → SameAt s was q
       still q h e = ap (λ (u : List ℕ). wordAt u q) set-zc ∙ set-other keySet (Waits Zc x) g tt q (h .inside) e ∙ key-still q h
@@ -136,7 +136,7 @@ module _ (t : Table) (scratch : List ℕ) (ready : Prepared t scratch) (was : Li
       is-key-set = set-key ∙ ap (setKey t was x) label
 
       -- the residual comes last
-      pub decided-acted : Gains t was x marks does g → (out : List ℕ) → out ≡ leave x (words (chosen t s x c .leaving)) s → out ≡ acted t was x (chosen t was x c)
+      pub decided-acted : Gains t was x marks label g → (out : List ℕ) → out ≡ leave x (words (chosen t s x c .leaving)) s → out ≡ acted t was x (chosen t was x c)
       unfolding acted
       decided-acted gains out o =
           let e : g ≡ plusAll (toConfirm t was x D) keyLimit (zcOf keySet x) = gains D label (d .guards) ∙ ap (plusAll (toConfirm t was x D) keyLimit) (sym zc-empty) in

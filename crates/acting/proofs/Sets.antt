@@ -4,11 +4,9 @@ use Prim.Native.Nat.{ℕ, _<_}
 use mathlib.Core.Path.{_≡_, refl, sym, ap, _∙_}
 use mathlib.Core.List.{List}
 use native.Mathlib.Omega.{arith}
+use Rattle.term.specs.declared.Label.{Label}
+use Rattle.term.specs.declared.Label.the-variants.{Ticking, Acting}
 use Rattle.table.specs.Tables.{Table, kindAt, pAt}
-use Rattle.term.specs.Processes.{acts}
-use Rattle.choice.specs.declared.Does.{Does}
-use Rattle.choice.specs.declared.Does.the-variants.{Ticking, Acting}
-use Rattle.choice.specs.Outcomes.{labelOf}
 use Rattle.state.specs.declared.Store.{Store}
 use Rattle.state.specs.declared.Store.the-variants.{Environment, Attributes, Entries}
 use Rattle.state.specs.Layout.{put}
@@ -28,16 +26,16 @@ module _ (x : ℕ) (there : x < 32) where
   stored-environment kind e = record { is = λ t was n f. sym (store-environment t was x n (f ∙ e)); agent = omega arith }
 
 module _ (t : Table) (s : List ℕ) (x n v : ℕ) (a : Setting t s x n v) (k : ℕ) (key : k ≡ pAt t n) (out : List ℕ) where
-  pub entered-is : kindAt t n ≡ 3 → out ≡ entered s x k v → out ≡ setKey t s x (acts n)
+  pub entered-is : kindAt t n ≡ 3 → out ≡ entered s x k v → out ≡ setKey t s x (Acting n)
   entered-is e o = o ∙ rw (set-entry t s x n e, key, a .value)
 
-  pub stored-is : (kindAt t n ≡ 3 → ⊥) → (store : Store) → Stored (kindAt t n) x store → out ≡ put store k v 1 s → out ≡ setKey t s x (acts n)
+  pub stored-is : (kindAt t n ≡ 3 → ⊥) → (store : Store) → Stored (kindAt t n) x store → out ≡ put store k v 1 s → out ≡ setKey t s x (Acting n)
   stored-is d store h o = let e = h .is t s n refl in o ∙ rw (set-value t s x n d, e, key, a .value)
 
 -- what an act does
-module _ (t : Table) (s : List ℕ) (x : ℕ) (does : Does) where
-  pub tick-sets : does ≡ Ticking → s ≡ setKey t s x (labelOf does)
-  tick-sets e = sym (ap (λ (d : Does). setKey t s x (labelOf d)) e ∙ set-tick t s x)
+module _ (t : Table) (s : List ℕ) (x : ℕ) (label : Label) where
+  pub tick-sets : label ≡ Ticking → s ≡ setKey t s x label
+  tick-sets e = sym (ap (λ (d : Label). setKey t s x d) e ∙ set-tick t s x)
 
-  pub action-sets : {n : ℕ} → does ≡ Acting n → (out : List ℕ) → out ≡ setKey t s x (acts n) → out ≡ setKey t s x (labelOf does)
-  action-sets e out o = o ∙ sym (ap (λ (d : Does). setKey t s x (labelOf d)) e)
+  pub action-sets : {n : ℕ} → label ≡ Acting n → (out : List ℕ) → out ≡ setKey t s x (Acting n) → out ≡ setKey t s x label
+  action-sets e out o = o ∙ sym (ap (λ (d : Label). setKey t s x d) e)

@@ -7,10 +7,11 @@ use lib.ListN.{length, set}
 use Rattle.table.specs.Checks.{passes, firstOf, refusalCheck}
 use Rattle.table.specs.Tables.{Table, kindAt, pAt}
 use Rattle.table.specs.Sound.{Shaped}
+use Rattle.term.specs.declared.Label.{Label}
 use Rattle.term.specs.Terms.{words}
 use Rattle.term.specs.Acceptance.{stateWords}
-use Rattle.term.specs.Processes.{allFew, ActionNode}
-use Rattle.choice.specs.declared.Does.{Does}
+use Rattle.term.specs.Processes.{allFew}
+use Rattle.term.specs.Accepted.{ActionNode}
 use Rattle.state.specs.declared.Store.{Store}
 use Rattle.state.specs.declared.Store.the-variants.{Entries}
 use Rattle.state.specs.Layout.{clockAt, zpAt, keyLimit, residualWords, clockOf, termIn, put, addKey}
@@ -19,7 +20,7 @@ use Rattle.state.specs.WellFormed.{residualFormed}
 use Rattle.steps.specs.Acts.{nextStamp, wordIn, valueFor, choices, actChecks, chosen, storeOf, acted}
 use Rattle.steps.specs.Steps.{outcome}
 use Rattle.judging.specs.Judging.{GuardsMarked}
-use Rattle.judging.specs.Outcomes.{doesOf, wordFor}
+use Rattle.judging.specs.Outcomes.{wordFor}
 
 -- choice c of agent x is done, or refused
 pub record Acts (t : Table) (was : List ℕ) (x c r : ℕ) (s : List ℕ) : Type 0 where
@@ -27,9 +28,9 @@ pub record Acts (t : Table) (was : List ℕ) (x c r : ℕ) (s : List ℕ) : Type
   pub state : s ≡ outcome (firstOf (actChecks t was x c)) was 0 (acted t was x (chosen t was x c)) .state
 
 -- choice c of agent x can be done: this is what it does, the word that it sets, and the marks of its guards
-pub record Decided (t : Table) (was : List ℕ) (x c : ℕ) (marks : List ℕ) (d : Does) (v : ℕ) : Type 0 where
+pub record Decided (t : Table) (was : List ℕ) (x c : ℕ) (marks : List ℕ) (d : Label) (v : ℕ) : Type 0 where
   pub able : firstOf (actChecks t was x c) ≡ passes
-  pub does : d ≡ doesOf (chosen t was x c .label)
+  pub label : d ≡ (chosen t was x c .label)
   pub value : v ≡ wordFor t was x (chosen t was x c .label)
   pub guards : GuardsMarked t (chosen t was x c .guards) marks
 

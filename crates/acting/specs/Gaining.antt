@@ -10,12 +10,11 @@ use Rattle.basis.specs.KeySets.{has, plusAll}
 use Rattle.table.specs.Tables.{Table, kindAt}
 use Rattle.table.specs.Nodes.{isGuard}
 use Rattle.table.specs.Sound.{Shaped}
+use Rattle.term.specs.declared.Label.{Label}
+use Rattle.term.specs.declared.Label.the-variants.{Ticking, Acting}
 use Rattle.term.specs.Acceptance.{stateWords}
 use Rattle.term.specs.Processes.{Derivation}
-use Rattle.choice.specs.declared.Does.{Does}
-use Rattle.choice.specs.declared.Does.the-variants.{Ticking, Acting}
 use Rattle.choice.specs.Marking.{hasMark}
-use Rattle.choice.specs.Outcomes.{labelOf}
 use Rattle.state.specs.Layout.{keyLimit, stampOf}
 use Rattle.state.specs.Evaluation.{reads}
 use Rattle.steps.specs.Acts.{toConfirm}
@@ -34,18 +33,18 @@ abbrev pub markedReads : Table → List ℕ → ℕ → ℕ → Bool
 markedReads t marks n k = someBelow (λ (b : ℕ). markedReadsAt t marks b k) n
 
 -- an action is at a node of the table
-abbrev pub LabelKey : Table → Does → Type 0
+abbrev pub LabelKey : Table → Label → Type 0
 LabelKey t Ticking = Unit {0}
 LabelKey t (Acting n) = n < t .sizes .nodes
 
 -- a whole state, an agent that it has room for, a mark for each node
-pub record Gaining (t : Table) (s : List ℕ) (x : ℕ) (marks : List ℕ) (does : Does) : Type 0 where
+pub record Gaining (t : Table) (s : List ℕ) (x : ℕ) (marks : List ℕ) (label : Label) : Type 0 where
   pub shaped : Shaped t
   pub whole : length s ≡ stateWords
   pub agent : x < 32
   pub room : t .sizes .nodes ≤ length marks
-  pub within : LabelKey t does
+  pub within : LabelKey t label
 
 -- r is what Zc gains in any derivation that does this, under the marked guards
-abbrev pub Gains : Table → List ℕ → ℕ → List ℕ → Does → ℕ → Type 0
-Gains t was x marks does r = (d : Derivation) → labelOf does ≡ d .label → GuardsMarked t (d .guards) marks → r ≡ plusAll (toConfirm t was x d) keyLimit 0
+abbrev pub Gains : Table → List ℕ → ℕ → List ℕ → Label → ℕ → Type 0
+Gains t was x marks label r = (d : Derivation) → label ≡ d .label → GuardsMarked t (d .guards) marks → r ≡ plusAll (toConfirm t was x d) keyLimit 0

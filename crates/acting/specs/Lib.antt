@@ -1,2 +1,3 @@
 pub mod Acting
-pub mod Gaining
+pub mod Gaininguse Rattle.term.specs.declared.Label.the-variants.{Acting}
+

@@ -1,7 +1,7 @@
 // The keys that Zc gains: those that the collected guards and the action's expression read, of which only those count that have an entry.
 use basis::has;
 use basis::plus;
-use choice::Does;
+use term::Label;
 use evaluation::keys_read;
 use state::KEYS;
 use state::Store;
@@ -17,7 +17,6 @@ ghost use Rattle.basis.specs.KeySets.{plusAll};
 ghost use Rattle.table.specs.Tables.{table};
 ghost use Rattle.table.specs.Sound.{Shaped};
 ghost use Rattle.term.specs.Acceptance.{stateWords};
-ghost use Rattle.choice.specs.Outcomes.{labelOf};
 ghost use Rattle.state.specs.Layout.{keyLimit};
 ghost use Rattle.evaluation.specs.Reading.{Adds};
 ghost use Rattle.steps.specs.Acts.{labelReads};
@@ -73,13 +72,13 @@ fn guard_keys(sizes: Sizes, kinds: &[u8], operands: &[u8], marks: &[u8]) -> u32
 }
 
 // The set with the keys that an action's expression reads; a tick has none.
-fn label_keys(sizes: Sizes, kinds: &[u8], operands: &[u8], does: Does, keys: u32) -> u32
-    requires { ⌜ Shaped (table sizes (now kinds) (now operands)) × LabelKey (table sizes (now kinds) (now operands)) does × (keys < 2 ^ keyLimit) ⌝ }
-    ensures { λ r. ⌜ ((was : List ℕ) (x : ℕ) → Adds (labelReads (table sizes (now (kinds .entry)) (now (operands .entry))) was x (labelOf does)) keys r) ⌝ }
+fn label_keys(sizes: Sizes, kinds: &[u8], operands: &[u8], label: Label, keys: u32) -> u32
+    requires { ⌜ Shaped (table sizes (now kinds) (now operands)) × LabelKey (table sizes (now kinds) (now operands)) label × (keys < 2 ^ keyLimit) ⌝ }
+    ensures { λ r. ⌜ ((was : List ℕ) (x : ℕ) → Adds (labelReads (table sizes (now (kinds .entry)) (now (operands .entry))) was x label) keys r) ⌝ }
 {
-    match does {
-        Does::Ticking => keys,
-        Does::Acting(node) => {
+    match label {
+        Label::Ticking => keys,
+        Label::Acting(node) => {
             let expression = q_at(operands, node);
             keys_read(sizes, kinds, operands, expression, keys)
         }
@@ -94,12 +93,12 @@ pub fn gained(
     marks: &[u8],
     state: &[u32],
     agent: usize,
-    does: Does,
+    label: Label,
 ) -> u32
-    requires { ⌜ Gaining (table sizes (now kinds) (now operands)) (now state) agent (now marks) does ⌝ }
-    ensures { λ r. ⌜ Gains (table sizes (now (kinds .entry)) (now (operands .entry))) (now (state .entry)) agent (now (marks .entry)) does r ⌝ }
+    requires { ⌜ Gaining (table sizes (now kinds) (now operands)) (now state) agent (now marks) label ⌝ }
+    ensures { λ r. ⌜ Gains (table sizes (now (kinds .entry)) (now (operands .entry))) (now (state .entry)) agent (now (marks .entry)) label r ⌝ }
 {
     let asked = guard_keys(sizes, kinds, operands, marks);
-    let keys = label_keys(sizes, kinds, operands, does, asked);
+    let keys = label_keys(sizes, kinds, operands, label, asked);
     with_entry(state, agent, keys)
 }

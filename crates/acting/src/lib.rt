@@ -34,7 +34,7 @@ pub fn act(
     if refusal != 0 {
         return refusal;
     }
-    let does = found.does;
+    let label = found.label;
     let value = found.value;
     perform(
         sizes,
@@ -45,7 +45,7 @@ pub fn act(
         state,
         agent,
         c,
-        does,
+        label,
         value,
     );
     refusal

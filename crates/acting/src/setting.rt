@@ -1,5 +1,5 @@
 // The key that an action sets.
-use choice::Does;
+use term::Label;
 use state::CLOCK;
 use state::Store;
 use state::add_key;
@@ -9,10 +9,8 @@ use table::Sizes;
 use table::p_at;
 ghost use mathlib.Core.Path.{_≡_};
 ghost use Prim.Native.Nat.{ℕ, _<_, _≤_};
+ghost use Rattle.term.specs.declared.Label.the-variants.{Acting};
 ghost use Rattle.table.specs.Tables.{table};
-ghost use Rattle.term.specs.Processes.{acts};
-ghost use Rattle.choice.specs.declared.Does.the-variants.{Acting};
-ghost use Rattle.choice.specs.Outcomes.{labelOf};
 ghost use Rattle.steps.specs.Acts.{entered, setKey};
 ghost use Rattle.acting.specs.Acting.{Stored, Entering, Setting};
 
@@ -53,7 +51,7 @@ fn set_key(
     value: u32,
 )
     requires { ⌜ Setting (table sizes (now kinds) (now operands)) (now state) agent node value ⌝ }
-    ensures { λ _. ⌜ now (state .exit) ≡ setKey (table sizes (now (kinds .entry)) (now (operands .entry))) (now (state .entry)) agent (acts node) ⌝ }
+    ensures { λ _. ⌜ now (state .exit) ≡ setKey (table sizes (now (kinds .entry)) (now (operands .entry))) (now (state .entry)) agent (Acting node) ⌝ }
 {
     let key = p_at(operands, node);
     let kind = kinds[node];
@@ -72,15 +70,15 @@ pub fn set_label(
     operands: &[u8],
     state: &mut [u32],
     agent: usize,
-    does: Does,
+    label: Label,
     value: u32,
 )
-    requires { ⌜ ((n : ℕ) → does ≡ Acting n → Setting (table sizes (now kinds) (now operands)) (now state) agent n value) ⌝ }
-    ensures { λ _. ⌜ now (state .exit) ≡ setKey (table sizes (now (kinds .entry)) (now (operands .entry))) (now (state .entry)) agent (labelOf does) ⌝ }
+    requires { ⌜ ((n : ℕ) → label ≡ Acting n → Setting (table sizes (now kinds) (now operands)) (now state) agent n value) ⌝ }
+    ensures { λ _. ⌜ now (state .exit) ≡ setKey (table sizes (now (kinds .entry)) (now (operands .entry))) (now (state .entry)) agent label ⌝ }
 {
-    match does {
-        Does::Ticking => {}
-        Does::Acting(node) => {
+    match label {
+        Label::Ticking => {}
+        Label::Acting(node) => {
             set_key(sizes, kinds, operands, state, agent, node, value);
         }
     }

@@ -2,7 +2,7 @@
 use crate::gaining::gained;
 use crate::leaving::leave;
 use crate::setting::set_label;
-use choice::Does;
+use term::Label;
 use state::zc_at;
 use table::Sizes;
 ghost use mathlib.Core.Path.{_≡_};
@@ -35,17 +35,17 @@ pub fn perform(
     state: &mut [u32],
     agent: usize,
     c: u64,
-    does: Does,
+    label: Label,
     value: u32,
 )
     requires { ⌜ Prepared (table sizes (now kinds) (now operands)) (now scratch) ⌝ }
     requires { ⌜ Proper (table sizes (now kinds) (now operands)) (now state) ⌝ }
     requires { ⌜ agent < sizes .agents ⌝ }
-    requires { ⌜ Decided (table sizes (now kinds) (now operands)) (now state) agent c (now marks) does value ⌝ }
+    requires { ⌜ Decided (table sizes (now kinds) (now operands)) (now state) agent c (now marks) label value ⌝ }
     ensures { λ _. ⌜ now (state .exit) ≡ acted (table sizes (now (kinds .entry)) (now (operands .entry))) (now (state .entry)) agent (chosen (table sizes (now (kinds .entry)) (now (operands .entry))) (now (state .entry)) agent c) ⌝ }
 {
-    let gains = gained(sizes, kinds, operands, marks, state, agent, does);
-    set_label(sizes, kinds, operands, state, agent, does, value);
+    let gains = gained(sizes, kinds, operands, marks, state, agent, label);
+    set_label(sizes, kinds, operands, state, agent, label, value);
     set_zc(state, agent, gains);
     leave(sizes, kinds, operands, scratch, state, agent, c);
 }

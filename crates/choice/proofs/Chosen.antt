@@ -9,10 +9,11 @@ use native.Mathlib.Nat.{not-suc-le-zero, mul-zero, mod-lt, div-lt-iff-lt-mul, eq
 use native.Mathlib.Omega.{arith}
 use lib.ListN.{length, getD}
 use Rattle.basis.proofs.Lists.{nth-in}
+use Rattle.term.specs.declared.Label.the-variants.{Ticking, Acting}
 use Rattle.term.specs.declared.Mode.{Mode}
 use Rattle.term.specs.declared.Mode.the-variants.{Any, Actions, Ticks}
 use Rattle.term.specs.Terms.{Term, Tick, Idle}
-use Rattle.term.specs.Processes.{Process, idle, tick, act, choice, guarded, seq, par, ticks, acts}
+use Rattle.term.specs.Processes.{Process, idle, tick, act, choice, guarded, seq, par}
 use Rattle.term.specs.Processes.{Derivation, derivation, derivations, keep, under, before, besideRight, besideLeft, join}
 use Rattle.term.specs.Choices.{tickCount, actionCount, countIn, actionsOf, wanted, derivationsIn, mapped, split, pairs, select}
 use Rattle.term.proofs.Lists.{Places, split-left, split-right}
@@ -26,7 +27,7 @@ module _ (m : Mode) (P : Process) (c : ℕ) where
   -- a choice below the count is there
   pub chosen-there : c < countIn m P → select m P c ≡ some (chosenIn m P c)
   unfolding chosenIn
-  chosen-there h = rw (select-choices P m) (nth-in (derivationsIn m P) c (derivation ticks [] Idle) (rw (length-choices P m) h))
+  chosen-there h = rw (select-choices P m) (nth-in (derivationsIn m P) c (derivation Ticking [] Idle) (rw (length-choices P m) h))
 
   chosen-is : (d : Derivation) → c < countIn m P → select m P c ≡ some d → chosenIn m P c ≡ d
   chosen-is d h e = some-same (chosenIn m P c) d (sym (chosen-there h) ∙ e)
@@ -34,16 +35,16 @@ module _ (m : Mode) (P : Process) (c : ℕ) where
   -- processes with the same derivations have the same choices
   pub chosen-same : (R : Process) → derivations P ≡ derivations R → chosenIn m P c ≡ chosenIn m R c
   unfolding chosenIn derivationsIn
-  chosen-same R e = ap (λ (ds : List Derivation). getD (keep (wanted m) ds) c (derivation ticks [] Idle)) e
+  chosen-same R e = ap (λ (ds : List Derivation). getD (keep (wanted m) ds) c (derivation Ticking [] Idle)) e
 
   pub count-same : (R : Process) → derivations P ≡ derivations R → countIn m P ≡ countIn m R
   unfolding derivationsIn
   count-same R e = sym (length-choices P m) ∙ ap (λ (ds : List Derivation). length (keep (wanted m) ds)) e ∙ length-choices R m
 
 -- of all derivations, choice c is derivation c
-pub chosen-any : (P : Process) (c : ℕ) → chosenIn Any P c ≡ getD (derivations P) c (derivation ticks [] Idle)
+pub chosen-any : (P : Process) (c : ℕ) → chosenIn Any P c ≡ getD (derivations P) c (derivation Ticking [] Idle)
 unfolding chosenIn
-chosen-any P c = ap (λ (ds : List Derivation). getD ds c (derivation ticks [] Idle)) (choices-any P)
+chosen-any P c = ap (λ (ds : List Derivation). getD ds c (derivation Ticking [] Idle)) (choices-any P)
 
 -- the ends
 pub no-idle : (m : Mode) (c : ℕ) → c < countIn m idle → ⊥
@@ -52,7 +53,7 @@ no-idle Any c h = not-suc-le-zero h
 no-idle Actions c h = not-suc-le-zero h
 no-idle Ticks c h = not-suc-le-zero h
 
-pub chosen-tick : (m : Mode) (c : ℕ) → c < countIn m tick → chosenIn m tick c ≡ derivation ticks [] Idle
+pub chosen-tick : (m : Mode) (c : ℕ) → c < countIn m tick → chosenIn m tick c ≡ derivation Ticking [] Idle
 unfolding actionCount tickCount chosenIn derivationsIn derivations keep
 chosen-tick Any zero h = refl
 chosen-tick Any (suc c) h = absurd (omega arith)
@@ -60,7 +61,7 @@ chosen-tick Actions c h = absurd (not-suc-le-zero h)
 chosen-tick Ticks zero h = refl
 chosen-tick Ticks (suc c) h = absurd (omega arith)
 
-pub chosen-act : (m : Mode) (n c : ℕ) → c < countIn m (act n) → chosenIn m (act n) c ≡ derivation (acts n) [] Tick
+pub chosen-act : (m : Mode) (n c : ℕ) → c < countIn m (act n) → chosenIn m (act n) c ≡ derivation (Acting n) [] Tick
 unfolding actionCount tickCount chosenIn derivationsIn derivations keep
 chosen-act Any n zero h = refl
 chosen-act Any n (suc c) h = absurd (omega arith)

@@ -8,9 +8,10 @@ use native.Mathlib.Omega.{arith}
 use lib.ListN.{length, take, drop, set, length-append, length-set}
 use lib.Seq.{take-suc-set, take-set-le, drop-cons, drop-set-lt, getD-set-same}
 use Rattle.table.specs.Tables.{Table}
+use Rattle.term.specs.declared.Label.the-variants.{Ticking, Acting}
 use Rattle.term.specs.declared.Mode.{Mode}
 use Rattle.term.specs.Terms.{Tick, Idle, words, tickWord, idleWord}
-use Rattle.term.specs.Processes.{ticks, acts, Derivation, derivation, nodeProcess}
+use Rattle.term.specs.Processes.{Derivation, derivation, nodeProcess}
 use Rattle.choice.specs.declared.Gap.{Gap}
 use Rattle.choice.specs.Chosen.{chosenIn}
 use Rattle.choice.specs.Turns.{Reached, Around}
@@ -142,10 +143,10 @@ module _ (ws : List ℕ) (front back : ℕ) (h : back ≤ length ws) where
 
 -- what a tick and an action leave
 module _ (d : Derivation) where
-  pub leaves-idle : d ≡ derivation ticks [] Idle → words (d .leaving) ≡ idleWord ∷ []
+  pub leaves-idle : d ≡ derivation Ticking [] Idle → words (d .leaving) ≡ idleWord ∷ []
   unfolding words
   leaves-idle h = ap (λ (x : Derivation). words (x .leaving)) h
 
-  pub leaves-tick : (n : ℕ) → d ≡ derivation (acts n) [] Tick → words (d .leaving) ≡ tickWord ∷ []
+  pub leaves-tick : (n : ℕ) → d ≡ derivation (Acting n) [] Tick → words (d .leaving) ≡ tickWord ∷ []
   unfolding words
   leaves-tick n h = ap (λ (x : Derivation). words (x .leaving)) h

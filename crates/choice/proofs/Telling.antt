@@ -5,19 +5,19 @@ use mathlib.Core.Path.{_≡_, sym, ap, _∙_}
 use mathlib.Core.List.{List, [], _++_}
 use native.Mathlib.Omega.{arith}
 use lib.ListN.{length, length-append}
+use Rattle.term.specs.declared.Label.the-variants.{Ticking, Acting}
 use Rattle.term.specs.Terms.{Term, Tick, Idle, words}
-use Rattle.term.specs.Processes.{ticks, acts, Derivation, derivation}
-use Rattle.choice.specs.declared.Does.the-variants.{Ticking, Acting}
+use Rattle.term.specs.Processes.{Derivation, derivation}
 use Rattle.choice.specs.declared.Effect.{Effect}
 use Rattle.choice.specs.Turns.{Around}
 use Rattle.choice.specs.Outcomes.{grownBy, Tells}
 
 module _ (d : Derivation) (limit : ℕ) (l : 1 ≤ limit) where
-  pub tells-tick : d ≡ derivation ticks [] Idle → Tells d limit (record { does = Ticking; size = 1 })
+  pub tells-tick : d ≡ derivation Ticking [] Idle → Tells d limit (record { label = Ticking; size = 1 })
   unfolding words
   tells-tick h = record { label = ap (λ (x : Derivation). x .label) (sym h); size = ap (λ (x : Derivation). length (words (x .leaving))) (sym h); bound = l }
 
-  pub tells-act : (n : ℕ) → d ≡ derivation (acts n) [] Tick → Tells d limit (record { does = Acting n; size = 1 })
+  pub tells-act : (n : ℕ) → d ≡ derivation (Acting n) [] Tick → Tells d limit (record { label = Acting n; size = 1 })
   unfolding words
   tells-act n h = record { label = ap (λ (x : Derivation). x .label) (sym h); size = ap (λ (x : Derivation). length (words (x .leaving))) (sym h); bound = l }
 

@@ -5,10 +5,12 @@ use mathlib.Core.Path.{_≡_}
 use mathlib.Core.List.{List, [], _∷_, _++_}
 use lib.Dec.{ltb}
 use Rattle.table.specs.Tables.{Table, firstRoot, bodyAt}
+use Rattle.term.specs.declared.Label.the-variants.{Ticking, Acting}
 use Rattle.term.specs.declared.Mode.{Mode}
 use Rattle.term.specs.declared.Mode.the-variants.{Actions, Ticks}
 use Rattle.term.specs.Terms.{Tick, Idle, words, parWord}
-use Rattle.term.specs.Processes.{ticks, acts, Derivation, derivation, under, join, nodeProcess, GuardNode}
+use Rattle.term.specs.Processes.{Derivation, derivation, under, join, nodeProcess}
+use Rattle.term.specs.Accepted.{GuardNode}
 use Rattle.term.specs.Choices.{countIn}
 use Rattle.term.specs.Exposure.{callsBelow}
 use Rattle.term.specs.Accepted.{Checked}
@@ -58,8 +60,8 @@ SideCollected t level n d e (After k j) = (k < n) × Reached t level Ticks k j �
 
 -- what a step at node n says of choice c, which is d
 abbrev pub Turned : Table → ℕ → Mode → ℕ → ℕ → Derivation → Turn → Type 0
-Turned t level m n c d Ticked = d ≡ derivation ticks [] Idle
-Turned t level m n c d Acted = d ≡ derivation (acts n) [] Tick
+Turned t level m n c d Ticked = d ≡ derivation Ticking [] Idle
+Turned t level m n c d Acted = d ≡ derivation (Acting n) [] Tick
 Turned t level m n c d (On k i side) = (k < n) × Reached t level m k i × SideCollected t level n d (chosenIn m (nodeProcess t k) i) side
 Turned t level m n c d (Left w k i q) = (k < n) × Reached t level Actions k i × Around d (chosenIn Actions (nodeProcess t k) i) (w ∷ []) (q ∷ []) × (w < 65536) × (q < 65536)
 Turned t level m n c d (Right p k i) = (k < n) × Reached t level Actions k i × Around d (chosenIn Actions (nodeProcess t k) i) (parWord ∷ p ∷ []) [] × (p < 65536)

@@ -33,15 +33,9 @@ pub enum Turn {
     Call(usize),
 }
 
-// What a derivation does: it ticks, or does the action at a node.
-pub enum Does {
-    Ticking,
-    Acting(usize),
-}
-
 // What a derivation does, and how many words it leaves.
 pub struct Effect {
-    pub does: Does,
+    pub label: Label,
     pub size: usize,
 }
 

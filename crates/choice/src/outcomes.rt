@@ -19,9 +19,9 @@ pub fn grown(o: Effect, words: usize) -> Effect
     requires { ⌜ o .size + words ≤ 4294967295 ⌝ }
     ensures { λ r. ⌜ r ≡ grownBy o words ⌝ }
 {
-    let does = o.does;
+    let label = o.label;
     Effect {
-        does,
+        label,
         size: o.size + words,
     }
 }
@@ -43,11 +43,11 @@ pub fn node_outcome(
     let turn = turn_at(sizes, kinds, operands, scratch, level, mode, n, c);
     match turn {
         Turn::Ticked => Effect {
-            does: Does::Ticking,
+            label: Label::Ticking,
             size: 1,
         },
         Turn::Acted => Effect {
-            does: Does::Acting(n),
+            label: Label::Acting(n),
             size: 1,
         },
         Turn::On(k, i, _) => { node_outcome(sizes, kinds, operands, scratch, level, mode, k, i) }

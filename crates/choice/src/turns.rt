@@ -72,7 +72,7 @@ pub fn turn_at(
     match kind {
         1 => Turn::Ticked,
         5 => part(
-            65535,
+            term::SEQ_WORD,
             p,
             q,
             pick(mode, c, 0, pair(scratch, p), pair(scratch, q)),
@@ -82,7 +82,7 @@ pub fn turn_at(
         8 => {
             let right = pair(scratch, q);
             let beside = acting(mode, right);
-            part(65534, p, q, pick(mode, c, beside, pair(scratch, p), right))
+            part(term::PAR_WORD, p, q, pick(mode, c, beside, pair(scratch, p), right))
         }
         9 => Turn::Call(p),
         _ => Turn::Acted,

@@ -61,14 +61,14 @@ pub fn write_node(
     let turn = turn_at(sizes, kinds, operands, scratch, level, mode, n, c);
     match turn {
         Turn::Ticked => {
-            put(words, front, 65532);
+            put(words, front, term::IDLE_WORD);
             Gap {
                 front: front + 1,
                 back,
             }
         }
         Turn::Acted => {
-            put(words, front, 65533);
+            put(words, front, term::TICK_WORD);
             Gap {
                 front: front + 1,
                 back,
@@ -104,7 +104,7 @@ pub fn write_node(
             )
         }
         Turn::Right(p, k, i) => {
-            lead(words, front, 65534, p);
+            lead(words, front, term::PAR_WORD, p);
             write_node(
                 sizes,
                 kinds,

@@ -14,7 +14,7 @@ use Rattle.basis.proofs.Tests.{not-both, and-left, and-right, and-both, or-left
 use Rattle.table.specs.Tables.{Table, kindAt}
 use Rattle.table.specs.Nodes.{isGuard}
 use Rattle.term.proofs.Each.{Each}
-use Rattle.term.specs.Processes.{GuardNode}
+use Rattle.term.specs.Accepted.{GuardNode}
 use Rattle.state.specs.Evaluation.{holds}
 use Rattle.choice.specs.Marking.{hasMark, isIn, WalkMarks, Marked}
 use Rattle.choice.proofs.Collecting.{marks-zero}

@@ -11,11 +11,12 @@ use borrow.Author.Tests.{eqb-true, not-false}
 use Rattle.basis.proofs.Tests.{and-left, and-right, not-and}
 use Rattle.table.specs.Tables.{Table, firstRoot}
 use Rattle.term.specs.Terms.{Term, words, termOf, areTerms}
-use Rattle.term.specs.Processes.{Derivation, allFew, Labelled}
+use Rattle.term.specs.Processes.{Derivation, allFew}
+use Rattle.term.specs.Accepted.{Labelled}
 use Rattle.term.proofs.Inside.{Inside}
 use Rattle.choice.specs.declared.Effect.{Effect}
 use Rattle.choice.specs.Marking.{Marked}
-use Rattle.choice.specs.Outcomes.{labelOf, Tells}
+use Rattle.choice.specs.Outcomes.{Tells}
 use Rattle.choice.specs.Turns.{Prepared}
 use Rattle.residual.specs.declared.Choices.{Choices}
 use Rattle.residual.specs.Wholes.{Whole, Taking, Offered, residualTerm, taken}
@@ -123,12 +124,12 @@ module _ {t : Table} {scratch was : List ℕ} {x size : ℕ} {ws : List ℕ} (po
         agent-14 e = judges-14 t was x c (posed .confirmed) (posed .propagated) (takes .few) (takes .choice) (sym (asked (chosen t was x c .guards) guards) ∙ e) out
 
         pub agent-last : held ≡ true → {limit : ℕ} (o : Effect) → Tells (taken t (residualTerm size ws) c) limit o
-            → (r : Judgement) → r ≡ ended t was x (labelOf (o .does)) (o .size) → Judges t was x c out r
+            → (r : Judgement) → r ≡ ended t was x ((o .label)) (o .size) → Judges t was x c out r
         agent-last e {limit} o tells =
             judges-last t was x c (posed .confirmed) (posed .propagated) (takes .few) (takes .choice) (sym (asked (chosen t was x c .guards) guards) ∙ e) out guards o
             (subst (λ (d : Derivation). Tells d limit o) taken-is tells)
 
-    pub agent-doing : {limit : ℕ} (o : Effect) → Tells (taken t (residualTerm size ws) c) limit o → Doing t was x (labelOf (o .does))
+    pub agent-doing : {limit : ℕ} (o : Effect) → Tells (taken t (residualTerm size ws) c) limit o → Doing t was x ((o .label))
     agent-doing o tells =
         record {
           situated = situated;

@@ -11,10 +11,11 @@ use borrow.Author.Tests.{ne-eqb, le-leb, lt-leb}
 use Rattle.table.proofs.Checks.{first-refuses, first-later}
 use Rattle.table.specs.Checks.{Check, passes, refuses, refuseIf, firstOf, numberOf, refusalCheck}
 use Rattle.table.specs.Tables.{Table}
+use Rattle.term.specs.declared.Label.{Label}
 use Rattle.term.specs.Terms.{words}
-use Rattle.term.specs.Processes.{Label, allFew}
+use Rattle.term.specs.Processes.{allFew}
 use Rattle.choice.specs.declared.Effect.{Effect}
-use Rattle.choice.specs.Outcomes.{labelOf, Tells}
+use Rattle.choice.specs.Outcomes.{Tells}
 use Rattle.state.specs.Layout.{residualWords, clockLimit, clockOf, zcOf, zpOf, termIn}
 use Rattle.steps.specs.Acts.{choices, chosen, allHold, lacksValue, writesEntry, actChecks, lastChecks}
 use Rattle.judging.specs.declared.Judgement.{Judgement}
@@ -75,7 +76,7 @@ module _ (t : Table) (was : List ℕ) (x c : ℕ) where
 
         -- 15 to 17, or nothing
         pub judges-last : allHold t was x (chosen t was x c .guards) ≡ true → (marks : List ℕ) → GuardsMarked t (chosen t was x c .guards) marks
-            → {limit : ℕ} (o : Effect) → Tells (chosen t was x c) limit o → (r : Judgement) → r ≡ ended t was x (labelOf (o .does)) (o .size) → Judges t was x c marks r
+            → {limit : ℕ} (o : Effect) → Tells (chosen t was x c) limit o → (r : Judgement) → r ≡ ended t was x ((o .label)) (o .size) → Judges t was x c marks r
         unfolding judged
         judges-last e marks guards o tells r ends =
             record {

@@ -4,12 +4,12 @@ mod guards; // guards.rt: 14
 mod outcomes; // outcomes.rt: 15 to 17
 
 pub use acts::judge;
-use choice::Does;
+use term::Label;
 
 // What is found of an act. Where it can be done, the refusal is 0, and the rest is what it does and the word that it sets (0 for a tick);
 // beside a refusal the rest is `Ticking` and 0.
 pub struct Judgement {
     pub refusal: u8,
-    pub does: Does,
+    pub label: Label,
     pub value: u32,
 }

@@ -1,6 +1,6 @@
 // Refusals 15 to 17: the value that an action sets, the clock, and the length of what is left.
 use crate::Judgement;
-use choice::Does;
+use term::Label;
 use choice::Effect;
 use evaluation::value_of;
 use state::CLOCK;
@@ -9,9 +9,8 @@ use table::Sizes;
 use table::q_at;
 use value::Value;
 ghost use mathlib.Core.Path.{_≡_};
+ghost use Rattle.term.specs.declared.Label.the-variants.{Acting};
 ghost use Rattle.table.specs.Tables.{table};
-ghost use Rattle.term.specs.Processes.{acts};
-ghost use Rattle.choice.specs.Outcomes.{labelOf};
 ghost use Rattle.judging.specs.Outcomes.{refusedBy, sized as sizedOf, Doing, ended};
 
 // Beside a refusal nothing is done.
@@ -20,21 +19,21 @@ pub fn refused(number: u8) -> Judgement
 {
     Judgement {
         refusal: number,
-        does: Does::Ticking,
+        label: Label::Ticking,
         value: 0,
     }
 }
 
 // 17, of what is done, the word that it sets and how many words it leaves.
-fn sized(does: Does, value: u32, size: usize) -> Judgement
-    ensures { λ r. ⌜ r ≡ sizedOf does value size ⌝ }
+fn sized(label: Label, value: u32, size: usize) -> Judgement
+    ensures { λ r. ⌜ r ≡ sizedOf label value size ⌝ }
 {
     if RESIDUAL_WORDS < size {
         return refused(17);
     }
     Judgement {
         refusal: 0,
-        does,
+        label,
         value,
     }
 }
@@ -49,8 +48,8 @@ fn judge_action(
     n: usize,
     size: usize,
 ) -> Judgement
-    requires { ⌜ Doing (table sizes (now kinds) (now operands)) (now state) agent (acts n) ⌝ }
-    ensures { λ r. ⌜ r ≡ ended (table sizes (now (kinds .entry)) (now (operands .entry))) (now (state .entry)) agent (acts n) size ⌝ }
+    requires { ⌜ Doing (table sizes (now kinds) (now operands)) (now state) agent (Acting n) ⌝ }
+    ensures { λ r. ⌜ r ≡ ended (table sizes (now (kinds .entry)) (now (operands .entry))) (now (state .entry)) agent (Acting n) size ⌝ }
 {
     let q = q_at(operands, n);
     let value = value_of(sizes, kinds, operands, state, agent, agent, q);
@@ -60,7 +59,7 @@ fn judge_action(
             if (kinds[n] == 3) & (65535 <= state[CLOCK]) {
                 return refused(16);
             }
-            sized(Does::Acting(n), word, size)
+            sized(Label::Acting(n), word, size)
         }
     }
 }
@@ -74,13 +73,13 @@ pub fn judge_outcome(
     agent: usize,
     o: Effect,
 ) -> Judgement
-    requires { ⌜ Doing (table sizes (now kinds) (now operands)) (now state) agent (labelOf (o .does)) ⌝ }
-    ensures { λ r. ⌜ r ≡ ended (table sizes (now (kinds .entry)) (now (operands .entry))) (now (state .entry)) agent (labelOf (o .does)) (o .size) ⌝ }
+    requires { ⌜ Doing (table sizes (now kinds) (now operands)) (now state) agent ((o .label)) ⌝ }
+    ensures { λ r. ⌜ r ≡ ended (table sizes (now (kinds .entry)) (now (operands .entry))) (now (state .entry)) agent ((o .label)) (o .size) ⌝ }
 {
-    let does = o.does;
+    let label = o.label;
     let size = o.size;
-    match does {
-        Does::Ticking => sized(Does::Ticking, 0, size),
-        Does::Acting(n) => judge_action(sizes, kinds, operands, state, agent, n, size),
+    match label {
+        Label::Ticking => sized(Label::Ticking, 0, size),
+        Label::Acting(n) => judge_action(sizes, kinds, operands, state, agent, n, size),
     }
 }

@@ -4,8 +4,9 @@ use mathlib.Core.Path.{_≡_}
 use mathlib.Core.List.{List, [], _∷_, _++_}
 use lib.ListN.{getD}
 use Rattle.table.specs.Tables.{Table, kindAt, pAt, qAt, bodyAt}
+use Rattle.term.specs.declared.Label.{Label}
+use Rattle.term.specs.declared.Label.the-variants.{Ticking, Acting}
 use Rattle.term.specs.Terms.{Term, Seq, Par, Tick, Idle, Node}
-use Rattle.term.specs.Processes.{Label, ticks, acts}
 use Rattle.labs.specs.Expressions.{Expr, exprOf}
 
 infixr 30 _⨾_
@@ -46,17 +47,17 @@ actionOf t n =
 -- TABLE 3. `Moves t P l g P′`: P does l and leaves P′. R is the term whose form stands below a rule's line.
 -- g are the guards on the way: the paper counts a guard wherever it occurs, the document (Table 7) only at an agent's top.
 pub data Moves (t : Table) : Term → Label → List ℕ → Term → Type 0 where
-  TICK : {R : Term} → form t R ≡ √ → Moves t R ticks [] Idle
-  ACT : {R : Term} {n : ℕ} → form t R ≡ α n → Moves t R (acts n) [] Tick
+  TICK : {R : Term} → form t R ≡ √ → Moves t R Ticking [] Idle
+  ACT : {R : Term} {n : ℕ} → form t R ≡ α n → Moves t R (Acting n) [] Tick
   CHOICE-L : {P Q R P′ : Term} {l : Label} {g : List ℕ} → form t R ≡ (P ⊹ Q) → Moves t P l g P′ → Moves t R l g P′
   CHOICE-R : {P Q R Q′ : Term} {l : Label} {g : List ℕ} → form t R ≡ (P ⊹ Q) → Moves t Q l g Q′ → Moves t R l g Q′
-  SEQ₁ : {P Q R P′ : Term} {n : ℕ} {g : List ℕ} → form t R ≡ (P ⨾ Q) → Moves t P (acts n) g P′ → Moves t R (acts n) g (Seq P′ Q)
-  SEQ₂ : {P Q R P′ Q′ : Term} {l : Label} {g h : List ℕ} → form t R ≡ (P ⨾ Q) → Moves t P ticks g P′ → Moves t Q l h Q′ → Moves t R l (g ++ h) Q′
+  SEQ₁ : {P Q R P′ : Term} {n : ℕ} {g : List ℕ} → form t R ≡ (P ⨾ Q) → Moves t P (Acting n) g P′ → Moves t R (Acting n) g (Seq P′ Q)
+  SEQ₂ : {P Q R P′ Q′ : Term} {l : Label} {g h : List ℕ} → form t R ≡ (P ⨾ Q) → Moves t P Ticking g P′ → Moves t Q l h Q′ → Moves t R l (g ++ h) Q′
   CON : {R P′ : Term} {l : Label} {d : ℕ} {g : List ℕ} → form t R ≡ K d → Moves t (Node (bodyAt t d)) l g P′ → Moves t R l g P′
-  PAR₁ : {P Q R P′ : Term} {n : ℕ} {g : List ℕ} → form t R ≡ (P ∣ Q) → Moves t P (acts n) g P′ → Moves t R (acts n) g (Par P′ Q)
-  PAR₂ : {P Q R P′ Q′ : Term} {l : Label} {g h : List ℕ} → form t R ≡ (P ∣ Q) → Moves t P ticks g P′ → Moves t Q l h Q′ → Moves t R l (g ++ h) Q′
+  PAR₁ : {P Q R P′ : Term} {n : ℕ} {g : List ℕ} → form t R ≡ (P ∣ Q) → Moves t P (Acting n) g P′ → Moves t R (Acting n) g (Par P′ Q)
+  PAR₂ : {P Q R P′ Q′ : Term} {l : Label} {g h : List ℕ} → form t R ≡ (P ∣ Q) → Moves t P Ticking g P′ → Moves t Q l h Q′ → Moves t R l (g ++ h) Q′
   -- PAR-COMM, of PAR₁ and of PAR₂: the document swaps the sides in what is left, the paper leaves them as they stand
-  PAR₁-COMM : {P Q R Q′ : Term} {n : ℕ} {g : List ℕ} → form t R ≡ (P ∣ Q) → Moves t Q (acts n) g Q′ → Moves t R (acts n) g (Par P Q′)
-  PAR₂-COMM : {P Q R P′ Q′ : Term} {l : Label} {g h : List ℕ} → form t R ≡ (P ∣ Q) → Moves t Q ticks g Q′ → Moves t P l h P′ → Moves t R l (g ++ h) P′
+  PAR₁-COMM : {P Q R Q′ : Term} {n : ℕ} {g : List ℕ} → form t R ≡ (P ∣ Q) → Moves t Q (Acting n) g Q′ → Moves t R (Acting n) g (Par P Q′)
+  PAR₂-COMM : {P Q R P′ Q′ : Term} {l : Label} {g h : List ℕ} → form t R ≡ (P ∣ Q) → Moves t Q Ticking g Q′ → Moves t P l h P′ → Moves t R l (g ++ h) P′
   -- AWAIT's part in a process: b → P does what P does, under b besides
   AWAIT : {P R P′ : Term} {l : Label} {b : ℕ} {g : List ℕ} → form t R ≡ (b ⇒ P) → Moves t P l g P′ → Moves t R l (b ∷ g) P′

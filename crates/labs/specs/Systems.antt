@@ -6,8 +6,9 @@ use mathlib.Core.Path.{_≡_}
 use mathlib.Core.List.{List, [], _∷_}
 use Rattle.value.specs.declared.Value.the-variants.{Present}
 use Rattle.table.specs.Tables.{Table}
+use Rattle.term.specs.declared.Label.the-variants.{Ticking, Acting}
 use Rattle.term.specs.Terms.{Term}
-use Rattle.term.specs.Processes.{ticks, acts, Derivation, derivation}
+use Rattle.term.specs.Processes.{Derivation, derivation}
 use Rattle.labs.specs.Agents.{⟨_⸴_⸴_⸴_⸴_⟩, Agent, Entry, Interface, Stigmergy, Keys, System, _⟦_≔_⟧, _∪｛_｝, _∖｛_｝, _∪_, Inserted}
 use Rattle.labs.specs.Expressions.{Expr, Knowledge, E⟦_⟧, K⟦_⟧, K⟦_⟧ᵇ, _⊨_, guardOf, φ}
 use Rattle.labs.specs.Processes.{Variable, attribute, stigmergy, environment, assign, actionOf, Moves}
@@ -35,14 +36,14 @@ abbrev pub onward : Agent → Term → Keys → Agent
 onward a P′ Z = ⟨ a .I ⸴ a .L ⸴ P′ ⸴ a .Zc ∪ known a Z ⸴ a .Zp ⟩
 
 pub data Wills (t : Table) (a : Agent) : Derivation → Will → Agent → Type 0 where
-  SKIP : {g : List ℕ} {P′ : Term} → Moves t (a .P) ticks g P′ → Settled a →
-      Wills t a (derivation ticks g P′) ε (onward a P′ (λ x. false))
-  ATTR : {n x : ℕ} {e : Expr} {g : List ℕ} {P′ : Term} → Moves t (a .P) (acts n) g P′ → actionOf t n ≡ assign (attribute x) e → Settled a →
-      Wills t a (derivation (acts n) g P′) (e ▹ attribute x) (onward a P′ K⟦ e ⟧)
-  LSTIG : {n x : ℕ} {e : Expr} {g : List ℕ} {P′ : Term} → Moves t (a .P) (acts n) g P′ → actionOf t n ≡ assign (stigmergy x) e → Settled a →
-      Wills t a (derivation (acts n) g P′) (e ▹ stigmergy x) (onward a P′ K⟦ e ⟧)
-  ENV : {n x : ℕ} {e : Expr} {g : List ℕ} {P′ : Term} → Moves t (a .P) (acts n) g P′ → actionOf t n ≡ assign (environment x) e → Settled a →
-      Wills t a (derivation (acts n) g P′) (e ▹ environment x) (onward a P′ K⟦ e ⟧)
+  SKIP : {g : List ℕ} {P′ : Term} → Moves t (a .P) Ticking g P′ → Settled a →
+      Wills t a (derivation Ticking g P′) ε (onward a P′ (λ x. false))
+  ATTR : {n x : ℕ} {e : Expr} {g : List ℕ} {P′ : Term} → Moves t (a .P) (Acting n) g P′ → actionOf t n ≡ assign (attribute x) e → Settled a →
+      Wills t a (derivation (Acting n) g P′) (e ▹ attribute x) (onward a P′ K⟦ e ⟧)
+  LSTIG : {n x : ℕ} {e : Expr} {g : List ℕ} {P′ : Term} → Moves t (a .P) (Acting n) g P′ → actionOf t n ≡ assign (stigmergy x) e → Settled a →
+      Wills t a (derivation (Acting n) g P′) (e ▹ stigmergy x) (onward a P′ K⟦ e ⟧)
+  ENV : {n x : ℕ} {e : Expr} {g : List ℕ} {P′ : Term} → Moves t (a .P) (Acting n) g P′ → actionOf t n ≡ assign (environment x) e → Settled a →
+      Wills t a (derivation (Acting n) g P′) (e ▹ environment x) (onward a P′ K⟦ e ⟧)
 
 -- TABLE 16. AWAIT: E, I, L ⊨ b for each guard b of a derivation, judged before the step; then Zc gains K⟦b⟧
 abbrev pub alone : Interface → Agent → Knowledge

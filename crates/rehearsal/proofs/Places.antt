@@ -13,7 +13,7 @@ use Rattle.table.specs.Tables.{Table, sizesOf, withinLimits, tableOf}
 use Rattle.table.specs.Sound.{Limits}
 use Rattle.table.proofs.Checks.{first-passes, first-append}
 use Rattle.table.proofs.Limits.{within-limits}
-use Rattle.term.specs.Acceptance.{lengthChecks, contentChecks}
+use Rattle.term.specs.Parts.{contentChecks}
 use Rattle.term.proofs.Each.{Each}
 use Rattle.state.specs.WellFormed.{loaded}
 use Rattle.steps.specs.Steps.{refused, stateChecks, outOfRange, ownChecks, takenBy, after, stepIn, loadOf, stepOf}

@@ -11,7 +11,8 @@ use lib.ListN.{length, getD, drop}
 use borrow.Author.Tests.{ltb-true, lt-ltb, le-ltb, ne-eqb, le-leb, lt-leb}
 use Rattle.basis.proofs.Tests.{lt-or-le, not-both, cond-cases}
 use Rattle.table.specs.Tables.{Table, firstRoot}
-use Rattle.term.specs.Terms.{Term, Seq, Par, Tick, Idle, Node, words, tickWord, idleWord, Over}
+use Rattle.term.specs.Terms.{Term, Seq, Par, Tick, Idle, Node, words, tickWord, idleWord}
+use Rattle.term.specs.Accepted.{Over}
 use Rattle.term.specs.Processes.{Process, seq, par, process, few, allFew, nodeProcess}
 use Rattle.term.specs.Choices.{actionCount, tickCount}
 use Rattle.term.proofs.Counting.{few-count}
@@ -21,7 +22,7 @@ use Rattle.accept.specs.Counts.{counts, Capped, trueCounts, countsOf, seqCounts
 use Rattle.accept.specs.Scratch.{pairAt, Counted}
 use Rattle.accept.proofs.Caps.{counts-idle, counts-tick, counts-seq, counts-par}
 use Rattle.residual.specs.declared.Measured.{Measured}
-use Rattle.residual.specs.Reading.{operatorWord}
+use Rattle.term.specs.Terms.{isOperator}
 use Rattle.residual.specs.Measures.{leafCounts, operatorCounts, Pairs, Told, Found}
 use Rattle.residual.proofs.Places.{first, term-within, word-is, seq-parts, par-parts, size-seq, size-par, node-plain}
 
@@ -131,7 +132,7 @@ module _ (roots : ℕ) (s ws : List ℕ) (at : ℕ) where
       }
 
   module _ (pairs : Pairs roots s) (h : at < length ws) (c : Counts) where
-    pub found-leaf : operatorWord (getD ws at 0) ≡ false → c ≡ leafCounts roots s (getD ws at 0)
+    pub found-leaf : isOperator (getD ws at 0) ≡ false → c ≡ leafCounts roots s (getD ws at 0)
         → (f : Bool) → f ≡ fewCounts c → Found roots s ws at (record { counts = c; next = at + 1; few = f })
     unfolding leafCounts
     found-leaf e d f y =
@@ -144,8 +145,8 @@ module _ (roots : ℕ) (s ws : List ℕ) (at : ℕ) where
         }
       where
         right : (t : Table) → firstRoot t ≡ roots → Counted t s → (T : Term) → Over t T → getD ws at 0 ≡ first T → Told t T at (record { counts = c; next = at + 1; few = fewCounts c })
-        right t r k (Seq p q) o w = absurd (not-both (ap operatorWord w) e)
-        right t r k (Par p q) o w = absurd (not-both (ap operatorWord w) e)
+        right t r k (Seq p q) o w = absurd (not-both (ap isOperator w) e)
+        right t r k (Par p q) o w = absurd (not-both (ap isOperator w) e)
         right t r k Tick o w = told-tick t at c (at + 1) refl (d ∙ ap (leafCounts roots s) w)
         right t r k Idle o w = let n = pairs .nodes in told-idle t at c (at + 1) refl (d ∙ ap (leafCounts roots s) w ∙ rw (leafCounts, le-ltb idleWord roots (omega arith)))
         right t r k (Node n) o w =
@@ -154,7 +155,7 @@ module _ (roots : ℕ) (s ws : List ℕ) (at : ℕ) where
             (d ∙ ap (leafCounts roots s) w ∙ (rw (leafCounts, ne-eqb n tickWord (λ x. omega arith), lt-ltb n roots (omega arith)) (node-held t s k n (o .0))))
 
     module _ (l r : Measured) (left : Found roots s ws (at + 1) l) (right : Found roots s ws (l .next) r) where
-      pub found-operator : operatorWord (getD ws at 0) ≡ true → c ≡ operatorCounts (getD ws at 0) (l .counts) (r .counts)
+      pub found-operator : isOperator (getD ws at 0) ≡ true → c ≡ operatorCounts (getD ws at 0) (l .counts) (r .counts)
           → (f : Bool) → f ≡ (fewCounts c && (l .few && r .few)) → Found roots s ws at (record { counts = c; next = r .next; few = f })
       unfolding operatorCounts
       found-operator e d f y =
@@ -178,6 +179,6 @@ module _ (roots : ℕ) (s ws : List ℕ) (at : ℕ) where
               let a = left .right t x k p (words q ++ rest) (o .0) (parts .left) in
               let b = right .right t x k q rest (o .1) (rw (a .next) (parts .right)) in
               told-par t at c (r .next) p q l r a b refl (d ∙ ap (λ (v : ℕ). operatorCounts v (l .counts) (r .counts)) w)
-          whole t x k Tick rest o f w = absurd (not-both e (ap operatorWord w))
-          whole t x k Idle rest o f w = absurd (not-both e (ap operatorWord w))
-          whole t x k (Node n) rest o f w = absurd (not-both e (ap operatorWord w ∙ node-plain t (omega (arith, pairs .nodes)) n (o .0)))
+          whole t x k Tick rest o f w = absurd (not-both e (ap isOperator w))
+          whole t x k Idle rest o f w = absurd (not-both e (ap isOperator w))
+          whole t x k (Node n) rest o f w = absurd (not-both e (ap isOperator w ∙ node-plain t (omega (arith, pairs .nodes)) n (o .0)))

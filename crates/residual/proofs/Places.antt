@@ -12,7 +12,7 @@ use borrow.Author.Tests.{ne-eqb}
 use Rattle.table.specs.Tables.{Table, firstRoot}
 use Rattle.term.specs.Terms.{Term, Seq, Par, Tick, Idle, Node, words, seqWord, parWord, tickWord, idleWord}
 use Rattle.term.proofs.Words.{words-some}
-use Rattle.residual.specs.Reading.{operatorWord}
+use Rattle.term.specs.Terms.{isOperator}
 
 abbrev pub first : Term → ℕ
 first (Seq p q) = seqWord
@@ -92,5 +92,5 @@ unfolding words
 size-par p q = let e = length-append (words p) (words q) in omega arith
 
 -- a node's number is no other word
-pub node-plain : (t : Table) → firstRoot t ≤ 4096 → (n : ℕ) → n < firstRoot t → operatorWord n ≡ false
+pub node-plain : (t : Table) → firstRoot t ≤ 4096 → (n : ℕ) → n < firstRoot t → isOperator n ≡ false
 node-plain t r n h = rw (ne-eqb n seqWord (λ e. omega arith), ne-eqb n parWord (λ e. omega arith))

@@ -6,12 +6,12 @@ use mathlib.Core.List.{List, [], _∷_}
 use native.Mathlib.Omega.{arith}
 use lib.ListN.{length}
 use Rattle.table.specs.Tables.{Table}
+use Rattle.term.specs.declared.Label.the-variants.{Ticking}
 use Rattle.term.specs.declared.Mode.{Mode}
 use Rattle.term.specs.declared.Mode.the-variants.{Actions}
 use Rattle.term.specs.Terms.{Term, Tick, Node, words}
 use Rattle.term.specs.Processes.{Derivation, nodeProcess}
 use Rattle.term.proofs.Words.{words-some}
-use Rattle.choice.specs.declared.Does.the-variants.{Ticking}
 use Rattle.choice.specs.declared.Effect.{Effect}
 use Rattle.choice.specs.Chosen.{chosenIn}
 use Rattle.choice.specs.Outcomes.{grownBy, most, Tells}
@@ -24,7 +24,7 @@ module _ (t : Table) (m : Mode) (T : Term) (c at : ℕ) (ws : List ℕ) (stands 
   abbrev limit : Term → ℕ
   limit X = furthest t + length (words X)
 
-  pub told-tick : T ≡ Tick → Tells (going t m T c) (furthest t + length (words T)) (record { does = Ticking; size = 1 })
+  pub told-tick : T ≡ Tick → Tells (going t m T c) (furthest t + length (words T)) (record { label = Ticking; size = 1 })
   told-tick e = tells-tick (going t m T c) (limit T) (omega (arith, words-some T)) (going-tick t m T c e (stands .chosen))
 
   pub told-node : (n : ℕ) → T ≡ Node n → (o : Effect) → Tells (chosenIn m (nodeProcess t n) c) (most (t .sizes .definitions) n) o → Tells (going t m T c) (furthest t + length (words T)) o

@@ -10,7 +10,8 @@ use lib.Seq.{drop-drop, take-add, length-take-le}
 use Rattle.basis.proofs.Lists.{take-rest}
 use Rattle.table.specs.Tables.{Table, firstRoot}
 use Rattle.term.specs.declared.Mode.the-variants.{Any}
-use Rattle.term.specs.Terms.{Term, words, Over}
+use Rattle.term.specs.Terms.{Term, words}
+use Rattle.term.specs.Accepted.{Over}
 use Rattle.term.specs.Processes.{Derivation, process}
 use Rattle.term.specs.Choices.{countIn}
 use Rattle.term.proofs.Counting.{length-derivations}

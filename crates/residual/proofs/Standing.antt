@@ -13,9 +13,10 @@ use Rattle.basis.proofs.Tests.{and-both, or-right}
 use Rattle.table.specs.Tables.{Table, kindAt, pAt, qAt, firstRoot}
 use Rattle.table.specs.Sound.{Sound}
 use Rattle.table.proofs.Promises.{call-operands}
+use Rattle.term.specs.declared.Label.the-variants.{Ticking}
 use Rattle.term.specs.declared.Mode.{Mode}
 use Rattle.term.specs.Terms.{Term, Tick, Idle, Node, words}
-use Rattle.term.specs.Processes.{Process, idle, ticks, derivation, byKind, nodeStep, nodeWith, defined, nodeProcess, process}
+use Rattle.term.specs.Processes.{Process, idle, derivation, byKind, nodeStep, nodeWith, defined, nodeProcess, process}
 use Rattle.term.specs.Exposure.{canTick, callsBelow}
 use Rattle.term.proofs.Words.{words-some}
 use Rattle.choice.specs.Turns.{Prepared, Reached}
@@ -68,7 +69,7 @@ module _ (t : Table) (sound : Sound t) where
       record { low = w .over .0; top = omega arith; choice = w .choice; calls = node-calls n }
 
 -- and one that is a tick
-pub going-tick : (t : Table) (m : Mode) (T : Term) (c : ℕ) → T ≡ Tick → Chosen t m T c → going t m T c ≡ derivation ticks [] Idle
+pub going-tick : (t : Table) (m : Mode) (T : Term) (c : ℕ) → T ≡ Tick → Chosen t m T c → going t m T c ≡ derivation Ticking [] Idle
 unfolding process
 going-tick t m T c e k =
     let w : Chosen t m Tick c = subst (λ (X : Term). Chosen t m X c) e k in

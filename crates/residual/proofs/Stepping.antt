@@ -27,7 +27,7 @@ use Rattle.choice.proofs.Turning.{around-before, around-right, around-left}
 use Rattle.choice.proofs.Picking.{acting-true, SeqPicked, ParPicked, seq-picked, par-picked}
 use Rattle.residual.specs.declared.Measured.{Measured}
 use Rattle.residual.specs.declared.Step.the-variants.{Ticked, Leaf}
-use Rattle.residual.specs.Reading.{operatorWord}
+use Rattle.term.specs.Terms.{isOperator}
 use Rattle.residual.specs.Measures.{Found, Told}
 use Rattle.residual.specs.Steps.{besideOf, pickStep, Chosen, going, Stepped}
 use Rattle.residual.proofs.Places.{first, word-is, seq-parts, par-parts, node-plain}
@@ -143,7 +143,7 @@ module _ (t : Table) (m : Mode) (c at middle end : ℕ) (p q : Term) (l : middle
 -- the steps as the code finds them
 module _ (t : Table) (roots : ℕ) (small : roots ≤ 4096) (s ws : List ℕ) (at : ℕ) (m : Mode) (c : ℕ) (same : firstRoot t ≡ roots) (counted : Counted t s) where
   module _ (l r : Measured) (left : Found roots s ws (at + 1) l) (right : Found roots s ws (l .next) r) where
-    pub on-operator : operatorWord (getD ws at 0) ≡ true → (x : Pick) → x ≡ pickOf m c (besideOf (getD ws at 0) m (r .counts)) (l .counts) (r .counts)
+    pub on-operator : isOperator (getD ws at 0) ≡ true → (x : Pick) → x ≡ pickOf m c (besideOf (getD ws at 0) m (r .counts)) (l .counts) (r .counts)
         → (T : Term) (rest : List ℕ) → drop at ws ≡ words T ++ rest → Chosen t m T c → Stepped t m T c at (pickStep (getD ws at 0) at (l .next) (r .next) x)
     unfolding besideOf
     on-operator e x f T rest d k = by T k d (word-is ws at T rest d)
@@ -168,9 +168,9 @@ module _ (t : Table) (roots : ℕ) (small : roots ≤ 4096) (s ws : List ℕ) (a
             (f ∙ ap (λ (v : ℕ). pickOf m c (besideOf v m (r .counts)) (l .counts) (r .counts)) w ∙
             ap₂ (λ (P Q : Counts). pickOf m c (actingOf m Q) P Q) (true-counts t p (few .0) l (at + 1) a) (true-counts t q (few .1) r (l .next) b) ∙
             ap (λ (b : ℕ). pickOf m c b (trueCounts (process t p)) (trueCounts (process t q))) (acting-true m (process t q))))
-        by Tick k d w = absurd (not-both e (ap operatorWord w))
-        by Idle k d w = absurd (not-both e (ap operatorWord w))
-        by (Node n) k d w = absurd (not-both e (ap operatorWord w ∙ node-plain t (omega arith) n (k .over .0)))
+        by Tick k d w = absurd (not-both e (ap isOperator w))
+        by Idle k d w = absurd (not-both e (ap isOperator w))
+        by (Node n) k d w = absurd (not-both e (ap isOperator w ∙ node-plain t (omega arith) n (k .over .0)))
 
   pub on-tick : getD ws at 0 ≡ 65533 → (T : Term) (rest : List ℕ) → drop at ws ≡ words T ++ rest → Chosen t m T c → Stepped t m T c at Ticked
   on-tick e T rest d k = by T k (sym (word-is ws at T rest d) ∙ e)
@@ -182,13 +182,13 @@ module _ (t : Table) (roots : ℕ) (small : roots ≤ 4096) (s ws : List ℕ) (a
       by Idle k w = absurd (omega arith)
       by (Node n) k w = absurd (omega (arith, k .over .0))
 
-  pub on-leaf : operatorWord (getD ws at 0) ≡ false → (getD ws at 0 ≡ 65533 → ⊥) → (T : Term) (rest : List ℕ) → drop at ws ≡ words T ++ rest → Chosen t m T c → Stepped t m T c at (Leaf (getD ws at 0))
+  pub on-leaf : isOperator (getD ws at 0) ≡ false → (getD ws at 0 ≡ 65533 → ⊥) → (T : Term) (rest : List ℕ) → drop at ws ≡ words T ++ rest → Chosen t m T c → Stepped t m T c at (Leaf (getD ws at 0))
   unfolding process
   on-leaf e f T rest d k = by T k (word-is ws at T rest d)
     where
       by : (T : Term) → Chosen t m T c → getD ws at 0 ≡ first T → T ≡ Node (getD ws at 0)
-      by (Seq p q) k w = absurd (not-both (ap operatorWord w) e)
-      by (Par p q) k w = absurd (not-both (ap operatorWord w) e)
+      by (Seq p q) k w = absurd (not-both (ap isOperator w) e)
+      by (Par p q) k w = absurd (not-both (ap isOperator w) e)
       by Tick k w = absurd (f w)
       by Idle k w = absurd (no-idle m c (k .choice))
       by (Node n) k w = ap Node (sym w)

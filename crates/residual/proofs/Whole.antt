@@ -15,7 +15,8 @@ use Rattle.term.specs.Terms.{areTerms}
 use Rattle.residual.specs.declared.Cursor.{Cursor}
 use Rattle.residual.specs.declared.Read.{Read}
 use Rattle.residual.specs.declared.Read.the-variants.{Word, End}
-use Rattle.residual.specs.Reading.{readAt, operatorWord, leafWord}
+use Rattle.term.specs.Terms.{isOperator}
+use Rattle.residual.specs.Reading.{readAt, leafWord}
 use Rattle.residual.proofs.Places.{empty}
 
 -- what a reading tells
@@ -58,18 +59,18 @@ module _ (t : Table) (ws : List ℕ) (at : ℕ) where
     unfolding areTerms
     are-none n e = ap (λ (k : ℕ). areTerms t k (drop at ws)) e ∙ opened 0
 
-    pub are-operator : (n next : ℕ) → 0 < n → next ≡ at + 1 → operatorWord w ≡ true → areTerms t n (drop at ws) ≡ areTerms t (n + 1) (drop next ws)
+    pub are-operator : (n next : ℕ) → 0 < n → next ≡ at + 1 → isOperator w ≡ true → areTerms t n (drop at ws) ≡ areTerms t (n + 1) (drop next ws)
     unfolding areTerms
     are-operator zero next l f e = absurd (omega arith)
     are-operator (suc n) next l f e = let d : suc n + 1 ≡ suc (suc n) = omega arith in opened (suc n) ∙ rw (areTerms, e, f, d)
 
     module _ (roots : ℕ) (kinds : List ℕ) (r : firstRoot t ≡ roots) (k : t .kinds ≡ kinds) where
-      pub are-leaf : (n next : ℕ) → 0 < n → next ≡ at + 1 → operatorWord w ≡ false → leafWord roots kinds w ≡ true → areTerms t n (drop at ws) ≡ areTerms t (n - 1) (drop next ws)
+      pub are-leaf : (n next : ℕ) → 0 < n → next ≡ at + 1 → isOperator w ≡ false → leafWord roots kinds w ≡ true → areTerms t n (drop at ws) ≡ areTerms t (n - 1) (drop next ws)
       unfolding areTerms
       are-leaf zero next l f e g = absurd (omega arith)
       are-leaf (suc n) next l f e g = let d : suc n - 1 ≡ n = omega arith in opened (suc n) ∙ rw (areTerms, e, r, k, g, f, d)
 
-      pub are-bad : (n : ℕ) → operatorWord w ≡ false → leafWord roots kinds w ≡ false → areTerms t n (drop at ws) ≡ false
+      pub are-bad : (n : ℕ) → isOperator w ≡ false → leafWord roots kinds w ≡ false → areTerms t n (drop at ws) ≡ false
       unfolding areTerms
       are-bad zero e g = are-none 0 refl
       are-bad (suc n) e g = opened (suc n) ∙ rw (areTerms, e, r, k, g)

@@ -6,7 +6,8 @@ use mathlib.Core.List.{List, _++_}
 use lib.Dec.{eqb, ltb}
 use lib.ListN.{length, drop}
 use Rattle.table.specs.Tables.{Table, firstRoot}
-use Rattle.term.specs.Terms.{Term, words, seqWord, tickWord, Over}
+use Rattle.term.specs.Terms.{Term, words, seqWord, tickWord}
+use Rattle.term.specs.Accepted.{Over}
 use Rattle.term.specs.Processes.{process, allFew}
 use Rattle.accept.specs.declared.Counts.{Counts}
 use Rattle.accept.specs.Counts.{counts, Capped, countsOf, seqCounts, parCounts}

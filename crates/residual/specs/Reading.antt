@@ -2,9 +2,10 @@
 use Prim.Native.Nat.{ℕ, _+_}
 use mathlib.Core.Bool.{Bool, cond, _&&_, _||_}
 use mathlib.Core.List.{List}
-use lib.Dec.{eqb, ltb, leb}
+use lib.Dec.{eqb, ltb}
 use lib.ListN.{length, getD}
-use Rattle.term.specs.Terms.{seqWord, parWord, tickWord, idleWord}
+use Rattle.table.specs.Nodes.{isProcess}
+use Rattle.term.specs.Terms.{tickWord, idleWord}
 use Rattle.residual.specs.declared.Read.{Read}
 use Rattle.residual.specs.declared.Read.the-variants.{Word, End}
 
@@ -12,9 +13,6 @@ use Rattle.residual.specs.declared.Read.the-variants.{Word, End}
 abbrev pub readAt : List ℕ → ℕ → Read
 readAt ws at = cond (ltb at (length ws)) (Word (getD ws at 0) (record { at = at + 1 })) End
 
--- a word that takes two terms, and one that is a term by itself
-abbrev pub operatorWord : ℕ → Bool
-operatorWord w = eqb w seqWord || eqb w parWord
-
+-- a word that is a term by itself: tick, idle, or a process node below the first root
 abbrev pub leafWord : ℕ → List ℕ → ℕ → Bool
-leafWord roots kinds w = eqb w tickWord || (eqb w idleWord || (ltb w roots && leb (getD kinds w 0) 9))
+leafWord roots kinds w = eqb w tickWord || (eqb w idleWord || (ltb w roots && isProcess (getD kinds w 0)))

@@ -8,7 +8,8 @@ use lib.ListN.{length, drop}
 use Rattle.table.specs.Tables.{Table}
 use Rattle.term.specs.declared.Mode.{Mode}
 use Rattle.term.specs.declared.Mode.the-variants.{Actions, Ticks}
-use Rattle.term.specs.Terms.{Term, Tick, Node, words, seqWord, parWord, Over}
+use Rattle.term.specs.Terms.{Term, Tick, Node, words, seqWord, parWord}
+use Rattle.term.specs.Accepted.{Over}
 use Rattle.term.specs.Processes.{Derivation, join, process, allFew}
 use Rattle.term.specs.Choices.{countIn}
 use Rattle.accept.specs.declared.Counts.{Counts}

@@ -5,8 +5,9 @@ use mathlib.Core.Path.{_≡_}
 use mathlib.Core.List.{List, [], _++_}
 use lib.ListN.{length, getD, take, replicate}
 use Rattle.table.specs.Tables.{Table}
+use Rattle.term.specs.declared.Label.the-variants.{Ticking}
 use Rattle.term.specs.Terms.{Term, Idle, words, termOf, areTerms}
-use Rattle.term.specs.Processes.{ticks, Derivation, derivation, derivations, process, allFew}
+use Rattle.term.specs.Processes.{Derivation, derivation, derivations, process, allFew}
 use Rattle.residual.specs.declared.Choices.{Choices}
 use Rattle.residual.specs.Spots.{furthest}
 
@@ -26,7 +27,7 @@ pub record Taking (t : Table) (T : Term) (c : ℕ) : Type 0 where
 
 -- choice c is derivation c
 abbrev pub taken : Table → Term → ℕ → Derivation
-taken t T c = getD (derivations (process t T)) c (derivation ticks [] Idle)
+taken t T c = getD (derivations (process t T)) c (derivation Ticking [] Idle)
 
 -- what is found of a residual's choices
 pub record Offered (t : Table) (T : Term) (r : Choices) : Type 0 where

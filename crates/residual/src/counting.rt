@@ -20,7 +20,7 @@ fn leaf(roots: usize, scratch: &[u32], word: u32) -> Counts
     requires { ⌜ Pairs roots (now scratch) ⌝ }
     ensures { λ r. ⌜ r ≡ leafCounts roots (now (scratch .entry)) word ⌝ }
 {
-    if word == 65533 {
+    if word == term::TICK_WORD {
         return TICK;
     }
     let n = word as usize;
@@ -35,7 +35,7 @@ fn combined(word: u32, left: Counts, right: Counts) -> Counts
     requires { ⌜ Capped left ⌝ ∗ ⌜ Capped right ⌝ }
     ensures { λ r. ⌜ r ≡ operatorCounts word left right ⌝ }
 {
-    if word == 65535 {
+    if word == term::SEQ_WORD {
         return sequence(left, right);
     }
     parallel(left, right)
@@ -46,7 +46,7 @@ fn few(c: Counts) -> bool
     requires { ⌜ Capped c ⌝ }
     ensures { λ r. ⌜ r ≡ leb (c .actions + c .ticks) 65535 ⌝ }
 {
-    c.actions + c.ticks <= 65535
+    c.actions + c.ticks <= term::SEQ_WORD
 }
 
 fn all_few(here: bool, left: bool, right: bool) -> bool

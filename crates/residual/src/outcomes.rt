@@ -1,7 +1,7 @@
 // What a residual's choice does, and how many words it leaves.
 use crate::Step;
 use crate::steps::step_at;
-use choice::Does;
+use term::Label;
 use choice::Effect;
 use choice::outcomes::grown;
 use choice::outcomes::node_outcome;
@@ -35,7 +35,7 @@ pub fn outcome_at(
     let step = step_at(first_root(sizes), scratch, words, at, mode, c);
     match step {
         Step::Ticked => Effect {
-            does: Does::Ticking,
+            label: Label::Ticking,
             size: 1,
         },
         Step::Leaf(n) => {

@@ -11,7 +11,8 @@ ghost use lib.ListN.{length};
 ghost use Rattle.table.specs.Tables.{table};
 ghost use Rattle.table.specs.Sound.{Limits};
 ghost use Rattle.term.specs.Terms.{areTerms};
-ghost use Rattle.residual.specs.Reading.{readAt, operatorWord, leafWord};
+ghost use Rattle.term.specs.Terms.{isOperator};
+ghost use Rattle.residual.specs.Reading.{readAt, leafWord};
 
 impl Cursor {
     pub fn start() -> Self
@@ -33,12 +34,12 @@ impl Cursor {
 
 // A word that takes two terms.
 pub fn is_operator(word: u32) -> bool
-    ensures { λ r. ⌜ r ≡ operatorWord word ⌝ }
+    ensures { λ r. ⌜ r ≡ isOperator word ⌝ }
 {
-    if word == 65535 {
+    if word == term::SEQ_WORD {
         return true;
     }
-    word == 65534
+    word == term::PAR_WORD
 }
 
 // A word that is a term by itself: tick, idle or a process node below the first root.
@@ -46,10 +47,10 @@ fn is_leaf(roots: usize, kinds: &[u8], word: u32) -> bool
     requires { ⌜ roots ≤ length (now kinds) ⌝ }
     ensures { λ r. ⌜ r ≡ leafWord roots (now (kinds .entry)) word ⌝ }
 {
-    if word == 65533 {
+    if word == term::TICK_WORD {
         return true;
     }
-    if word == 65532 {
+    if word == term::IDLE_WORD {
         return true;
     }
     let n = word as usize;

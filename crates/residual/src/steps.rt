@@ -21,7 +21,7 @@ ghost use Rattle.residual.specs.Steps.{besideOf, pickStep, Chosen, Stepp
 fn beside(word: u32, mode: Mode, right: Counts) -> u64
     ensures { λ r. ⌜ r ≡ besideOf word mode right ⌝ }
 {
-    if word == 65535 {
+    if word == term::SEQ_WORD {
         return 0;
     }
     acting(mode, right)
@@ -53,7 +53,7 @@ pub fn step_at(roots: usize, scratch: &[u32], words: &[u32], at: usize, mode: Mo
         let which = pick(mode, c, more, left.counts, right.counts);
         return part(word, at, left.next, right.next, which);
     }
-    if word == 65533 {
+    if word == term::TICK_WORD {
         return Step::Ticked;
     }
     Step::Leaf(word as usize)

@@ -38,7 +38,7 @@ pub fn place(
     let step = step_at(first_root(sizes), scratch, words, at, mode, c);
     match step {
         Step::Ticked => {
-            put(words, front, 65532);
+            put(words, front, term::IDLE_WORD);
             let next = front + 1;
             let back = at + 1;
             Gap { front: next, back }

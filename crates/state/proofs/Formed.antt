@@ -17,7 +17,8 @@ use Rattle.basis.proofs.Tests.{and-left, and-right, and-both, or-left, or-right
 use Rattle.table.specs.Tables.{Table, firstRoot}
 use Rattle.table.specs.Sound.{Limits}
 use Rattle.term.specs.Acceptance.{stateWords}
-use Rattle.term.specs.Terms.{Term, words, areTerms, Over}
+use Rattle.term.specs.Terms.{Term, words, areTerms}
+use Rattle.term.specs.Accepted.{Over}
 use Rattle.term.proofs.Words.{over-low, over-whole, whole-read}
 use Rattle.state.specs.declared.Store.{Store}
 use Rattle.state.specs.declared.Store.the-variants.{Environment, Attributes, Entries}

@@ -19,7 +19,8 @@ use Rattle.value.specs.declared.Value.the-variants.{Absent}
 use Rattle.table.specs.Tables.{Table, startAt}
 use Rattle.table.specs.Sound.{Limits}
 use Rattle.term.specs.Acceptance.{stateWords}
-use Rattle.term.specs.Terms.{Node, words, Over}
+use Rattle.term.specs.Terms.{Node, words}
+use Rattle.term.specs.Accepted.{Over}
 use Rattle.state.specs.declared.Store.{Store}
 use Rattle.state.specs.Layout.{agentsAt, blockAt, lengthAt, residualAt, residualWords, keyLimit, clockOf, markOf, lengthOf, termIn, valueIn}
 use Rattle.state.specs.WellFormed.{started, loaded}

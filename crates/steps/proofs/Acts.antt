@@ -15,8 +15,12 @@ use Rattle.basis.proofs.Tests.{cond-cases, same-or-other}
 use Rattle.table.specs.Tables.{Table, kindAt, pAt}
 use Rattle.table.specs.Sound.{Sound}
 use Rattle.table.proofs.Promises.{attribute-set-operands, stigmergy-set-operands, environment-set-operands}
-use Rattle.term.specs.Terms.{words, Idle, Over}
-use Rattle.term.specs.Processes.{Label, ticks, acts, Derivation, derivation, ActionNode}
+use Rattle.term.specs.declared.Label.{Label}
+use Rattle.term.specs.declared.Label.the-variants.{Ticking, Acting}
+use Rattle.term.specs.Terms.{words, Idle}
+use Rattle.term.specs.Accepted.{Over}
+use Rattle.term.specs.Processes.{Derivation, derivation}
+use Rattle.term.specs.Accepted.{ActionNode}
 use Rattle.term.specs.Acceptance.{stateWords}
 use Rattle.term.proofs.Words.{Low}
 use Rattle.term.proofs.Members.{place-in}
@@ -33,7 +37,7 @@ module _ (t : Table) (was : List ℕ) (x : ℕ) where
   -- what a choice does, asks and leaves is of the table's nodes
   pub chosen-inside : Sound t → Over t (termIn was x) → (c : ℕ) → c < length (choices t was x) → InsideTable t (chosen t was x c)
   chosen-inside sound over c h =
-      derivation-inside t sound (termIn was x) over (place-in (choices t was x) c (nth-in (choices t was x) c (derivation ticks [] Idle) h))
+      derivation-inside t sound (termIn was x) over (place-in (choices t was x) c (nth-in (choices t was x) c (derivation Ticking [] Idle) h))
 
   -- the key that an action sets
   pub action-key : Sound t → (n : ℕ) → ActionNode t n → pAt t n < keyLimit
@@ -70,19 +74,19 @@ module _ (t : Table) (was : List ℕ) (x : ℕ) where
       by (suc (suc (suc (suc (suc k))))) e l m = omega arith
 
   -- SETTING A KEY
-  pub set-tick : setKey t was x ticks ≡ was
+  pub set-tick : setKey t was x Ticking ≡ was
   unfolding setKey
   set-tick = refl
 
-  pub set-value : (n : ℕ) → (kindAt t n ≡ 3 → ⊥) → setKey t was x (acts n) ≡ put (storeOf t was x n) (pAt t n) (wordIn (valueFor t was x n)) 1 was
+  pub set-value : (n : ℕ) → (kindAt t n ≡ 3 → ⊥) → setKey t was x (Acting n) ≡ put (storeOf t was x n) (pAt t n) (wordIn (valueFor t was x n)) 1 was
   unfolding setKey
   set-value n d = rw (setKey, ne-eqb (kindAt t n) 3 d)
 
-  pub set-attribute : (n : ℕ) → kindAt t n ≡ 2 → setKey t was x (acts n) ≡ put (Attributes x) (pAt t n) (wordIn (valueFor t was x n)) 1 was
+  pub set-attribute : (n : ℕ) → kindAt t n ≡ 2 → setKey t was x (Acting n) ≡ put (Attributes x) (pAt t n) (wordIn (valueFor t was x n)) 1 was
   unfolding setKey
   set-attribute n e = rw e
 
-  pub set-environment : (n : ℕ) → kindAt t n ≡ 4 → setKey t was x (acts n) ≡ put Environment (pAt t n) (wordIn (valueFor t was x n)) 1 was
+  pub set-environment : (n : ℕ) → kindAt t n ≡ 4 → setKey t was x (Acting n) ≡ put Environment (pAt t n) (wordIn (valueFor t was x n)) 1 was
   unfolding setKey
   set-environment n e = rw e
 
@@ -100,7 +104,7 @@ module _ (t : Table) (was : List ℕ) (x : ℕ) where
     queued = addKey (zpAt x) k put-in
 
     pub set-entry : kindAt t n ≡ 3
-        → setKey t was x (acts n) ≡ entered was x (pAt t n) (wordIn (valueFor t was x n))
+        → setKey t was x (Acting n) ≡ entered was x (pAt t n) (wordIn (valueFor t was x n))
     unfolding setKey
     set-entry e = rw e
 
@@ -109,7 +113,7 @@ module _ (t : Table) (was : List ℕ) (x : ℕ) where
 
     -- the word that is at q after a stigmergy write
     pub entry-word : length was ≡ stateWords → x < 32 → kindAt t n ≡ 3 → pAt t n < keyLimit → (q : Place) → Inside q
-        → wordAt (setKey t was x (acts n)) q
+        → wordAt (setKey t was x (Acting n)) q
         ≡ cond (same q Clock) (nextStamp was)
         (cond (same q (Waits Zp x)) (plus (zpOf was x) (pAt t n))
         (cond (same q (Mark (Entries x) (pAt t n))) (nextStamp was)
@@ -125,7 +129,7 @@ module _ (t : Table) (was : List ℕ) (x : ℕ) where
 
     -- of other words, the clock and Zp change where it is a stigmergy key, and nothing else
     pub set-key-other : pAt t n < keyLimit → (q : Place) → Inside q → same q Clock ≡ false → same q (Waits Zp x) ≡ false
-        → same q (Mark (storeOf t was x n) (pAt t n)) ≡ false → same q (Word (storeOf t was x n) (pAt t n)) ≡ false → SameAt (setKey t was x (acts n)) was q
+        → same q (Mark (storeOf t was x n) (pAt t n)) ≡ false → same q (Word (storeOf t was x n) (pAt t n)) ≡ false → SameAt (setKey t was x (Acting n)) was q
     unfolding setKey
     set-key-other key q h c z m w =
         cond-cases (λ (u : List ℕ). SameAt u was q) (eqb (kindAt t n) 3)
@@ -138,8 +142,8 @@ module _ (t : Table) (was : List ℕ) (x : ℕ) where
         store = storeOf t was x n
 
   pub set-length : (l : Label) → length (setKey t was x l) ≡ length was
-  set-length ticks = ap (λ (s : List ℕ). length s) set-tick
-  set-length (acts n) =
+  set-length Ticking = ap (λ (s : List ℕ). length s) set-tick
+  set-length (Acting n) =
       ⊎-elim (λ (e : kindAt t n ≡ 3). ap (λ (s : List ℕ). length s) (set-entry n e) ∙ length-set (queued n) clockAt (nextStamp was) ∙ queued-length n)
       (λ (d : kindAt t n ≡ 3 → ⊥). ap (λ (s : List ℕ). length s) (set-value n d) ∙ put-length (storeOf t was x n) (k n) (v n) 1 was) (same-or-other (kindAt t n) 3)
 

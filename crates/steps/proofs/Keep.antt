@@ -17,9 +17,13 @@ use Rattle.value.specs.declared.Value.the-variants.{Absent, Present}
 use Rattle.table.specs.Tables.{Table, kindAt, pAt, qAt}
 use Rattle.table.specs.Sound.{Limits, Sound}
 use Rattle.table.proofs.Promises.{attribute-set-operands, stigmergy-set-operands, environment-set-operands}
+use Rattle.term.specs.declared.Label.{Label}
+use Rattle.term.specs.declared.Label.the-variants.{Ticking, Acting}
 use Rattle.term.specs.Acceptance.{stateWords}
-use Rattle.term.specs.Terms.{Term, words, Over}
-use Rattle.term.specs.Processes.{Label, ticks, acts, Derivation, ActionNode, Labelled}
+use Rattle.term.specs.Terms.{Term, words}
+use Rattle.term.specs.Accepted.{Over}
+use Rattle.term.specs.Processes.{Derivation}
+use Rattle.term.specs.Accepted.{ActionNode, Labelled}
 use Rattle.term.proofs.Inside.{Inside as DerivationInside}
 use Rattle.term.proofs.Words.{over-low, words-small}
 use Rattle.state.specs.declared.Store.{Store}
@@ -172,7 +176,7 @@ module _ (t : Table) (sound : Sound t) (bytes : (i : ℕ) → getD (t .operands)
       let pending = kept-add t limits was c (clockOf was) u entry Zp x k there k16 (rw (put-mark (Entries x) k (word n) c was k16 (proper .whole) (omega arith)) (omega arith)) in
       (c, omega arith, kept-clock t limits was c (clockOf was) (addKey (zpAt x) k u) pending c (omega arith))
 
-  node-set : (n : ℕ) → ActionNode t n → (writesEntry t was x (acts n) ≡ true → clockOf was < 65535) → Set (setKey t was x (acts n))
+  node-set : (n : ℕ) → ActionNode t n → (writesEntry t was x (Acting n) ≡ true → clockOf was < 65535) → Set (setKey t was x (Acting n))
   node-set n a room =
       ⊎-elim
       (λ (h : kindAt t n < 3).
@@ -194,8 +198,8 @@ module _ (t : Table) (sound : Sound t) (bytes : (i : ℕ) → getD (t .operands)
 
   label-set : (l : Label) → Labelled t l → (writesEntry t was x l ≡ true → clockOf was < 65535) → Set (setKey t was x l)
   unfolding setKey
-  label-set ticks h room = (clockOf was, proper .formed .clock, start)
-  label-set (acts n) h room = node-set n h room
+  label-set Ticking h room = (clockOf was, proper .formed .clock, start)
+  label-set (Acting n) h room = node-set n h room
 
   module _ (d : Derivation) (inside : DerivationInside t d) (room : writesEntry t was x (d .label) ≡ true → clockOf was < 65535) (short : length (words (d .leaving)) ≤ residualWords) where
     pub acted-proper : ProperFacts t (acted t was x d)

@@ -10,8 +10,10 @@ use Rattle.value.specs.declared.Value.{Value}
 use Rattle.value.specs.declared.Value.the-variants.{Absent, Present}
 use Rattle.table.specs.Checks.{Check, refuseIf}
 use Rattle.table.specs.Tables.{Table, kindAt, pAt, qAt}
+use Rattle.term.specs.declared.Label.{Label}
+use Rattle.term.specs.declared.Label.the-variants.{Ticking, Acting}
 use Rattle.term.specs.Terms.{Idle, words}
-use Rattle.term.specs.Processes.{Label, ticks, acts, Derivation, derivation, derivations, process, allFew}
+use Rattle.term.specs.Processes.{Derivation, derivation, derivations, process, allFew}
 use Rattle.state.specs.declared.Store.{Store}
 use Rattle.state.specs.declared.Store.the-variants.{Environment, Attributes, Entries}
 use Rattle.state.specs.Layout.{clockAt, zcAt, zpAt, lengthAt, residualAt, residualWords, keyLimit, clockLimit, clockOf, stampOf, zcOf, zpOf, termIn, put, addKey}
@@ -45,7 +47,7 @@ module _ (t : Table) (was : List ℕ) (x : ℕ) where
   choices = derivations (process t (termIn was x))
 
   abbrev pub chosen : ℕ → Derivation
-  chosen c = getD choices c (derivation ticks [] Idle)
+  chosen c = getD choices c (derivation Ticking [] Idle)
 
   abbrev pub allHold : List ℕ → Bool
   allHold [] = true
@@ -56,12 +58,12 @@ module _ (t : Table) (was : List ℕ) (x : ℕ) where
   valueFor n = valueOf t was x x (qAt t n)
 
   abbrev pub lacksValue : Label → Bool
-  lacksValue ticks = false
-  lacksValue (acts n) = isAbsent (valueFor n)
+  lacksValue Ticking = false
+  lacksValue (Acting n) = isAbsent (valueFor n)
 
   abbrev pub writesEntry : Label → Bool
-  writesEntry ticks = false
-  writesEntry (acts n) = eqb (kindAt t n) 3
+  writesEntry Ticking = false
+  writesEntry (Acting n) = eqb (kindAt t n) 3
 
   -- refusals 15 to 17, of what is done and how many words it leaves
   abbrev pub lastChecks : Label → ℕ → List Check
@@ -86,8 +88,8 @@ module _ (t : Table) (was : List ℕ) (x : ℕ) where
   guardsRead (b ∷ g) k = reads t b k || guardsRead g k
 
   abbrev pub labelReads : Label → ℕ → Bool
-  labelReads ticks k = false
-  labelReads (acts n) k = reads t (qAt t n) k
+  labelReads Ticking k = false
+  labelReads (Acting n) k = reads t (qAt t n) k
 
   -- what Zc gains: those that had an entry before (house rule: a key without one could never be confirmed)
   abbrev pub toConfirm : Derivation → ℕ → Bool
@@ -99,8 +101,8 @@ module _ (t : Table) (was : List ℕ) (x : ℕ) where
 
   -- the key is set; a tick sets none
   unfoldable pub setKey : Label → List ℕ
-  setKey ticks = was
-  setKey (acts n) =
+  setKey Ticking = was
+  setKey (Acting n) =
       cond (eqb (kindAt t n) 3)
       (entered was x (pAt t n) (wordIn (valueFor n)))
       (put (storeOf n) (pAt t n) (wordIn (valueFor n)) 1 was)

@@ -1,5 +1,5 @@
 // The last choice of a residual: what it does, under how many guards, and what it leaves.
-use choice::Does;
+use term::Label;
 use residual::choosing::choices;
 use residual::choosing::collect;
 use residual::choosing::outcome;
@@ -21,12 +21,12 @@ fn print_number(n: u64) {
     io::print_decimal(1, n);
 }
 
-fn print_does(does: Does) {
+fn print_does(does: Label) {
     match does {
-        Does::Ticking => {
+        Label::Ticking => {
             io::write_all(1, b" tick");
         }
-        Does::Acting(n) => print_number(n as u64),
+        Label::Acting(n) => print_number(n as u64),
     }
 }
 
@@ -80,7 +80,7 @@ pub fn print_last_choice(
     }
     let c = count - 1;
     let told = outcome(sizes, kinds, operands, scratch, words, 1, c);
-    let does = told.does;
+    let does = told.label;
     print_does(does);
     collect(sizes, kinds, operands, scratch, marks, words, 1, c);
     print_number(marked_guards(kinds, marks) as u64);

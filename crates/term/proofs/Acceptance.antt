@@ -10,31 +10,32 @@ use lib.Dec.{ltb, eqb}
 use lib.ListN.{length, getD, List·getD-eq-default}
 use borrow.Author.Tests.{ltb-false, leb-false, eqb-true, le-ltb, eq-eqb, not-false}
 use Rattle.basis.proofs.Tests.{either, or-neither, lt-or-le}
-use Rattle.table.specs.Checks.{Check, passes, firstOf}
-use Rattle.table.specs.Tables.{Table, sizesOf, withinLimits, tableOf, kindAt, pAt, qAt, firstRoot, bodyAt}
+use Rattle.table.specs.Checks.{Refusal, passes, firstOf}
+use Rattle.table.specs.Tables.{Table, headerBytes, sizesOf, withinLimits, tableOf, kindAt, pAt, qAt, firstRoot, bodyAt}
 use Rattle.table.specs.Nodes.{isProcess, badNode}
 use Rattle.table.specs.Reach.{wrongKey}
 use Rattle.table.specs.Sound.{Sound}
-use Rattle.table.proofs.Checks.{first-passes, first-both, refuseAt-passes, refuseAt-none}
+use Rattle.table.specs.Measuring.{sizeChecks}
+use Rattle.table.proofs.Checks.{first-passes, first-both, none-passes, lowest-passes, passes-lowest}
 use Rattle.table.proofs.Limits.{limits-within}
 use Rattle.table.proofs.Promises.{sound-table, root-kind, past-kind, call-operands}
 use Rattle.term.specs.Processes.{Process, idle, derivations, few, byKind, defined, nodeProcess}
 use Rattle.term.specs.Exposure.{badCall}
-use Rattle.term.specs.Acceptance.{stateWords, overfull, lengthChecks, contentChecks}
+use Rattle.term.specs.Acceptance.{stateWords, overfull, tableChecks}
+use Rattle.term.specs.Parts.{lentCheck, contentChecks}
 use Rattle.term.specs.Accepted.{Checked, Acceptable}
 use Rattle.term.proofs.Each.{Each}
 use Rattle.term.proofs.Opened.{sound-lower, process-opened, process-out}
 use Rattle.term.proofs.Calls.{call-same}
 
--- checks in a row pass where each does
-each-passes : (cs : List Check) → firstOf cs ≡ passes → Each (λ c. c ≡ passes) cs
+-- checks in a row pass where none refuses
+each-passes : (rs : List Refusal) → firstOf rs ≡ passes → Each (λ r. r .when ≡ false) rs
 each-passes [] e = tt
-each-passes (c ∷ cs) e = let w = first-passes c cs e in (w .0, each-passes cs (w .1))
+each-passes (r ∷ rs) e = let w = first-passes r rs e in (w .0, each-passes rs (w .1))
 
-passes-each : (cs : List Check) → Each (λ c. c ≡ passes) cs → firstOf cs ≡ passes
-unfolding firstOf
-passes-each [] e = refl
-passes-each (c ∷ cs) e = first-both c cs (e .0) (passes-each cs (e .1))
+passes-each : (rs : List Refusal) → Each (λ r. r .when ≡ false) rs → firstOf rs ≡ passes
+passes-each [] e = none-passes
+passes-each (r ∷ rs) e = first-both r rs (e .0) (passes-each rs (e .1))
 
 module _ (bytes : List ℕ) (stateLength scratchLength : ℕ) where
   abbrev t : Table
@@ -43,15 +44,19 @@ module _ (bytes : List ℕ) (stateLength scratchLength : ℕ) where
   abbrev N : ℕ
   N = sizesOf bytes .nodes
 
-  abbrev checks : List Check
-  checks = lengthChecks bytes stateLength scratchLength ++ contentChecks t
+  abbrev D : ℕ
+  D = sizesOf bytes .definitions
 
-  pub passes-accepted : firstOf (lengthChecks bytes stateLength scratchLength ++ contentChecks (tableOf bytes)) ≡ passes → Acceptable bytes stateLength scratchLength
+  -- the list by its parts, as the code goes through them
+  pub by-parts : tableChecks bytes stateLength scratchLength ≡ sizeChecks bytes ++ (lentCheck bytes stateLength scratchLength ∷ contentChecks (tableOf bytes))
+  by-parts = refl
+
+  pub passes-accepted : firstOf (tableChecks bytes stateLength scratchLength) ≡ passes → Acceptable bytes stateLength scratchLength
   passes-accepted e =
-      let c = each-passes checks e in
-      let limits = not-false (withinLimits (sizesOf bytes)) ((c .1 .0)) in
-      let size = eqb-true (length bytes) (12 + 5 * N) (not-false (eqb (length bytes) (12 + 5 * N)) ((c .1 .1 .0))) in
-      let lent = or-neither (not (eqb stateLength stateWords)) (ltb scratchLength (2 * N)) ((c .1 .1 .1 .0)) in
+      let c = each-passes (tableChecks bytes stateLength scratchLength) e in
+      let limits = not-false (withinLimits (sizesOf bytes)) (c .1 .0) in
+      let size = eqb-true (length bytes) (headerBytes + 5 * N) (not-false (eqb (length bytes) (headerBytes + 5 * N)) (c .1 .1 .0)) in
+      let lent = or-neither (not (eqb stateLength stateWords)) (ltb scratchLength (2 * N)) (c .1 .1 .1 .0) in
       record {
         size = size;
         state = eqb-true stateLength stateWords (not-false (eqb stateLength stateWords) (lent .0));
@@ -59,36 +64,23 @@ module _ (bytes : List ℕ) (stateLength scratchLength : ℕ) where
         table =
             record {
               sound = sound-table bytes limits size (c .1 .1 .1 .1 .0) (c .1 .1 .1 .1 .1 .0);
-              calls = refuseAt-passes 6 (t .sizes .definitions) (badCall t) (c .1 .1 .1 .1 .1 .1 .0);
-              nodes = refuseAt-passes 7 N (overfull t) (c .1 .1 .1 .1 .1 .1 .1 .0);
+              calls = lowest-passes D (badCall t) (c .1 .1 .1 .1 .1 .1 .0);
+              nodes = lowest-passes N (overfull t) (c .1 .1 .1 .1 .1 .1 .1 .0);
             };
       }
 
-  pub accepted-passes : Acceptable bytes stateLength scratchLength → firstOf (lengthChecks bytes stateLength scratchLength ++ contentChecks (tableOf bytes)) ≡ passes
+  pub accepted-passes : Acceptable bytes stateLength scratchLength → firstOf (tableChecks bytes stateLength scratchLength) ≡ passes
   accepted-passes a =
       let s : Sound t = a .table .sound in
-      passes-each checks (
-        (le-ltb (length bytes) 12 (omega (arith, a .size))),
-        (
-          (ap not (limits-within (sizesOf bytes) (s .shaped .limits))),
-          (
-            (ap not (eq-eqb (length bytes) (12 + 5 * N) (a .size))),
-            (
-              (rw (eq-eqb stateLength stateWords (a .state), le-ltb scratchLength (2 * N) (a .scratch))),
-              (
-                refuseAt-none 4 N (badNode t) (s .nodes),
-                (
-                  refuseAt-none 5 N (wrongKey t) (s .keys),
-                  (
-                    refuseAt-none 6 (t .sizes .definitions) (badCall t) (a .table .calls),
-                    (refuseAt-none 7 N (overfull t) (a .table .nodes), tt),
-                  ),
-                ),
-              ),
-            ),
-          ),
-        ),
-      )
+      passes-each (tableChecks bytes stateLength scratchLength)
+      (le-ltb (length bytes) headerBytes (omega (arith, a .size)),
+      (ap not (limits-within (sizesOf bytes) (s .shaped .limits)),
+      (ap not (eq-eqb (length bytes) (headerBytes + 5 * N) (a .size)),
+      (rw (eq-eqb stateLength stateWords (a .state), le-ltb scratchLength (2 * N) (a .scratch)),
+      (passes-lowest N (badNode t) (s .nodes),
+      (passes-lowest N (wrongKey t) (s .keys),
+      (passes-lowest D (badCall t) (a .table .calls),
+      (passes-lowest N (overfull t) (a .table .nodes), tt))))))))
 
 few-idle : few idle ≡ true
 unfolding derivations

@@ -15,8 +15,8 @@ use Rattle.table.specs.Tables.{Table, kindAt, pAt, qAt, firstRoot, bodyAt}
 use Rattle.term.specs.Terms.{Term, Node}
 use Rattle.term.specs.Processes.{Process, idle, choice, guarded, call, seq, par}
 use Rattle.term.specs.Processes.{Derivation, derivations, keep, isTick, isAction, under, before, joins}
-use Rattle.term.specs.Processes.{byKind, nodeStep, nodeWith, defined, nodeProcess}
-use Rattle.term.specs.Exposure.{canTick, callsBelow, body}
+use Rattle.term.specs.Processes.{byKind, nodeStep, nodeWith, defined, processAt, nodeProcess}
+use Rattle.term.specs.Exposure.{canTick, callsBelow}
 use Rattle.term.specs.Accepted.{CallsLower}
 use Rattle.term.proofs.Counting.{no-ticks, same-tick}
 use Rattle.term.proofs.Opened.{process-opened}
@@ -99,7 +99,7 @@ module _ (d : ℕ) where
 
 module _ (t : Table) where
   -- a definition below a level stands for its body
-  pub defined-body : (level d : ℕ) → d < level → defined t level d ≡ body t d
+  pub defined-body : (level d : ℕ) → d < level → defined t level d ≡ processAt t d (bodyAt t d)
   unfolding defined
   defined-body level d h = below-at (λ lower e. nodeWith t lower (bodyAt t e)) idle level d h
 
@@ -111,9 +111,9 @@ module _ (t : Table) where
 
   -- so is a definition's body
   pub body-same : CallsLower t → (d : ℕ) → d < t .sizes .definitions
-      → (derivations (body t d) ≡ derivations (nodeProcess t (bodyAt t d))) × (callsBelow d (nodeProcess t (bodyAt t d)) ≡ true)
+      → (derivations (processAt t d (bodyAt t d)) ≡ derivations (nodeProcess t (bodyAt t d))) × (callsBelow d (nodeProcess t (bodyAt t d)) ≡ true)
   unfolding nodeProcess
-  body-same c d h = level-same d d (t .sizes .definitions) (omega arith) (omega arith) (bodyAt t d) (not-false (callsBelow d (body t d)) (c d h))
+  body-same c d h = level-same d d (t .sizes .definitions) (omega arith) (omega arith) (bodyAt t d) (not-false (callsBelow d (processAt t d (bodyAt t d))) (c d h))
 
   pub call-same : CallsLower t → (d : ℕ) → d < t .sizes .definitions
       → derivations (call d (defined t (t .sizes .definitions) d)) ≡ derivations (nodeProcess t (bodyAt t d))

@@ -13,10 +13,12 @@ use Rattle.table.specs.Tables.{Table, kindAt, pAt, qAt, firstRoot, bodyAt}
 use Rattle.table.specs.Sound.{Sound}
 use Rattle.table.specs.Sound.{LowerProcess, LowerGuard}
 use Rattle.table.proofs.Promises.{sequence-operands, guarded-operands, parallel-operands}
-use Rattle.term.specs.Terms.{Term, Seq, Par, Tick, Idle, Node, Over}
-use Rattle.term.specs.Processes.{Process, idle, tick, act, choice, guarded, call, seq, par, Label, ticks, acts}
+use Rattle.term.specs.Terms.{Term, Seq, Par, Tick, Idle, Node}
+use Rattle.term.specs.Accepted.{Over}
+use Rattle.term.specs.Processes.{Process, idle, tick, act, choice, guarded, call, seq, par}
 use Rattle.term.specs.Processes.{Derivation, derivations, keep, isTick, isAction, under, before, besideRight, besideLeft, join, joins}
-use Rattle.term.specs.Processes.{byKind, nodeStep, nodeWith, defined, nodeProcess, process, ActionNode, GuardNode, Labelled}
+use Rattle.term.specs.Processes.{byKind, nodeStep, nodeWith, defined, nodeProcess, process}
+use Rattle.term.specs.Accepted.{ActionNode, GuardNode, Labelled}
 use Rattle.term.proofs.Each.{Each, each-in, each-append, each-map}
 use Rattle.term.proofs.Members.{In}
 

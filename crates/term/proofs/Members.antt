@@ -9,10 +9,11 @@ use mathlib.Core.List.{List, [], _∷_, _++_, map, List·Memᴰ, List·Memᴰ·h
 use mathlib.Core.List.{List·Memᴰ·append-cases, Memᴰ·append-left, Memᴰ·append-right, Memᴰ·map, Memᴰ·of-map, Memᴰ·cast}
 use native.Mathlib.Omega.{arith}
 use lib.ListN.{getElem?}
+use Rattle.term.specs.declared.Label.the-variants.{Ticking, Acting}
 use Rattle.term.specs.declared.Mode.the-variants.{Any}
 use Rattle.term.specs.Terms.{Term, Tick, Idle}
 use Rattle.term.specs.Processes.{Process, idle, tick, act, choice, guarded, call, seq, par}
-use Rattle.term.specs.Processes.{Derivation, derivation, ticks, acts, derivations, keep, isTick, isAction, under, before, besideRight, besideLeft, join, joins}
+use Rattle.term.specs.Processes.{Derivation, derivation, derivations, keep, isTick, isAction, under, before, besideRight, besideLeft, join, joins}
 use Rattle.term.specs.Choices.{select}
 use Rattle.term.proofs.Counting.{select-any}
 
@@ -114,11 +115,11 @@ pub in-idle : {d : Derivation} → In d (derivations idle) → ⊥
 unfolding derivations
 in-idle m = List·Memᴰ·not-nil m
 
-pub in-tick : {d : Derivation} → In d (derivations tick) ↔ (d ≡ derivation ticks [] Idle)
+pub in-tick : {d : Derivation} → In d (derivations tick) ↔ (d ≡ derivation Ticking [] Idle)
 unfolding derivations
 in-tick = (λ m. List·Memᴰ·eq-of-singleton m, λ e. List·Memᴰ·head e)
 
-pub in-act : {d : Derivation} (n : ℕ) → In d (derivations (act n)) ↔ (d ≡ derivation (acts n) [] Tick)
+pub in-act : {d : Derivation} (n : ℕ) → In d (derivations (act n)) ↔ (d ≡ derivation (Acting n) [] Tick)
 unfolding derivations
 in-act n = (λ m. List·Memᴰ·eq-of-singleton m, λ e. List·Memᴰ·head e)
 

@@ -12,7 +12,8 @@ use borrow.Author.Tests.{eqb-true, ltb-true, lt-ltb, ne-eqb}
 use Rattle.basis.proofs.Tests.{not-both, or-either, and-left, and-right}
 use Rattle.table.specs.Tables.{Table, kindAt, firstRoot}
 use Rattle.table.specs.Nodes.{isProcess}
-use Rattle.term.specs.Terms.{Term, Seq, Par, Tick, Idle, Node, words, fronted, termsOf, termOf, isOperator, isLeaf, areTerms, Over}
+use Rattle.term.specs.Terms.{Term, Seq, Par, Tick, Idle, Node, words, fronted, termsOf, termOf, isOperator, isLeaf, areTerms}
+use Rattle.term.specs.Accepted.{Over}
 
 -- a term whose node numbers are no other words
 abbrev pub Low : Term → Type 0
@@ -92,7 +93,7 @@ words-injective T U l m e = words-front T U [] [] l m (ap (λ (ws : List ℕ). w
 
 module _ (t : Table) where
   -- a word that is no operator
-  are-node : (n w : ℕ) (ws : List ℕ) → isOperator t w ≡ false → isLeaf t w ≡ true → areTerms t (suc n) (w ∷ ws) ≡ areTerms t n ws
+  are-node : (n w : ℕ) (ws : List ℕ) → isOperator w ≡ false → isLeaf t w ≡ true → areTerms t (suc n) (w ∷ ws) ≡ areTerms t n ws
   unfolding areTerms
   are-node n w ws e f = rw (areTerms, e, f)
 
@@ -117,7 +118,7 @@ module _ (t : Table) where
   Made zero ws = ws ≡ []
   Made (suc n) ws = (T : Term) × (rest : List ℕ) × Over t T × Made n rest × (ws ≡ words T ++ rest)
 
-  made-operator : (n w : ℕ) (ws : List ℕ) → isOperator t w ≡ true → Made (suc (suc n)) ws → Made (suc n) (w ∷ ws)
+  made-operator : (n w : ℕ) (ws : List ℕ) → isOperator w ≡ true → Made (suc (suc n)) ws → Made (suc n) (w ∷ ws)
   unfolding words
   made-operator n w ws e (P, vs, p, (Q, us, q, m, f), g) =
       let h : ws ≡ (words P ++ words Q) ++ us = g ∙ ap (λ (xs : List ℕ). words P ++ xs) f ∙ sym (append-assoc (words P) (words Q) us) in
@@ -138,9 +139,9 @@ module _ (t : Table) where
   made zero [] e = refl
   made (suc n) [] e = absurd (not-both e refl)
   made zero (w ∷ ws) e = absurd (not-both e refl)
-  made (suc n) (w ∷ ws) e = by (isOperator t w) refl e (made (suc (suc n)) ws) (made n ws)
+  made (suc n) (w ∷ ws) e = by (isOperator w) refl e (made (suc (suc n)) ws) (made n ws)
     where
-      by : (b : Bool) → isOperator t w ≡ b → cond b (areTerms t (suc (suc n)) ws) (isLeaf t w && areTerms t n ws) ≡ true
+      by : (b : Bool) → isOperator w ≡ b → cond b (areTerms t (suc (suc n)) ws) (isLeaf t w && areTerms t n ws) ≡ true
           → (areTerms t (suc (suc n)) ws ≡ true → Made (suc (suc n)) ws) → (areTerms t n ws ≡ true → Made n ws) → Made (suc n) (w ∷ ws)
       by true i f r s = made-operator n w ws i (r f)
       by false i f r s = made-leaf n w ws (and-left (isLeaf t w) (areTerms t n ws) f) (s (and-right (isLeaf t w) (areTerms t n ws) f))

@@ -4,8 +4,12 @@ use mathlib.Core.Bool.{false}
 use mathlib.Core.Path.{_≡_}
 use mathlib.Core.List.{List}
 use lib.ListN.{length}
-use Rattle.table.specs.Tables.{Table, sizesOf, tableOf}
-use Rattle.table.specs.Sound.{Sound}
+use Rattle.table.specs.Tables.{Table, headerBytes, sizesOf, tableOf, kindAt, firstRoot}
+use Rattle.table.specs.Sound.{Sound, LowerProcess, LowerGuard}
+use Rattle.basis.specs.Kinds as kind
+use Rattle.term.specs.declared.Label.{Label}
+use Rattle.term.specs.declared.Label.the-variants.{Ticking, Acting}
+use Rattle.term.specs.Terms.{Term, Seq, Par, Tick, Idle, Node}
 use Rattle.term.specs.Exposure.{badCall}
 use Rattle.term.specs.Acceptance.{stateWords, overfull}
 
@@ -21,7 +25,27 @@ pub record Checked (t : Table) : Type 0 where
 
 -- of the lengths too: 1 to 8 have passed
 pub record Acceptable (bytes : List ℕ) (stateLength scratchLength : ℕ) : Type 0 where
-  pub size : length bytes ≡ 12 + 5 * sizesOf bytes .nodes
+  pub size : length bytes ≡ headerBytes + 5 * sizesOf bytes .nodes
   pub state : stateLength ≡ stateWords
   pub scratch : 2 * sizesOf bytes .nodes ≤ scratchLength
   pub table : Checked (tableOf bytes)
+
+-- a term over the table's process nodes
+abbrev pub Over : Table → Term → Type 0
+Over t (Seq P Q) = Over t P × Over t Q
+Over t (Par P Q) = Over t P × Over t Q
+Over t Tick = Unit {0}
+Over t Idle = Unit {0}
+Over t (Node n) = LowerProcess t (firstRoot t) n
+
+-- node n is an action of the table, or a guard
+abbrev pub ActionNode : Table → ℕ → Type 0
+ActionNode t n = (n < firstRoot t) × (kind.setAttribute ≤ kindAt t n) × (kindAt t n ≤ kind.setEnvironment)
+
+abbrev pub GuardNode : Table → ℕ → Type 0
+GuardNode t n = LowerGuard t (firstRoot t) n
+
+-- what is done is a tick, or an action of the table
+abbrev pub Labelled : Table → Label → Type 0
+Labelled t Ticking = Unit {0}
+Labelled t (Acting n) = ActionNode t n

@@ -3,7 +3,7 @@ use Prim.Native.Nat.{ℕ}
 use mathlib.Core.Bool.{Bool, true, false, not, _&&_, _||_}
 use lib.Dec.{ltb}
 use Rattle.table.specs.Tables.{Table, bodyAt}
-use Rattle.term.specs.Processes.{Process, idle, tick, act, choice, guarded, call, seq, par, nodeWith, defined}
+use Rattle.term.specs.Processes.{Process, idle, tick, act, choice, guarded, call, seq, par, processAt}
 
 unfoldable pub canTick : Process → Bool
 canTick idle = false
@@ -26,9 +26,6 @@ callsBelow d (call e P) = ltb e d
 callsBelow d (seq P Q q) = callsBelow d P && (not (canTick P) || callsBelow d Q)
 callsBelow d (par P p Q q) = callsBelow d P && callsBelow d Q
 
--- the body of definition d, with the definitions below d
-abbrev pub body : Table → ℕ → Process
-body t d = nodeWith t (defined t d) (bodyAt t d)
-
+-- the body of definition d exposes a call of a definition that is not lower
 abbrev pub badCall : Table → ℕ → Bool
-badCall t d = not (callsBelow d (body t d))
+badCall t d = not (callsBelow d (processAt t d (bodyAt t d)))

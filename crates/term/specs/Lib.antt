@@ -1,6 +1,7 @@
 pub mod Terms
 pub mod Processes
-pub mod Choices
 pub mod Exposure
 pub mod Acceptance
+pub mod Choices
 pub mod Accepted
+pub mod Parts

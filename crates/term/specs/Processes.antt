@@ -1,12 +1,13 @@
 -- Processes, and their derivations in the paper's order.
-use Prim.Native.Nat.{ℕ, _<_, _≤_}
+use Prim.Native.Nat.{ℕ}
 use mathlib.Core.Bool.{Bool, true, false, not, _&&_}
 use mathlib.Core.List.{List, [], _∷_, _++_, map}
 use lib.Dec.{leb}
 use lib.ListN.{getD, length}
 use Rattle.basis.specs.Below.{below}
 use Rattle.table.specs.Tables.{Table, kindAt, pAt, qAt, firstRoot, bodyAt}
-use Rattle.table.specs.Sound.{LowerGuard}
+use Rattle.term.specs.declared.Label.{Label}
+use Rattle.term.specs.declared.Label.the-variants.{Ticking, Acting}
 use Rattle.term.specs.Terms.{Term, Seq, Par, Tick, Idle, Node}
 
 -- A tree of nodes, with calls opened: `act n` is the action at node n, `guarded g P` has the guard at node g, `call d P` calls definition d,
@@ -19,11 +20,6 @@ pub data Process : Type 0 where
   seq : Process → Process → Term → Process
   par : Process → Term → Process → Term → Process
 
--- what a derivation does: it ticks, or does the action at a node
-pub data Label : Type 0 where
-  ticks : Label
-  acts : ℕ → Label
-
 -- one way for a process to go on: what it does, under which guards (by their nodes), and what it leaves
 pub record Derivation : Type 0 where
   pub label : Label
@@ -34,8 +30,8 @@ abbrev pub derivation : Label → List ℕ → Term → Derivation
 derivation l g P = record { label = l; guards = g; leaving = P }
 
 abbrev pub labelTicks : Label → Bool
-labelTicks ticks = true
-labelTicks (acts n) = false
+labelTicks Ticking = true
+labelTicks (Acting n) = false
 
 abbrev pub isTick : Derivation → Bool
 isTick d = labelTicks (d .label)
@@ -72,8 +68,8 @@ joins (t ∷ ts) ds = map (join t) ds ++ joins ts ds
 
 unfoldable pub derivations : Process → List Derivation
 derivations idle = []
-derivations tick = derivation ticks [] Idle ∷ []
-derivations (act n) = derivation (acts n) [] Tick ∷ []
+derivations tick = derivation Ticking [] Idle ∷ []
+derivations (act n) = derivation (Acting n) [] Tick ∷ []
 derivations (choice P Q) = derivations P ++ derivations Q
 derivations (guarded g P) = map (under g) (derivations P)
 derivations (call d P) = derivations P
@@ -86,9 +82,11 @@ derivations (par P p Q q) =
     (joins (keep isTick (derivations P)) (derivations Q) ++
     joins (keep isTick (derivations Q)) (derivations P)))
 
--- at most 65,535 derivations
+abbrev pub derivationLimit : ℕ
+derivationLimit = 65535
+
 abbrev pub few : Process → Bool
-few P = leb (length (derivations P)) 65535
+few P = leb (length (derivations P)) derivationLimit
 
 -- node n by its kind, from 0, of operands p and q, from the processes of lower nodes and of the definitions that may be called
 abbrev pub byKind : (ℕ → Process) → (ℕ → Process) → ℕ → ℕ → ℕ → List Process
@@ -108,14 +106,19 @@ module _ (t : Table) where
   unfoldable pub nodeWith : (ℕ → Process) → ℕ → Process
   nodeWith calls = below (nodeStep calls) idle (firstRoot t)
 
-  -- the processes of the definitions below a level: a body calls lower definitions only
+  -- the processes of the definitions below a level. In a body a call of a definition that is not lower stands as idle:
+  -- where 6 passes no derivation comes from such a call, since it is not exposed
   unfoldable pub defined : ℕ → ℕ → Process
   defined = below (λ lower d. nodeWith lower (bodyAt t d)) idle
 
-  -- the process of a node, and of a residual
-  unfoldable pub nodeProcess : ℕ → Process
-  nodeProcess = nodeWith (defined (t .sizes .definitions))
+  -- the process of a node with the definitions below a level, and with all of them
+  abbrev pub processAt : ℕ → ℕ → Process
+  processAt level = nodeWith (defined level)
 
+  unfoldable pub nodeProcess : ℕ → Process
+  nodeProcess = processAt (t .sizes .definitions)
+
+  -- the process of a residual
   unfoldable pub process : Term → Process
   process (Seq P Q) = seq (process P) (process Q) Q
   process (Par P Q) = par (process P) P (process Q) Q
@@ -130,15 +133,3 @@ module _ (t : Table) where
   allFew Tick = true
   allFew Idle = true
   allFew (Node n) = few (nodeProcess n)
-
--- node n is an action of the table, or a guard
-abbrev pub ActionNode : Table → ℕ → Type 0
-ActionNode t n = (n < firstRoot t) × (2 ≤ kindAt t n) × (kindAt t n ≤ 4)
-
-abbrev pub GuardNode : Table → ℕ → Type 0
-GuardNode t n = LowerGuard t (firstRoot t) n
-
--- what is done is a tick, or an action of the table
-abbrev pub Labelled : Table → Label → Type 0
-Labelled t ticks = Unit {0}
-Labelled t (acts n) = ActionNode t n

@@ -6,7 +6,6 @@ use lib.Dec.{eqb, ltb}
 use lib.ListN.{getD, drop}
 use Rattle.table.specs.Tables.{Table, kindAt, firstRoot}
 use Rattle.table.specs.Nodes.{isProcess}
-use Rattle.table.specs.Sound.{LowerProcess}
 
 pub data Term : Type 0 where
   Seq Par : Term → Term → Term
@@ -51,19 +50,12 @@ termsOf (w ∷ ws) = fronted w (termsOf ws)
 abbrev pub termOf : List ℕ → Term
 termOf ws = getD (termsOf ws) 0 Idle
 
--- a term over the table's process nodes
-abbrev pub Over : Table → Term → Type 0
-Over t (Seq P Q) = Over t P × Over t Q
-Over t (Par P Q) = Over t P × Over t Q
-Over t Tick = Unit {0}
-Over t Idle = Unit {0}
-Over t (Node n) = LowerProcess t (firstRoot t) n
+-- a word that is an operator
+abbrev pub isOperator : ℕ → Bool
+isOperator w = eqb w seqWord || eqb w parWord
 
 module _ (t : Table) where
-  -- a word that is an operator, and one that is a term by itself: tick, idle or a process node
-  abbrev pub isOperator : ℕ → Bool
-  isOperator w = eqb w seqWord || eqb w parWord
-
+  -- a word that is a term by itself: tick, idle or a process node
   abbrev pub isLeaf : ℕ → Bool
   isLeaf w = eqb w tickWord || (eqb w idleWord || (ltb w (firstRoot t) && isProcess (kindAt t w)))
 

@@ -13,7 +13,10 @@ use Rattle.basis.proofs.KeySets.{has-plus}
 use Rattle.basis.proofs.Tests.{same-or-other, eqb-swap}
 use Rattle.agreement.specs.Moves.{Move, quiet, write, moved}
 use Rattle.table.specs.Tables.{Table, kindAt, pAt}
-use Rattle.term.specs.Processes.{Label, ticks, acts, Derivation, ActionNode, Labelled}
+use Rattle.term.specs.declared.Label.{Label}
+use Rattle.term.specs.declared.Label.the-variants.{Ticking, Acting}
+use Rattle.term.specs.Processes.{Derivation}
+use Rattle.term.specs.Accepted.{ActionNode, Labelled}
 use Rattle.term.specs.Acceptance.{stateWords}
 use Rattle.state.specs.declared.Store.{Store}
 use Rattle.state.specs.declared.Store.the-variants.{Entries}
@@ -31,13 +34,13 @@ module _ (t : Table) (s : List ℕ) (x j : ℕ) where
   written n = write x (record { value = wordIn (valueFor t s x n); stamp = nextStamp s })
 
   abbrev pub actMove : Label → Move Pair
-  actMove ticks = quiet
-  actMove (acts n) = cond (eqb (kindAt t n) 3) (cond (eqb (pAt t n) j) (written n) quiet) quiet
+  actMove Ticking = quiet
+  actMove (Acting n) = cond (eqb (kindAt t n) 3) (cond (eqb (pAt t n) j) (written n) quiet) quiet
 
   module _ (whole : length s ≡ stateWords) (there : x < 32) (low : j < keyLimit) where
     -- a stigmergy write
     write-shows : (n : ℕ) → kindAt t n ≡ 3 → pAt t n < keyLimit → (a : ℕ)
-        → Shows (setKey t s x (acts n)) j (moved newer (links t s j) (cond (eqb (pAt t n) j) (written n) quiet) (seen s j)) a
+        → Shows (setKey t s x (Acting n)) j (moved newer (links t s j) (cond (eqb (pAt t n) j) (written n) quiet) (seen s j)) a
     unfolding moved
     write-shows n e key a =
         let after = entry-word t s x n whole there e key in
@@ -66,9 +69,9 @@ module _ (t : Table) (s : List ℕ) (x j : ℕ) where
         waits false = refl
 
     -- setting an attribute or an environment key changes no entry and no Zp
-    value-shows : (n : ℕ) → ActionNode t n → (kindAt t n ≡ 3 → ⊥) → pAt t n < keyLimit → (a : ℕ) → Shows (setKey t s x (acts n)) j (seen s j) a
+    value-shows : (n : ℕ) → ActionNode t n → (kindAt t n ≡ 3 → ⊥) → pAt t n < keyLimit → (a : ℕ) → Shows (setKey t s x (Acting n)) j (seen s j) a
     value-shows n i d key a =
-        shows-same (setKey t s x (acts n)) s j (seen s j) a
+        shows-same (setKey t s x (Acting n)) s j (seen s j) a
         (kept (Word (Entries a) j) low refl (apart (Word (Entries a) j) (Word store (pAt t n)) (λ e. store-other t s x n i d (sym e))))
         (kept (Mark (Entries a) j) low (apart (Mark (Entries a) j) (Mark store (pAt t n)) (λ e. store-other t s x n i d (sym e))) refl)
         (kept (Waits Zp a) tt refl refl) (shows-itself s j a)
@@ -79,13 +82,13 @@ module _ (t : Table) (s : List ℕ) (x j : ℕ) where
         apart : (q p : Place) → (placeKind q ≡ placeKind p → ⊥) → same q p ≡ false
         apart q p f = same-not q p (λ e. f (ap placeKind e))
 
-        kept : (q : Place) → Inside q → same q (Mark store (pAt t n)) ≡ false → same q (Word store (pAt t n)) ≡ false → SameAt (setKey t s x (acts n)) s q
+        kept : (q : Place) → Inside q → same q (Mark store (pAt t n)) ≡ false → same q (Word store (pAt t n)) ≡ false → SameAt (setKey t s x (Acting n)) s q
         kept q h e f = ap (λ (u : List ℕ). wordAt u q) (set-value t s x n d) ∙ put-other store (pAt t n) (wordIn (valueFor t s x n)) 1 s key q h e f
 
     set-shows : (l : Label) → Labelled t l → ((n : ℕ) → ActionNode t n → pAt t n < keyLimit) → (a : ℕ) → Shows (setKey t s x l) j (moved newer (links t s j) (actMove l) (seen s j)) a
     unfolding moved
-    set-shows ticks i key a = rw (set-tick t s x) (shows-itself s j a)
-    set-shows (acts n) i key a =
+    set-shows Ticking i key a = rw (set-tick t s x) (shows-itself s j a)
+    set-shows (Acting n) i key a =
         ⊎-elim (λ (e : kindAt t n ≡ 3). rw (eq-eqb (kindAt t n) 3 e) (write-shows n e (key n i) a))
         (λ (d : kindAt t n ≡ 3 → ⊥). rw (ne-eqb (kindAt t n) 3 d) (value-shows n i d (key n i) a)) (same-or-other (kindAt t n) 3)
 

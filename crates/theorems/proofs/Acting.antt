@@ -18,8 +18,11 @@ use Rattle.basis.proofs.Lists.{nth-in, nth-is}
 use Rattle.value.specs.declared.Value.{Value}
 use Rattle.value.specs.declared.Value.the-variants.{Absent, Present}
 use Rattle.table.specs.Tables.{Table, kindAt, pAt, qAt}
+use Rattle.term.specs.declared.Label.{Label}
+use Rattle.term.specs.declared.Label.the-variants.{Ticking, Acting}
 use Rattle.term.specs.Terms.{Term, Idle, words}
-use Rattle.term.specs.Processes.{Label, ticks, acts, Derivation, derivation, allFew, ActionNode, Labelled}
+use Rattle.term.specs.Processes.{Derivation, derivation, allFew}
+use Rattle.term.specs.Accepted.{ActionNode, Labelled}
 use Rattle.term.specs.Acceptance.{stateWords}
 use Rattle.term.specs.Accepted.{Checked}
 use Rattle.term.proofs.Words.{Low, over-low}
@@ -166,7 +169,7 @@ module _ (t : Table) (s : List ℕ) (x : ℕ) (d : Derivation) (whole : length s
     finished E₁ T₁ b own others e c did =
         record {
           there = is;
-          acts =
+          Acting =
               subst (λ (E′ : Interface). Acts t (systemOf s .E) (clockOf s) a d E′ (clockOf final) (agentOf final x)) (sym (final-environment ∙ e))
               (subst (λ (T : ℕ). Acts t (systemOf s .E) (clockOf s) a d E₁ T (agentOf final x)) (sym (final-clock ∙ c))
               (subst (λ (o : Agent). Acts t (systemOf s .E) (clockOf s) a d E₁ T₁ o) (sym mine) did));
@@ -207,9 +210,9 @@ module _ (t : Table) (ok : Checked t) (s : List ℕ) (whole : length s ≡ state
   settled : zcOf s x ≡ 0 → zpOf s x ≡ 0 → Settled me
   settled c p k = (ap (λ (w : ℕ). has w k) c ∙ has-nothing k, ap (λ (w : ℕ). has w k) p ∙ has-nothing k)
 
-  module _ (n : ℕ) (g : List ℕ) (T : Term) (r : Enabled t s x (derivation (acts n) g T)) (short : length (words T) ≤ residualWords) where
+  module _ (n : ℕ) (g : List ℕ) (T : Term) (r : Enabled t s x (derivation (Acting n) g T)) (short : length (words T) ≤ residualWords) where
     abbrev d : Derivation
-    d = derivation (acts n) g T
+    d = derivation (Acting n) g T
 
     abbrev p : ℕ
     p = pAt t n
@@ -236,9 +239,9 @@ module _ (t : Table) (ok : Checked t) (s : List ℕ) (whole : length s ≡ state
     Done = Acted t (t .sizes .agents) x d (systemOf s) (systemOf (acted t s x d))
 
     -- u are the words with the key set
-    finish : (u : List ℕ) → setKey t s x (acts n) ≡ u → (E₁ : Interface) (T₁ : ℕ) (b : Agent) → agentOf u x ≡ b
+    finish : (u : List ℕ) → setKey t s x (Acting n) ≡ u → (E₁ : Interface) (T₁ : ℕ) (b : Agent) → agentOf u x ≡ b
         → ((y : ℕ) → (y ≡ x → ⊥) → agentOf u y ≡ agentOf s y) → systemOf u .E ≡ E₁ → clockOf u ≡ T₁
-        → Acts t (systemOf s .E) (clockOf s) me d E₁ T₁ ⟨ b .I ⸴ b .L ⸴ T ⸴ (b .Zc ∪ known me (labelKeys t (acts n))) ∪ known me (guardKeys t g) ⸴ b .Zp ⟩
+        → Acts t (systemOf s .E) (clockOf s) me d E₁ T₁ ⟨ b .I ⸴ b .L ⸴ T ⸴ (b .Zc ∪ known me (labelKeys t (Acting n))) ∪ known me (guardKeys t g) ⸴ b .Zp ⟩
         → Acted t (t .sizes .agents) x d (systemOf s) (systemOf (acted t s x d))
     finish u e E₁ T₁ b own others environs clocks =
         finished t s x d whole there ok (inside d (r .moves)) short (t .sizes .agents) is E₁ T₁ b (ap (λ (w : List ℕ). agentOf w x) e ∙ own)
@@ -298,13 +301,13 @@ module _ (t : Table) (ok : Checked t) (s : List ℕ) (whole : length s ≡ state
   -- AN ENABLED DERIVATION IS DONE by the rules, and leaves what the words then stand for
   act-by : (l : Label) (g : List ℕ) (T : Term) → Enabled t s x (derivation l g T) → length (words T) ≤ residualWords
       → Acted t (t .sizes .agents) x (derivation l g T) (systemOf s) (systemOf (acted t s x (derivation l g T)))
-  act-by ticks g T r short =
-      let d = derivation ticks g T in
+  act-by Ticking g T r short =
+      let d = derivation Ticking g T in
       let e = set-tick t s x in
       finished t s x d whole there ok (inside d (r .moves)) short (t .sizes .agents) is (systemOf s .E) (clockOf s) me (ap (λ (u : List ℕ). agentOf u x) e)
       (λ y o. ap (λ (u : List ℕ). agentOf u y) e) (ap (λ (u : List ℕ). systemOf u .E) e) (ap (λ (u : List ℕ). clockOf u) e)
       (EPSILON (SKIP (r .moves) (settled (r .confirmed) (r .propagated))) (guards-await t s x g .0 (r .guards)))
-  act-by (acts n) g T r short = let w = node n g T r short in by (kindAt t n) refl (w .1) (w .2)
+  act-by (Acting n) g T r short = let w = node n g T r short in by (kindAt t n) refl (w .1) (w .2)
     where
       by : (k : ℕ) → kindAt t n ≡ k → 2 ≤ k → k ≤ 4 → Done n g T r short
       by zero e a b = absurd (omega arith)
@@ -320,12 +323,12 @@ module _ (t : Table) (ok : Checked t) (s : List ℕ) (whole : length s ≡ state
 
   -- AND THE RULES DO NO OTHER
   still : (l : Label) → ε ≡ willOf t l → lacksValue t s x l ≡ false
-  still ticks w = refl
-  still (acts n) w = let z : _≡_ {A = ℕ} 0 1 = cc in absurd (omega arith)
+  still Ticking w = refl
+  still (Acting n) w = let z : _≡_ {A = ℕ} 0 1 = cc in absurd (omega arith)
 
   valued : (l : Label) (e : Expr) (y : Variable) (v : ℕ) → (e ▹ y) ≡ willOf t l → E⟦ e ⟧ (alone (systemOf s .E) me) ≡ Present v → lacksValue t s x l ≡ false
-  valued ticks e y v w h = refl
-  valued (acts n) e y v w h =
+  valued Ticking e y v w h = refl
+  valued (Acting n) e y v w h =
       let i : e ≡ exprOf t (qAt t n) = cc in
       ap (λ (o : Value). isAbsent o) (sym (expression-value t s x x (qAt t n)) ∙ ap (λ (f : Expr). E⟦ f ⟧ (alone (systemOf s .E) me)) (sym i) ∙ h)
 
@@ -357,7 +360,7 @@ module _ (t : Table) (ok : Checked t) (s : List ℕ) (whole : length s ≡ state
   )
 
   -- the clock after it
-  clock-entry : (n : ℕ) → kindAt t n ≡ 3 → clockOf (setKey t s x (acts n)) ≡ suc (clockOf s)
+  clock-entry : (n : ℕ) → kindAt t n ≡ 3 → clockOf (setKey t s x (Acting n)) ≡ suc (clockOf s)
   clock-entry n k =
       let entered = put (Entries x) (pAt t n) (wordIn (valueFor t s x n)) (nextStamp s) s in
       ap (λ (u : List ℕ). clockOf u) (set-entry t s x n k)
@@ -365,15 +368,15 @@ module _ (t : Table) (ok : Checked t) (s : List ℕ) (whole : length s ≡ state
       (add-length Zp x (pAt t n) entered ∙ put-length (Entries x) (pAt t n) (wordIn (valueFor t s x n)) (nextStamp s) s ∙ whole) (omega arith)
       ∙ add-one (clockOf s)
 
-  clock-other : (n : ℕ) → ActionNode t n → (kindAt t n ≡ 3 → ⊥) → clockOf (setKey t s x (acts n)) ≡ clockOf s
+  clock-other : (n : ℕ) → ActionNode t n → (kindAt t n ≡ 3 → ⊥) → clockOf (setKey t s x (Acting n)) ≡ clockOf s
   clock-other n h d =
       ap (λ (u : List ℕ). clockOf u) (set-value t s x n d)
       ∙ put-other (storeOf t s x n) (pAt t n) (wordIn (valueFor t s x n)) 1 s (action-key t s x (ok .sound) n h) Clock tt refl refl
 
   -- it stays within its limit where a write has room
   clock-fits : (l : Label) → Labelled t l → (clockOf (setKey t s x l) ≤ 65535) ↔ (writesEntry t s x l ≡ true → clockOf s < 65535)
-  clock-fits ticks h = (λ c e. absurd (not-both e refl), λ f. rw (set-tick t s x) (formed .clock))
-  clock-fits (acts n) h =
+  clock-fits Ticking h = (λ c e. absurd (not-both e refl), λ f. rw (set-tick t s x) (formed .clock))
+  clock-fits (Acting n) h =
       ⊎-elim
       (λ (k : kindAt t n ≡ 3). (λ c e. omega (arith, clock-entry n k), λ f. omega (arith, clock-entry n k, f (eq-eqb (kindAt t n) 3 k))))
       (λ (k : kindAt t n ≡ 3 → ⊥). (λ c e. absurd (k (eqb-true (kindAt t n) 3 e)), λ f. omega (arith, clock-other n h k, formed .clock)))
@@ -385,9 +388,9 @@ module _ (t : Table) (ok : Checked t) (s : List ℕ) (whole : length s ≡ state
 
   enabled-choice : (c : ℕ) (d : Derivation) → getElem? (choices t s x) c ≡ some d → Able t s x c → Enabled t s x d
   enabled-choice c d e a =
-      subst (λ (o : Derivation). Enabled t s x o) (nth-is (choices t s x) c (derivation ticks [] Idle) d e .1)
+      subst (λ (o : Derivation). Enabled t s x o) (nth-is (choices t s x) c (derivation Ticking [] Idle) d e .1)
       (record {
-        moves = moves-chosen t ok (termIn s x) (chosen t s x c) .0 (c, nth-in (choices t s x) c (derivation ticks [] Idle) (a .there));
+        moves = moves-chosen t ok (termIn s x) (chosen t s x c) .0 (c, nth-in (choices t s x) c (derivation Ticking [] Idle) (a .there));
         confirmed = a .confirmed;
         propagated = a .propagated;
         guards = a .guards;
@@ -397,7 +400,7 @@ module _ (t : Table) (ok : Checked t) (s : List ℕ) (whole : length s ≡ state
   able-choice : (c : ℕ) (d : Derivation) → getElem? (choices t s x) c ≡ some d → Enabled t s x d → allFew t (termIn s x) ≡ true
       → (writesEntry t s x (d .label) ≡ true → clockOf s < 65535) → length (words (d .leaving)) ≤ residualWords → Able t s x c
   able-choice c d e r few room short =
-      let w = nth-is (choices t s x) c (derivation ticks [] Idle) d e in
+      let w = nth-is (choices t s x) c (derivation Ticking [] Idle) d e in
       let i : d ≡ chosen t s x c = sym (w .1) in
       record {
         confirmed = r .confirmed;
@@ -431,7 +434,7 @@ module _ (t : Table) (ok : Checked t) (s : List ℕ) (whole : length s ≡ state
           → Acted t A x d (systemOf s) S′ × (allFew t (termIn s x) ≡ true) × (S′ .clock ≤ 65535) × (length (words (d .leaving)) ≤ residualWords)
       given p =
           let r = enabled-choice c d e (p .0) in
-          let i : chosen t s x c ≡ d = nth-is (choices t s x) c (derivation ticks [] Idle) d e .1 in
+          let i : chosen t s x c ≡ d = nth-is (choices t s x) c (derivation Ticking [] Idle) d e .1 in
           let short = subst (λ (o : Derivation). length (words (o .leaving)) ≤ residualWords) i (p .0 .short) in
           let room = subst (λ (o : Derivation). writesEntry t s x (o .label) ≡ true → clockOf s < 65535) i (p .0 .room) in
           (act-agrees d short S′ .1 (r, p .1), p .0 .few, omega (arith, fits r .1 room, p .1 .clock-same), short)

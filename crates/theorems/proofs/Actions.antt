@@ -14,7 +14,10 @@ use Rattle.table.specs.Tables.{Table, kindAt, pAt, qAt}
 use Rattle.table.specs.Sound.{Sound}
 use Rattle.table.specs.Sound.{LowerExpression}
 use Rattle.table.proofs.Promises.{attribute-set-operands, stigmergy-set-operands, environment-set-operands}
-use Rattle.term.specs.Processes.{Label, ticks, acts, Derivation, ActionNode, GuardNode, Labelled}
+use Rattle.term.specs.declared.Label.{Label}
+use Rattle.term.specs.declared.Label.the-variants.{Ticking, Acting}
+use Rattle.term.specs.Processes.{Derivation}
+use Rattle.term.specs.Accepted.{ActionNode, GuardNode, Labelled}
 use Rattle.term.proofs.Each.{Each}
 use Rattle.term.proofs.Inside.{Inside}
 use Rattle.state.specs.declared.Store.the-variants.{Entries}
@@ -65,8 +68,8 @@ guards-await t s x (b ∷ g) = and-says (holds t s x x b) (allHold t s x g) (gua
 
 -- the keys of an action's expression; a tick has none
 abbrev pub labelKeys : Table → Label → Keys
-labelKeys t ticks = λ k. false
-labelKeys t (acts n) = K⟦ exprOf t (qAt t n) ⟧
+labelKeys t Ticking = λ k. false
+labelKeys t (Acting n) = K⟦ exprOf t (qAt t n) ⟧
 
 -- what has an entry
 pub present-entry : (s : List ℕ) (x k : ℕ) → present (entryOf s x k) ≡ (ltb k keyLimit && ltb 0 (stampOf s x k))
@@ -83,8 +86,8 @@ module _ (t : Table) (sound : Sound t) (s : List ℕ) (x : ℕ) where
   guards-read (b ∷ g) e k = ap₂ (λ c d. c || d) (guard-keys t sound b k (e .0 .1)) (guards-read g (e .1) k)
 
   pub label-reads : (l : Label) → Labelled t l → (k : ℕ) → labelReads t s x l k ≡ labelKeys t l k
-  label-reads ticks h k = refl
-  label-reads (acts n) h k = expression-keys t sound (qAt t n) k (action-expression t sound n h .1)
+  label-reads Ticking h k = refl
+  label-reads (Acting n) h k = expression-keys t sound (qAt t n) k (action-expression t sound n h .1)
 
   -- what Zc gains: of the keys of the expression and of the guards those that have an entry
   pub to-confirm : (d : Derivation) → Inside t d → (k : ℕ)

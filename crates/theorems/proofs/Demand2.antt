@@ -12,8 +12,9 @@ use Rattle.basis.proofs.Lists.{nth-in, nth-is}
 use Rattle.table.specs.Checks.{passes, firstOf}
 use Rattle.table.specs.Tables.{Table, tableOf}
 use Rattle.table.specs.Sound.{Limits}
+use Rattle.term.specs.declared.Label.the-variants.{Ticking}
 use Rattle.term.specs.Accepted.{Acceptable, Checked}
-use Rattle.term.specs.Processes.{Derivation, derivation, ticks}
+use Rattle.term.specs.Processes.{Derivation, derivation}
 use Rattle.term.specs.Terms.{Idle}
 use Rattle.state.specs.declared.Store.{Store}
 use Rattle.state.specs.declared.Store.the-variants.{Environment, Attributes, Entries}
@@ -71,7 +72,7 @@ module _ (bytes s : List ℕ) (scratch : ℕ) (ready : Ready bytes s scratch) wh
       Allowed t (systemOf s) (systemOf (after t s kind x number)) kind x number (takenBy t s kind x number)
   after-allowed zero x c d =
       let a = act-able t s x c .0 (d .own) in
-      let e = nth-in (choices t s x) c (derivation ticks [] Idle) (a .there) in
+      let e = nth-in (choices t s x) c (derivation Ticking [] Idle) (a .there) in
       let p = act-exactly t checked s (ready .state .whole) formed x (d .range .agent-below) c (chosen t s x c) e (systemOf (after t s zero x c)) .1 (a, same-refl) in
       act (p .0) e (p .1) (p .2) (p .3)
   after-allowed (suc zero) x k d =
@@ -109,7 +110,7 @@ module _ (bytes s : List ℕ) (scratch : ℕ) (ready : Ready bytes s scratch) wh
   every : (kind x number taken : ℕ) (S′ : System) → Allowed t (systemOf s) S′ kind x number taken → Made kind x number taken S′
   every kind x number taken S′ (act {d = d} a e few clock short) =
       let w = act-exactly t checked s (ready .state .whole) formed x (a .there) number d e S′ .0 (a, few, clock, short) in
-      let i : d ≡ chosen t s x number = sym (nth-is (choices t s x) number (derivation ticks [] Idle) d e .1) in
+      let i : d ≡ chosen t s x number = sym (nth-is (choices t s x) number (derivation Ticking [] Idle) d e .1) in
       made 0 x number taken S′ (record { kind-below = omega arith; agent-below = a .there; key-below = λ h. absurd (omega arith) }) (act-able t s x number .1 (w .0)) refl
       (subst (λ (o : Derivation). Same A S′ (systemOf (acted t s x o))) i (w .1))
   every kind x k taken S′ (propagate l p) =

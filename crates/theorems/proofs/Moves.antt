@@ -11,8 +11,10 @@ use Rattle.basis.specs.Below.{below}
 use Rattle.basis.proofs.Below.{below-induct}
 use Rattle.basis.proofs.Tests.{not-both}
 use Rattle.table.specs.Tables.{Table, kindAt, pAt, qAt, firstRoot, bodyAt}
+use Rattle.term.specs.declared.Label.{Label}
+use Rattle.term.specs.declared.Label.the-variants.{Ticking, Acting}
 use Rattle.term.specs.Terms.{Term, Seq, Par, Tick, Idle, Node}
-use Rattle.term.specs.Processes.{Process, idle, tick, act, choice, guarded, call, seq, par, Label, ticks, acts, labelTicks}
+use Rattle.term.specs.Processes.{Process, idle, tick, act, choice, guarded, call, seq, par, labelTicks}
 use Rattle.term.specs.Processes.{Derivation, derivation, derivations, join, byKind, nodeStep, nodeWith, defined, nodeProcess, process}
 use Rattle.term.specs.Accepted.{Checked}
 use Rattle.term.proofs.Acceptance.{node-derivations}
@@ -46,24 +48,24 @@ module _ (t : Table) where
   sound-call R d T p e x m = CON e (p x (in-call d T .0 m))
 
   -- an action's label is one, and a tick's is ticks
-  of-action : (l : Label) (A B : Label → Type 0) → ((n : ℕ) → A (acts n) → B (acts n)) → not (labelTicks l) ≡ true → A l → B l
-  of-action ticks A B f h = absurd (not-both h refl)
-  of-action (acts n) A B f h = f n
+  of-action : (l : Label) (A B : Label → Type 0) → ((n : ℕ) → A (Acting n) → B (Acting n)) → not (labelTicks l) ≡ true → A l → B l
+  of-action Ticking A B f h = absurd (not-both h refl)
+  of-action (Acting n) A B f h = f n
 
-  of-tick : (l : Label) (A : Label → Type 0) → labelTicks l ≡ true → A l → A ticks
-  of-tick ticks A h a = a
-  of-tick (acts n) A h a = absurd (not-both h refl)
+  of-tick : (l : Label) (A : Label → Type 0) → labelTicks l ≡ true → A l → A Ticking
+  of-tick Ticking A h a = a
+  of-tick (Acting n) A h a = absurd (not-both h refl)
 
   module _ (R P Q : Term) (T U : Process) (p : Sounds P T) (q : Sounds Q U) where
     -- an action of P, beside what is left of it; a tick of P that joins what Q does
     acted : (beside : Term → Term) (d : Derivation)
-        → ((x : Derivation) (n : ℕ) → Moves t P (acts n) (x .guards) (x .leaving) → Moves t R (acts n) (x .guards) (beside (x .leaving)))
+        → ((x : Derivation) (n : ℕ) → Moves t P (Acting n) (x .guards) (x .leaving) → Moves t R (Acting n) (x .guards) (beside (x .leaving)))
         → Acted (λ x. derivation (x .label) (x .guards) (beside (x .leaving))) (derivations T) d → Does t R d
     acted beside d f m =
         let x = m .0 in
         rw (m .3) (of-action (x .label) (λ l. Moves t P l (x .guards) (x .leaving)) (λ l. Moves t R l (x .guards) (beside (x .leaving))) (f x) (m .2) (p x (m .1)))
 
-    joined : (d : Derivation) → ((u x : Derivation) → Moves t P ticks (u .guards) (u .leaving) → Does t Q x → Does t R (join u x))
+    joined : (d : Derivation) → ((u x : Derivation) → Moves t P Ticking (u .guards) (u .leaving) → Does t Q x → Does t R (join u x))
         → Joined (derivations T) (derivations U) d → Does t R d
     joined d f m =
         let u = m .0 in

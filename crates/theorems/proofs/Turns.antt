@@ -15,7 +15,9 @@ use Rattle.agreement.specs.Moves.{Move, quiet, write, propagate, confirm, moved
 use Rattle.agreement.specs.History.{Numbered, entriesOf}
 use Rattle.table.specs.Tables.{Table, tableOf, kindAt, pAt}
 use Rattle.table.proofs.Promises.{stigmergy-set-operands}
-use Rattle.term.specs.Processes.{Label, ticks, acts, ActionNode, Labelled}
+use Rattle.term.specs.declared.Label.{Label}
+use Rattle.term.specs.declared.Label.the-variants.{Ticking, Acting}
+use Rattle.term.specs.Accepted.{ActionNode, Labelled}
 use Rattle.term.specs.Acceptance.{stateWords}
 use Rattle.state.specs.declared.Store.the-variants.{Entries}
 use Rattle.state.specs.Layout.{keyLimit, clockOf, stampOf}
@@ -77,8 +79,8 @@ quiet-past bytes s scratch zero x c done j l = by (chosen (tableOf bytes) s x c 
     t = tableOf bytes
 
     by : (m : Label) → actMove (tableOf bytes) s x j m ≡ quiet
-    by ticks = refl
-    by (acts n) =
+    by Ticking = refl
+    by (Acting n) =
         ⊎-elim (λ (e : kindAt t n ≡ 3).
         let p = stigmergy-set-operands t (done .accepted .table .sound) n e .0 in
         rw (eq-eqb (kindAt t n) 3 e, ne-eqb (pAt t n) j (λ f. omega arith)))
@@ -101,8 +103,8 @@ pub step-fresh : (bytes s : List ℕ) (scratch kind x number : ℕ) → Done byt
 step-fresh bytes s scratch zero x c done j l = by (chosen (tableOf bytes) s x c .label)
   where
     by : (m : Label) → Fresh newer (actMove (tableOf bytes) s x j m) (seen s j)
-    by ticks = tt
-    by (acts n) =
+    by Ticking = tt
+    by (Acting n) =
         let w = formed bytes s scratch 0 x c done .formed .pairs (Entries x) (done .range .agent-below) j (omega arith) .bound in
         fresh-either (eqb (kindAt (tableOf bytes) n) 3) (eqb (pAt (tableOf bytes) n) j) _ (seen s j) (lt→ltb (stampOf s x j) (nextStamp s) (omega arith))
 step-fresh bytes s scratch (suc zero) x k done j l = fresh-either true (eqb k j) (propagate x) (seen s j) tt
@@ -111,16 +113,16 @@ step-fresh bytes s scratch (suc (suc kind)) x k done j l = fresh-either true (eq
 -- the clock rises by one for each write
 set-clock : (bytes s : List ℕ) (x : ℕ) → length s ≡ stateWords → x < 32 → (m : Label) → Labelled (tableOf bytes) m → ((n : ℕ) → ActionNode (tableOf bytes) n → pAt (tableOf bytes) n < keyLimit)
     → clockOf (setKey (tableOf bytes) s x m) ≡ clockOf s + length (writeOf bytes s x m)
-set-clock bytes s x whole there ticks i key = ap (λ (u : List ℕ). clockOf u) (set-tick (tableOf bytes) s x) ∙ omega arith
-set-clock bytes s x whole there (acts n) i key = ⊎-elim entered other (same-or-other (kindAt t n) 3)
+set-clock bytes s x whole there Ticking i key = ap (λ (u : List ℕ). clockOf u) (set-tick (tableOf bytes) s x) ∙ omega arith
+set-clock bytes s x whole there (Acting n) i key = ⊎-elim entered other (same-or-other (kindAt t n) 3)
   where
     t : Table
     t = tableOf bytes
 
-    entered : kindAt (tableOf bytes) n ≡ 3 → clockOf (setKey (tableOf bytes) s x (acts n)) ≡ clockOf s + length (writeOf bytes s x (acts n))
+    entered : kindAt (tableOf bytes) n ≡ 3 → clockOf (setKey (tableOf bytes) s x (Acting n)) ≡ clockOf s + length (writeOf bytes s x (Acting n))
     entered e = entry-word t s x n whole there e (key n i) Clock tt ∙ rw (eq-eqb (kindAt t n) 3 e)
 
-    other : (kindAt (tableOf bytes) n ≡ 3 → ⊥) → clockOf (setKey (tableOf bytes) s x (acts n)) ≡ clockOf s + length (writeOf bytes s x (acts n))
+    other : (kindAt (tableOf bytes) n ≡ 3 → ⊥) → clockOf (setKey (tableOf bytes) s x (Acting n)) ≡ clockOf s + length (writeOf bytes s x (Acting n))
     other d =
         ap (λ (u : List ℕ). clockOf u) (set-value t s x n d)
         ∙ put-other (storeOf t s x n) (pAt t n) (wordIn (valueFor t s x n)) 1 s (key n i) Clock tt refl refl
@@ -155,8 +157,8 @@ adds-numbered bytes s kind x number = by (eqb kind 0) (chosen (tableOf bytes) s 
     one false w e = tt
 
     by : (b : Bool) (m : Label) → Numbered (λ (w : Write). w .stamp) (clockOf s) (cond b (writeOf bytes s x m) [])
-    by true ticks = tt
-    by true (acts n) = one (eqb (kindAt (tableOf bytes) n) 3) _ refl
+    by true Ticking = tt
+    by true (Acting n) = one (eqb (kindAt (tableOf bytes) n) 3) _ refl
     by false m = tt
 
 wrote-nothing : (b : Bool) (m : Move Pair) → wrote m ≡ [] → wrote (cond b m quiet) ≡ []
@@ -176,8 +178,8 @@ adds-entries bytes s zero x c j = by (chosen (tableOf bytes) s x c .label)
     one false w = refl
 
     by : (m : Label) → wrote (actMove (tableOf bytes) s x j m) ≡ entriesOf (λ (w : Write). w .key) written j (writeOf bytes s x m)
-    by ticks = refl
-    by (acts n) = one (eqb (kindAt (tableOf bytes) n) 3)
+    by Ticking = refl
+    by (Acting n) = one (eqb (kindAt (tableOf bytes) n) 3)
         (record { agent = x; key = pAt (tableOf bytes) n; value = wordIn (valueFor (tableOf bytes) s x n); stamp = nextStamp s })
 adds-entries bytes s (suc zero) x k j = wrote-nothing (eqb k j) (propagate x) refl
 adds-entries bytes s (suc (suc kind)) x k j = rw (eqb·suc-zero (suc kind)) (wrote-nothing (eqb k j) (confirm x) refl)

@@ -6,7 +6,9 @@ use mathlib.Core.Logic.{⊎-elim}
 use Rattle.basis.proofs.Tests.{same-or-other}
 use Rattle.value.specs.declared.Value.the-variants.{Present}
 use Rattle.table.specs.Tables.{Table}
-use Rattle.term.specs.Processes.{Label, ticks, acts, Derivation}
+use Rattle.term.specs.declared.Label.{Label}
+use Rattle.term.specs.declared.Label.the-variants.{Ticking, Acting}
+use Rattle.term.specs.Processes.{Derivation}
 use Rattle.labs.specs.Agents.{⟨_⸴_⸴_⸴_⸴_⟩, Agent, Interface, Stigmergy, System, _⟦_≔_⟧, _∪｛_｝, Inserted}
 use Rattle.labs.specs.Expressions.{Expr, E⟦_⟧, K⟦_⟧}
 use Rattle.labs.specs.Processes.{attribute, stigmergy, environment, Action, assign, actionOf}
@@ -25,8 +27,8 @@ abbrev expressionIn : Action → Expr
 expressionIn (assign x e) = e
 
 abbrev pub willOf : Table → Label → Will
-willOf t ticks = ε
-willOf t (acts n) = willBy (actionOf t n)
+willOf t Ticking = ε
+willOf t (Acting n) = willBy (actionOf t n)
 
 module _ {t : Table} {a : Agent} where
   pub wills-will : {d : Derivation} {w : Will} {a′ : Agent} → Wills t a d w a′ → w ≡ willOf t (d .label)
@@ -122,7 +124,7 @@ pub acted-same : {t : Table} {agents x : ℕ} {d : Derivation} {S S′ S″ : Sy
 acted-same {t} {agents} {x} {d} {S} {S′} {S″} p q =
     record {
       there = p .there;
-      acts =
+      Acting =
           subst (λ (E : Interface). Acts t (S .E) (S .clock) (S .agent x) d E (S″ .clock) (S″ .agent x)) (sym (q .environment-same))
           (subst (λ (T : ℕ). Acts t (S .E) (S .clock) (S .agent x) d (S′ .E) T (S″ .agent x)) (sym (q .clock-same))
           (subst (λ (a : Agent). Acts t (S .E) (S .clock) (S .agent x) d (S′ .E) (S′ .clock) a) (sym (q .agents-same x (p .there))) (p .acts)));

@@ -5,11 +5,12 @@ use mathlib.Core.Path.{_≡_}
 use mathlib.Core.List.{List, [], _∷_, _++_}
 use lib.Dec.{eqb}
 use lib.ListN.{length, getD}
+use Rattle.term.specs.declared.Label.{Label}
+use Rattle.term.specs.declared.Label.the-variants.{Ticking, Acting}
 use Rattle.basis.specs.KeySets.{has}
 use Rattle.agreement.specs.Machine.{afterSteps, Before, writesOf}
 use Rattle.table.specs.Checks.{Check, passes, refuses}
 use Rattle.table.specs.Tables.{tableOf, kindAt, pAt}
-use Rattle.term.specs.Processes.{Label, ticks, acts}
 use Rattle.state.specs.declared.Store.the-variants.{Entries}
 use Rattle.state.specs.Layout.{wordOf, stampOf, zpOf}
 use Rattle.state.specs.Evaluation.{linkHolds}
@@ -50,8 +51,8 @@ module _ (bytes : List ℕ) where
 
   -- what a done step adds: an act that sets a stigmergy key adds one write
   abbrev pub writeOf : List ℕ → ℕ → Label → List Write
-  writeOf s x ticks = []
-  writeOf s x (acts n) =
+  writeOf s x Ticking = []
+  writeOf s x (Acting n) =
       cond (eqb (kindAt (tableOf bytes) n) 3)
       (record { agent = x; key = pAt (tableOf bytes) n; value = wordIn (valueFor (tableOf bytes) s x n); stamp = nextStamp s } ∷ [])
       []

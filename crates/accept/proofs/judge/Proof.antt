@@ -6,14 +6,14 @@ use mathlib.Core.Path.{_≡_, _∙_}
 use native.Mathlib.Omega.{arith}
 use denote.Ref.{now}
 use Rattle.basis.specs.Numbers.{lowest}
-use Rattle.table.specs.Checks.{passes, refuseAt}
+use lib.Dec.{ltb}
 use Rattle.table.specs.Tables.{Table, table}
 use Rattle.table.specs.Nodes.{badNode}
 use Rattle.table.specs.Reach.{wrongKey}
 use Rattle.table.specs.Sound.{Sound}
 use Rattle.accept.proofs.judge.Statement.{statement}
 use Rattle.accept.proofs.judge.Tie as tie
-use Rattle.accept.proofs.Answering.{judged-refused, judged-later, refuses-at, passes-at, none-at}
+use Rattle.accept.proofs.Answering.{judged-later, refuses-at, passes-at, none-at}
 
 abbrev tableAt : tie.Start → Table
 tableAt a = table (a .args .sizes) (now (a .args .kinds)) (now (a .args .operands))
@@ -37,7 +37,7 @@ sound c =
       keys = none-at 5 (a .args .sizes .nodes) (wrongKey (tableAt a)) (c .before .before .before .before .lowest-wrong .ensures) (c .if2 .left);
     }
 
-four : (c : tie.Else1) → refuseAt 4 (start c .args .sizes .nodes) (lowest (badNode (tableAt (start c))) (start c .args .sizes .nodes)) ≡ passes
+four : (c : tie.Else1) → ltb (lowest (badNode (tableAt (start c))) (start c .args .sizes .nodes)) (start c .args .sizes .nodes) ≡ false
 four c = passes-at 4 (start c .args .sizes .nodes) (badNode (tableAt (start c))) (c .before .before .before .before .lowest-bad .ensures) (c .if1 .left)
 
 lowest-bad-requires : tie.Need-lowest-bad-requires
@@ -49,7 +49,7 @@ same-length : tie.Need-same-length
 same-length c = c .before .before .before .before .lowest-bad .kept .1 .1 .1 .0
 
 returns : tie.Need-returns
-returns c = judged-refused (refuses-at 4 _ (badNode (tableAt (c .before .before .before .before .before .before .before .before .before))) (c .before .before .before .before .lowest-bad .ensures) (c .if1 .taken))
+returns c = refuses-at 4 _ (badNode (tableAt (c .before .before .before .before .before .before .before .before .before))) (c .before .before .before .before .lowest-bad .ensures) (c .if1 .taken)
 
 lowest-wrong-requires : tie.Need-lowest-wrong-requires
 lowest-wrong-requires c κs = (start (c .before) .pre .0, omega arith, fine (c .before))
@@ -60,7 +60,7 @@ same-length-2 c = c .before .before .before .before .lowest-wrong .kept .1 .1 .1
 returns-2 : tie.Need-returns-2
 returns-2 c =
     let l = c .before .before .before .before .before .before in
-    judged-later (four l) (judged-refused (refuses-at 5 _ (wrongKey (tableAt (start l))) (c .before .before .before .before .lowest-wrong .ensures) (c .if2 .taken)))
+    judged-later (four l) (refuses-at 5 _ (wrongKey (tableAt (start l))) (c .before .before .before .before .lowest-wrong .ensures) (c .if2 .taken))
 
 judge-terms-requires : tie.Need-judge-terms-requires
 judge-terms-requires c κs = (sound (c .before), omega arith)

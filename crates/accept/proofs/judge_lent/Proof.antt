@@ -2,7 +2,7 @@
 -- Assumes nothing.
 use Prim.Native.Nat.{ℕ, _+_, _-_, _*_}
 use mathlib.Core.List.{List}
-use mathlib.Core.Path.{_≡_, sym, ap, subst}
+use mathlib.Core.Path.{_≡_, sym, ap, subst, refl}
 use native.Mathlib.Omega.{arith}
 use denote.Ref.{now}
 use lib.ListN.{length, take, drop}
@@ -11,7 +11,7 @@ use Rattle.table.specs.declared.Sizes.{Sizes}
 use Rattle.table.specs.Tables.{Table, table, sizesOf, tableOf}
 use Rattle.table.specs.Sound.{Shaped}
 use Rattle.table.proofs.Measuring.{measured-length, measured-shape}
-use Rattle.term.specs.Acceptance.{contentChecks}
+use Rattle.term.specs.Parts.{contentChecks}
 use Rattle.accept.specs.Answers.{Judged}
 use Rattle.accept.proofs.judge_lent.Statement.{statement}
 use Rattle.accept.proofs.judge_lent.Tie as tie
@@ -36,7 +36,7 @@ whole : (a : tie.Start) → length (bytes a) ≡ 12 + 5 * N a
 whole a = let e = same-nodes a in let w = measured-length (bytes a) (a .pre .0) in omega arith
 
 returns : tie.Need-returns
-returns c = judged-refused (lent-state (bytes (c .before .before .before)) _ _ (c .if1 .taken))
+returns c = judged-refused (lent-state (bytes (c .before .before .before)) _ _ (c .if1 .taken)) refl
 
 mul-if2 : tie.Need-mul-if2
 mul-if2 c = let w = whole (c .before .before .before .before) in omega arith
@@ -44,7 +44,7 @@ mul-if2 c = let w = whole (c .before .before .before .before) in omega arith
 returns-2 : tie.Need-returns-2
 returns-2 c =
     let e = same-nodes (c .before .before .before .before .before) in
-    judged-refused (lent-short (bytes (c .before .before .before .before .before)) _ _ (c .before .before .if1 .left) (omega arith))
+    judged-refused (lent-short (bytes (c .before .before .before .before .before)) _ _ (c .before .before .if1 .left) (omega arith)) refl
 
 add-operands : tie.Need-add-operands
 add-operands c = search needs

@@ -11,7 +11,7 @@ use Rattle.accept.specs.Scratch.{Held}
 use Rattle.accept.proofs.judge_terms.Statement.{statement}
 use Rattle.accept.proofs.judge_terms.Tie as tie
 use Rattle.accept.proofs.Fullness.{counted}
-use Rattle.accept.proofs.Answering.{judged-refused, judged-later, judged-none, refuses-at, passes-at, none-at, held-all}
+use Rattle.accept.proofs.Answering.{judged-later, judged-none, refuses-at, passes-at, none-at, held-all}
 
 abbrev tableAt : tie.Start → Table
 tableAt a = table (a .args .sizes) (now (a .args .kinds)) (now (a .args .operands))
@@ -37,7 +37,7 @@ same-length : tie.Need-same-length
 same-length c = c .before .before .before .before .lowest-bad-call .kept .1 .1 .1 .0
 
 returns : tie.Need-returns
-returns c = judged-refused (refuses-at 6 _ (badCall (tableAt (c .before .before .before .before .before .before .before .before .before))) (c .before .before .before .before .lowest-bad-call .ensures .is) (c .if1 .taken))
+returns c = refuses-at 6 _ (badCall (tableAt (c .before .before .before .before .before .before .before .before .before))) (c .before .before .before .before .lowest-bad-call .ensures .is) (c .if1 .taken)
 
 first-root-requires : tie.Need-first-root-requires
 first-root-requires c κs = c .before .before .before .before .before .before .before .before .before .before .pre .0 .shaped .limits
@@ -57,7 +57,7 @@ returns-2 : tie.Need-returns-2
 returns-2 c =
     let l = c .before .before .before .before .before .before .before .before .before in
     judged-later (passes-at 6 (D l) (badCall (tableAt (start l))) (called l .lowest-bad-call .ensures .is) (l .if1 .left))
-    (judged-refused (refuses-at 7 _ (overfull (tableAt (start l))) (c .before .before .lowest-overfull .ensures) (c .if2 .taken)))
+    (refuses-at 7 _ (overfull (tableAt (start l))) (c .before .before .lowest-overfull .ensures) (c .if2 .taken))
 
 same-length-3 : tie.Need-same-length-3
 same-length-3 c = c .before .before .before .before .before .before .pass .kept .1 .1 .1 .0 ∙ c .before .before .before .before .before .before .before .before .before .before .before .before .before .lowest-bad-call .kept .1 .1 .1 .0

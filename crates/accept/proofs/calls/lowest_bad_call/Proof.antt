@@ -14,7 +14,8 @@ use Rattle.table.specs.Tables.{Table, table, pAt, firstRoot, bodyAt}
 use Rattle.table.proofs.Promises.{body-process}
 use Rattle.term.specs.Exposure.{badCall}
 use Rattle.accept.specs.Counts.{countsOf}
-use Rattle.accept.specs.Scratch.{stored, processAt, Held}
+use Rattle.term.specs.Processes.{processAt}
+use Rattle.accept.specs.Scratch.{stored, Held}
 use Rattle.accept.proofs.calls.lowest_bad_call.Statement.{statement}
 use Rattle.accept.proofs.calls.lowest_bad_call.Tie as tie
 use Rattle.accept.proofs.Cells.{stored-length, node-room, root-room, held-small, held-start, held-fewer, held-next}

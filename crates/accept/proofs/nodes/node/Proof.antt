@@ -9,7 +9,8 @@ use lib.ListN.{length, getD}
 use borrow.Author.Needs.{needs}
 use Rattle.table.specs.Tables.{Table, table, kindAt, firstRoot}
 use Rattle.accept.specs.Counts.{counts, countsOf, seqCounts, choiceCounts, parCounts, Capped}
-use Rattle.accept.specs.Scratch.{pairAt, calledAt, processAt}
+use Rattle.term.specs.Processes.{processAt}
+use Rattle.accept.specs.Scratch.{pairAt, calledAt}
 use Rattle.accept.proofs.nodes.node.Statement.{statement}
 use Rattle.accept.proofs.nodes.node.Tie as tie
 use Rattle.accept.proofs.Cells.{node-room, held-small}

@@ -2,8 +2,8 @@
 use mathlib.Core.Path.{subst}
 use native.Mathlib.Omega.{arith}
 use denote.Ref.{now}
+use Rattle.term.specs.declared.Label.{Label}
 use Rattle.table.specs.Tables.{Table, table}
-use Rattle.choice.specs.declared.Does.{Does}
 use Rattle.acting.specs.Gaining.{LabelKey}
 use Rattle.acting.proofs.Gains.{label-none, label-expression}
 use borrow.Author.Needs.{needs}
@@ -22,7 +22,7 @@ enum-known-does c = search needs
 q-at-requires : tie.Need-q-at-requires
 q-at-requires c κs =
     let a = c .before .before .before .before .before in
-    omega (arith, a .pre .0 .operands, subst (λ (d : Does). LabelKey (tb a) d) (c .before .does .given .1) (a .pre .1))
+    omega (arith, a .pre .0 .operands, subst (λ (d : Label). LabelKey (tb a) d) (c .before .label .given .1) (a .pre .1))
 
 keys-read-requires : tie.Need-keys-read-requires
 keys-read-requires c κs = search needs
@@ -30,12 +30,12 @@ keys-read-requires c κs = search needs
 returns : tie.Need-returns
 returns c =
     let a = c .before .before .before .before in
-    λ was x. label-none (tb a) was x (a .args .does) (c .enum-told .given .1) (a .args .keys)
+    λ was x. label-none (tb a) was x (a .args .label) (c .enum-told .given .1) (a .args .keys)
 
 returns-2 : tie.Need-returns-2
 returns-2 c =
     let a = c .before .before .before .before .before .before .before in
-    λ was x. label-expression (tb a) was x (a .args .does) (c .before .before .before .does .given .1) (c .before .q-at .result) (c .before .q-at .ensures .is) (a .args .keys) (a .pre .2) (c .keys-read .result) (c .keys-read .ensures)
+    λ was x. label-expression (tb a) was x (a .args .label) (c .before .before .before .label .given .1) (c .before .q-at .result) (c .before .q-at .ensures .is) (a .args .keys) (a .pre .2) (c .keys-read .result) (c .keys-read .ensures)
 
 pub label-keys-spec : {M : Type 1} → statement M
 label-keys-spec =

@@ -16,12 +16,12 @@ enum-known-does : tie.Need-enum-known-does
 enum-known-does c = search needs
 
 set-key-requires : tie.Need-set-key-requires
-set-key-requires c κs = c .before .before .before .before .before .before .before .pre _ (c .before .before .does .given .1)
+set-key-requires c κs = c .before .before .before .before .before .before .before .pre _ (c .before .before .label .given .1)
 
 returns : tie.Need-returns
 returns c =
     let a = c .before .before .before .before .before in
-    tick-sets (tb a) (now (a .args .state)) (a .args .agent) (a .args .does) (c .enum-told .given .1)
+    tick-sets (tb a) (now (a .args .state)) (a .args .agent) (a .args .label) (c .enum-told .given .1)
 
 same-length : tie.Need-same-length
 same-length c = search needs
@@ -29,7 +29,7 @@ same-length c = search needs
 returns-2 : tie.Need-returns-2
 returns-2 c =
     let a = c .before .before .before .before .before .before .before .before .before .before in
-    action-sets (tb a) (now (a .args .state)) (a .args .agent) (a .args .does) (c .before .before .before .before .before .does .given .1) (c .before .before .set-key .last .1 .1 .1 .0) (c .before .before .set-key .ensures)
+    action-sets (tb a) (now (a .args .state)) (a .args .agent) (a .args .label) (c .before .before .before .before .before .label .given .1) (c .before .before .set-key .last .1 .1 .1 .0) (c .before .before .set-key .ensures)
 
 pub set-label-spec : {M : Type 1} → statement M
 set-label-spec =

@@ -3,9 +3,8 @@
 use mathlib.Core.Path.{_≡_, sym, subst}
 use borrow.Author.Needs.{needs}
 use denote.Ref.{now}
+use Rattle.term.specs.declared.Label.{Label}
 use Rattle.table.specs.Tables.{Table, table}
-use Rattle.choice.specs.declared.Does.{Does}
-use Rattle.choice.specs.Outcomes.{labelOf}
 use Rattle.judging.specs.Outcomes.{Doing, ended}
 use Rattle.judging.proofs.Ending.{tick-ends}
 use Rattle.judging.proofs.outcomes.judge_outcome.Statement.{statement}
@@ -26,18 +25,18 @@ enum-known-does c = search needs
 judge-action-requires : tie.Need-judge-action-requires
 judge-action-requires c κs =
     let a = c .before .before .before .before .before .before in
-    subst (λ (d : Does). Doing (here a) (now (a .args .state)) (a .args .agent) (labelOf d)) (c .before .does .given .1) (a .pre)
+    subst (λ (d : Label). Doing (here a) (now (a .args .state)) (a .args .agent) d) (c .before .label .given .1) (a .pre)
 
 returns : tie.Need-returns
 returns c =
     let a = c .before .before .before .before .before .before in
-    subst (λ (d : Does). c .sized .result ≡ ended (here a) (now (a .args .state)) (a .args .agent) (labelOf d) (a .args .o .size)) (sym (c .before .enum-told .given .1))
+    subst (λ (d : Label). c .sized .result ≡ ended (here a) (now (a .args .state)) (a .args .agent) d (a .args .o .size)) (sym (c .before .enum-told .given .1))
     (tick-ends (here a) (now (a .args .state)) (a .args .agent) (a .args .o .size) (c .sized .result) (c .sized .ensures))
 
 returns-2 : tie.Need-returns-2
 returns-2 c =
     let a = c .before .before .before .before .before .before .before in
-    subst (λ (d : Does). c .judge-action .result ≡ ended (here a) (now (a .args .state)) (a .args .agent) (labelOf d) (a .args .o .size)) (sym (c .before .before .does .given .1)) (c .judge-action .ensures)
+    subst (λ (d : Label). c .judge-action .result ≡ ended (here a) (now (a .args .state)) (a .args .agent) d (a .args .o .size)) (sym (c .before .before .label .given .1)) (c .judge-action .ensures)
 
 pub judge-outcome-spec : {M : Type 1} → statement M
 judge-outcome-spec =

@@ -8,7 +8,8 @@ use borrow.Author.Needs.{needs}
 use denote.Ref.{now}
 use lib.ListN.{length, getD, drop}
 use borrow.Author.Tests.{not-true, not-false}
-use Rattle.residual.specs.Reading.{operatorWord, leafWord}
+use Rattle.term.specs.Terms.{isOperator}
+use Rattle.residual.specs.Reading.{leafWord}
 use Rattle.table.specs.Tables.{Table, table, firstRoot}
 use Rattle.term.specs.Terms.{areTerms}
 use Rattle.residual.proofs.Whole.{read-word, read-end, are-end, are-none, are-operator, are-leaf, are-bad}
@@ -89,8 +90,8 @@ is-leaf-requires : tie.Need-is-leaf-requires Inv-loop μ-loop
 is-leaf-requires c κs = let z = c .before .before .before .before in omega (arith, start z .pre, z .before .before .before .before .before .first-root .ensures)
 
 -- what the tests say of the word that was read
-operator : (c : At) (b : Bool) (r : Bool) → r ≡ operatorWord (c .read2 .given .0 .0) → r ≡ b → operatorWord (getD (ws c) (here c) 0) ≡ b
-operator c b r e f = ap operatorWord (sym (read c .1)) ∙ sym e ∙ f
+operator : (c : At) (b : Bool) (r : Bool) → r ≡ isOperator (c .read2 .given .0 .0) → r ≡ b → isOperator (getD (ws c) (here c) 0) ≡ b
+operator c b r e f = ap isOperator (sym (read c .1)) ∙ sym e ∙ f
 
 leaf : (c : At) (roots : ℕ) (b : Bool) (r : Bool) → r ≡ leafWord roots (now (start c .args .kinds)) (c .read2 .given .0 .0) → r ≡ b
     → leafWord roots (now (start c .args .kinds)) (getD (ws c) (here c) 0) ≡ b
