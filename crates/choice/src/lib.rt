@@ -5,6 +5,8 @@ pub mod writing; // writing.rt: what a node's choice leaves, written between two
 pub mod marking; // marking.rt: the guards of a node's choice, as marks
 pub mod outcomes; // outcomes.rt: what a node's choice does, and how many words it leaves
 
+use term::Label;
+
 // Of a sequence or a parallel: an action of the left part, or of the right; or a tick of the left part that joins a derivation of the
 // right, or a tick of the right part that joins a derivation of the left.
 pub enum Pick {

@@ -1,5 +1,5 @@
 // What a node's choice does, and how many words it leaves.
-use crate::Does;
+use term::Label;
 use crate::Effect;
 use crate::Turn;
 use crate::turns::body_at;
