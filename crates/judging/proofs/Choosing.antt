@@ -11,7 +11,7 @@ use borrow.Author.Tests.{eqb-true, not-false}
 use Rattle.basis.proofs.Tests.{and-left, and-right, not-and}
 use Rattle.table.specs.Tables.{Table, firstRoot}
 use Rattle.term.specs.Terms.{Term, words, termOf, areTerms}
-use Rattle.term.specs.Processes.{Derivation, allFew}
+use Rattle.term.specs.Processes.{Derivation, allFew, derivationAt, process}
 use Rattle.term.specs.Accepted.{Labelled}
 use Rattle.term.proofs.Inside.{Inside}
 use Rattle.choice.specs.declared.Effect.{Effect}
@@ -19,7 +19,7 @@ use Rattle.choice.specs.Marking.{Marked}
 use Rattle.choice.specs.Outcomes.{Tells}
 use Rattle.choice.specs.Turns.{Prepared}
 use Rattle.residual.specs.declared.Choices.{Choices}
-use Rattle.residual.specs.Wholes.{Whole, Taking, Offered, residualTerm, taken}
+use Rattle.residual.specs.Wholes.{Whole, Taking, Offered, residualTerm}
 use Rattle.state.specs.Layout.{zcAt, zpAt, lengthAt, residualAt, residualWords, zcOf, zpOf, lengthOf, termIn}
 use Rattle.state.specs.WellFormed.{Proper}
 use Rattle.state.proofs.Formed.{ResidualFormed, proper-facts, residual-test}
@@ -106,13 +106,13 @@ module _ {t : Table} {scratch was : List ℕ} {x size : ℕ} {ws : List ℕ} (po
     takes : Taking t (termIn was x) c
     takes = subst (λ (T : Term). Taking t T c) term-is taking
 
-    taken-is : taken t (residualTerm size ws) c ≡ chosen t was x c
-    taken-is = ap (λ (T : Term). taken t T c) term-is
+    taken-is : derivationAt (process t (residualTerm size ws)) c ≡ chosen t was x c
+    taken-is = ap (λ (T : Term). derivationAt (process t T) c) term-is
 
     inside : Inside t (chosen t was x c)
     inside = chosen-inside t was x (posed .ready .checked .sound) (formed .over) c (takes .choice)
 
-    module _ {ms out : List ℕ} (unmarked : Unmarked t ms) (marked : Marked t (taken t (residualTerm size ws) c .guards) ms out) where
+    module _ {ms out : List ℕ} (unmarked : Unmarked t ms) (marked : Marked t (derivationAt (process t (residualTerm size ws)) c .guards) ms out) where
       pub agent-asks : GuardsGiven t was x out
       agent-asks = record { situated = situated; room = marked .marks .room }
 
@@ -123,13 +123,13 @@ module _ {t : Table} {scratch was : List ℕ} {x size : ℕ} {ws : List ℕ} (po
         pub agent-14 : held ≡ false → (r : Judgement) → r ≡ refusedBy 14 → Judges t was x c out r
         agent-14 e = judges-14 t was x c (posed .confirmed) (posed .propagated) (takes .few) (takes .choice) (sym (asked (chosen t was x c .guards) guards) ∙ e) out
 
-        pub agent-last : held ≡ true → {limit : ℕ} (o : Effect) → Tells (taken t (residualTerm size ws) c) limit o
+        pub agent-last : held ≡ true → {limit : ℕ} (o : Effect) → Tells (derivationAt (process t (residualTerm size ws)) c) limit o
             → (r : Judgement) → r ≡ ended t was x ((o .label)) (o .size) → Judges t was x c out r
         agent-last e {limit} o tells =
             judges-last t was x c (posed .confirmed) (posed .propagated) (takes .few) (takes .choice) (sym (asked (chosen t was x c .guards) guards) ∙ e) out guards o
             (subst (λ (d : Derivation). Tells d limit o) taken-is tells)
 
-    pub agent-doing : {limit : ℕ} (o : Effect) → Tells (taken t (residualTerm size ws) c) limit o → Doing t was x ((o .label))
+    pub agent-doing : {limit : ℕ} (o : Effect) → Tells (derivationAt (process t (residualTerm size ws)) c) limit o → Doing t was x ((o .label))
     agent-doing o tells =
         record {
           situated = situated;

@@ -61,7 +61,7 @@ module _ (t : Table) (m : Mode) (T : Term) (c front at : ℕ) (ws : List ℕ) (s
         record {
           stands =
               record {
-                chosenIn = s .chosen;
+                choosable = s .choosable;
                 begins = drop-set-lt (at + 1) ws front w (omega arith) ∙ left-stands t m T c at ws (spot .stands) w (s .p) (s .q) (s .term) ∙ ap (λ (l : List ℕ). words (s .p) ++ l) (sym rest-in);
               };
           order = omega arith;
@@ -103,7 +103,7 @@ module _ (t : Table) (m : Mode) (T : Term) (c front at : ℕ) (ws : List ℕ) (s
         let z = size-jump in
         let g = ap length leaves-jump in
         record {
-          stands = stands-right t m T c at ws (spot .stands) (s .w) (s .p) (s .q) (s .term) m i middle (s .place) (s .chosen);
+          stands = stands-right t m T c at ws (spot .stands) (s .w) (s .p) (s .q) (s .term) m i middle (s .place) (s .choosable);
           order = omega (arith, s .place);
           fits = omega arith;
         }
@@ -145,7 +145,7 @@ module _ (t : Table) (m : Mode) (T : Term) (c front at : ℕ) (ws : List ℕ) (s
           record {
             stands =
                 record {
-                  chosenIn = s .chosen;
+                  choosable = s .choosable;
                   begins = same-copy (at + n) (omega arith) ∙ begins-copy ∙ ap (λ (y : List ℕ). words (s .q) ++ y) (sym (same-copy (at + n + length (words (s .q))) (omega arith) ∙ ap (λ (k : ℕ). drop k ws) z));
                 };
             order = omega arith;
@@ -215,7 +215,7 @@ module _ (t : Table) (m : Mode) (T : Term) (c front at : ℕ) (ws : List ℕ) (s
           let q = s .place in
           let y = s .size in
           let l = ap length leaves-drop in
-          record { stands = record { chosenIn = s .chosen; begins = rw (← y) begins-drop }; order = omega arith; fits = omega arith }
+          record { stands = record { choosable = s .choosable; begins = rw (← y) begins-drop }; order = omega arith; fits = omega arith }
 
       pub written-drop : (r : Gap) (last : List ℕ) → Written out front (to + length (words (s .p))) (words (going t m (s .p) i .leaving)) r last
           → Written ws front (at + length (words T)) (words (going t m T c .leaving)) r last
@@ -235,7 +235,7 @@ module _ (t : Table) (m : Mode) (T : Term) (c front at : ℕ) (ws : List ℕ) (s
   -- a lone tick, and a node
   one-tick : T ≡ Tick → (words (going t m T c .leaving) ≡ idleWord ∷ []) × (at + length (words T) ≡ at + 1)
   unfolding words
-  one-tick e = (leaves-idle (going t m T c) (going-tick t m T c e (spot .stands .chosen)), ap (λ (X : Term). at + length (words X)) e)
+  one-tick e = (leaves-idle (going t m T c) (going-tick t m T c e (spot .stands .choosable)), ap (λ (X : Term). at + length (words X)) e)
 
   pub written-tick : T ≡ Tick → Written ws front (at + length (words T)) (words (going t m T c .leaving)) (record { front = front + 1; back = at + 1 }) (set ws front idleWord)
   written-tick e =
@@ -253,7 +253,7 @@ module _ (t : Table) (m : Mode) (T : Term) (c front at : ℕ) (ws : List ℕ) (s
       let f = ap (λ (x : Derivation). length (words (x .leaving))) (same-node t m n c T e) in
       let z = one-node n e in
       record {
-        reached = reached-node t (r .checked .sound) m n c T e (spot .stands .chosen);
+        reached = reached-node t (r .checked .sound) m n c T e (spot .stands .choosable);
         fits = omega (arith, spot .fits);
         end = omega (arith, within);
       }

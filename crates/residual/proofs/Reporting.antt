@@ -16,7 +16,7 @@ use Rattle.choice.specs.declared.Effect.{Effect}
 use Rattle.choice.specs.Chosen.{chosenIn}
 use Rattle.choice.specs.Outcomes.{grownBy, most, Tells}
 use Rattle.choice.proofs.Telling.{tells-tick, tells-same, tells-around}
-use Rattle.residual.specs.Steps.{Chosen, going, StepIn, StepJump, StepCopy, StepDrop, Stands}
+use Rattle.residual.specs.Steps.{Choosable, going, StepIn, StepJump, StepCopy, StepDrop, Stands}
 use Rattle.residual.specs.Spots.{furthest}
 use Rattle.residual.proofs.Standing.{going-tick, same-node, stands-size}
 
@@ -25,11 +25,11 @@ module _ (t : Table) (m : Mode) (T : Term) (c at : ℕ) (ws : List ℕ) (stands 
   limit X = furthest t + length (words X)
 
   pub told-tick : T ≡ Tick → Tells (going t m T c) (furthest t + length (words T)) (record { label = Ticking; size = 1 })
-  told-tick e = tells-tick (going t m T c) (limit T) (omega (arith, words-some T)) (going-tick t m T c e (stands .chosen))
+  told-tick e = tells-tick (going t m T c) (limit T) (omega (arith, words-some T)) (going-tick t m T c e (stands .choosable))
 
   pub told-node : (n : ℕ) → T ≡ Node n → (o : Effect) → Tells (chosenIn m (nodeProcess t n) c) (most (t .sizes .definitions) n) o → Tells (going t m T c) (furthest t + length (words T)) o
   told-node n e o w =
-      let k : Chosen t m (Node n) c = subst (λ (X : Term). Chosen t m X c) e (stands .chosen) in
+      let k : Choosable t m (Node n) c = subst (λ (X : Term). Choosable t m X c) e (stands .choosable) in
       let f = same-node t m n c T e in
       tells-same (going t m T c) (chosenIn m (nodeProcess t n) c) (most (t .sizes .definitions) n) (limit T) o w (ap (λ (x : Derivation). x .label) f, ap (λ (x : Derivation). x .leaving) f)
       (omega (arith, k .over .0))

@@ -12,7 +12,7 @@ use Rattle.table.specs.Tables.{Table, firstRoot}
 use Rattle.term.specs.declared.Mode.the-variants.{Any}
 use Rattle.term.specs.Terms.{Term, words}
 use Rattle.term.specs.Accepted.{Over}
-use Rattle.term.specs.Processes.{Derivation, process}
+use Rattle.term.specs.Processes.{Derivation, process, derivationAt}
 use Rattle.term.specs.Choices.{countIn}
 use Rattle.term.proofs.Counting.{length-derivations}
 use Rattle.term.proofs.Words.{whole-read}
@@ -24,9 +24,9 @@ use Rattle.choice.proofs.Chosen.{chosen-any}
 use Rattle.residual.specs.declared.Measured.{Measured}
 use Rattle.residual.specs.Measures.{Found}
 use Rattle.residual.specs.Moves.{Moved}
-use Rattle.residual.specs.Steps.{Chosen, going, Stands}
+use Rattle.residual.specs.Steps.{Choosable, going, Stands}
 use Rattle.residual.specs.Spots.{Spot}
-use Rattle.residual.specs.Wholes.{Whole, residualTerm, Taking, taken, Offered, Rewritten}
+use Rattle.residual.specs.Wholes.{Whole, residualTerm, Taking, Offered, Rewritten}
 use Rattle.residual.proofs.Moving.{moved-before, moved-part}
 use Rattle.residual.proofs.Places.{empty}
 use Rattle.residual.proofs.Stepping.{true-counts}
@@ -44,23 +44,23 @@ module _ (t : Table) (s : List ℕ) (ready : Prepared t s) (size : ℕ) (ws : Li
   begins : drop 0 ws ≡ words T ++ drop (0 + length (words T)) ws
   begins = rw (zero-add (length (words T)), term-size, read .1) (sym (take-append-drop size ws))
 
-  pub chosen-whole : (c : ℕ) → Taking t (residualTerm size ws) c → Chosen t Any (residualTerm size ws) c
+  pub chosen-whole : (c : ℕ) → Taking t (residualTerm size ws) c → Choosable t Any (residualTerm size ws) c
   chosen-whole c k = record { over = read .0; few = k .few; choice = subst (λ (n : ℕ). c < n) (length-derivations (process t T)) (k .choice) }
 
   pub stands-whole : (c : ℕ) → Taking t (residualTerm size ws) c → Stands t Any (residualTerm size ws) c 0 ws
-  stands-whole c k = record { chosen = chosen-whole c k; begins = begins }
+  stands-whole c k = record { choosable = chosen-whole c k; begins = begins }
 
   -- what is found from the front on
-  pub offered : (roots : ℕ) → roots ≡ firstRoot t → (r : Measured) → Found roots s ws 0 r → (n : ℕ) → n ≡ totalOf Any (r .counts) → Offered t (residualTerm size ws) (record { few = r .few; countIn = n })
+  pub offered : (roots : ℕ) → roots ≡ firstRoot t → (r : Measured) → Found roots s ws 0 r → (n : ℕ) → n ≡ totalOf Any (r .counts) → Offered t (residualTerm size ws) (record { few = r .few; count = n })
   offered roots e r f n d =
       let w = f .right t (sym e) (ready .counted) T (drop (0 + length (words T)) ws) (read .0) begins in
       record {
         few = w .few;
-        countIn = λ g. d ∙ ap (totalOf Any) (true-counts t T g r 0 w) ∙ sym (length-derivations (process t T));
+        count = λ g. d ∙ ap (totalOf Any) (true-counts t T g r 0 w) ∙ sym (length-derivations (process t T));
       }
 
   -- the residual has been moved up to the end of the words
-  module _ (c : ℕ) (k : Taking t (residualTerm size ws) c) (fits : length (words (taken t (residualTerm size ws) c .leaving)) ≤ length ws)
+  module _ (c : ℕ) (k : Taking t (residualTerm size ws) c) (fits : length (words (derivationAt (process t (residualTerm size ws)) c .leaving)) ≤ length ws)
       (vs : List ℕ) (m : Moved ws 0 (length ws - size) (length ws - size) (length ws - size + size) vs) where
     abbrev at : ℕ
     at = length ws - size
@@ -78,7 +78,7 @@ module _ (t : Table) (s : List ℕ) (ready : Prepared t s) (size : ℕ) (ws : Li
     spot-whole =
         let f : length (words (going t Any T c .leaving)) ≤ length ws = subst (λ (d : Derivation). length (words (d .leaving)) ≤ length ws) (sym (chosen-any (process t T) c)) fits in
         record {
-          stands = record { chosen = chosen-whole c k; begins = moved };
+          stands = record { choosable = chosen-whole c k; begins = moved };
           order = omega arith;
           fits = omega (arith, term-size, ends);
         }

@@ -23,7 +23,7 @@ use Rattle.choice.specs.Turns.{Prepared, Reached}
 use Rattle.choice.specs.Chosen.{chosenIn}
 use Rattle.choice.proofs.Chosen.{chosen-tick}
 use Rattle.residual.specs.Measures.{Pairs}
-use Rattle.residual.specs.Steps.{Chosen, going, Stands}
+use Rattle.residual.specs.Steps.{Choosable, going, Stands}
 use Rattle.residual.proofs.Places.{past, term-within}
 
 -- the words hold counts below 65,536
@@ -62,17 +62,17 @@ module _ (t : Table) (sound : Sound t) where
       (λ n h r. calls-kind (defined t D) (below (nodeStep t (defined t D)) idle n) r n (kindAt t n) refl)
 
   -- a term that is a node
-  pub reached-node : (m : Mode) (n c : ℕ) (T : Term) → T ≡ Node n → Chosen t m T c → Reached t D m n c
+  pub reached-node : (m : Mode) (n c : ℕ) (T : Term) → T ≡ Node n → Choosable t m T c → Reached t D m n c
   unfolding process
   reached-node m n c T e k =
-      let w : Chosen t m (Node n) c = subst (λ (X : Term). Chosen t m X c) e k in
+      let w : Choosable t m (Node n) c = subst (λ (X : Term). Choosable t m X c) e k in
       record { low = w .over .0; top = omega arith; choice = w .choice; calls = node-calls n }
 
 -- and one that is a tick
-pub going-tick : (t : Table) (m : Mode) (T : Term) (c : ℕ) → T ≡ Tick → Chosen t m T c → going t m T c ≡ derivation Ticking [] Idle
+pub going-tick : (t : Table) (m : Mode) (T : Term) (c : ℕ) → T ≡ Tick → Choosable t m T c → going t m T c ≡ derivation Ticking [] Idle
 unfolding process
 going-tick t m T c e k =
-    let w : Chosen t m Tick c = subst (λ (X : Term). Chosen t m X c) e k in
+    let w : Choosable t m Tick c = subst (λ (X : Term). Choosable t m X c) e k in
     ap (λ (X : Term). going t m X c) e ∙ chosen-tick m c (w .choice)
 
 pub same-node : (t : Table) (m : Mode) (n c : ℕ) (T : Term) → T ≡ Node n → chosenIn m (process t T) c ≡ chosenIn m (nodeProcess t n) c
@@ -98,11 +98,11 @@ module _ (t : Table) (m : Mode) (T : Term) (c at : ℕ) (ws : List ℕ) (stands 
     pub right-stands : drop (at + 1 + length (words p)) ws ≡ words q ++ drop (at + length (words T)) ws
     right-stands = past ws (at + 1) (words p) (words q ++ drop (at + length (words T)) ws) left-stands
 
-    pub stands-left : (j : Mode) (i : ℕ) → Chosen t j p i → Stands t j p i (at + 1) ws
-    stands-left j i k = record { chosenIn = k; begins = left-stands ∙ ap (λ (l : List ℕ). words p ++ l) (sym right-stands) }
+    pub stands-left : (j : Mode) (i : ℕ) → Choosable t j p i → Stands t j p i (at + 1) ws
+    stands-left j i k = record { choosable = k; begins = left-stands ∙ ap (λ (l : List ℕ). words p ++ l) (sym right-stands) }
 
-    pub stands-right : (j : Mode) (i x : ℕ) → x ≡ at + 1 + length (words p) → Chosen t j q i → Stands t j q i x ws
+    pub stands-right : (j : Mode) (i x : ℕ) → x ≡ at + 1 + length (words p) → Choosable t j q i → Stands t j q i x ws
     stands-right j i x e k =
         let z = stands-size in
         let f : x + length (words q) ≡ at + length (words T) = omega arith in
-        record { chosenIn = k; begins = rw (f, e) right-stands }
+        record { choosable = k; begins = rw (f, e) right-stands }

@@ -29,7 +29,7 @@ use Rattle.residual.specs.declared.Measured.{Measured}
 use Rattle.residual.specs.declared.Step.the-variants.{Ticked, Leaf}
 use Rattle.term.specs.Terms.{isOperator}
 use Rattle.residual.specs.Measures.{Found, Told}
-use Rattle.residual.specs.Steps.{besideOf, pickStep, Chosen, going, Stepped}
+use Rattle.residual.specs.Steps.{besideOf, pickStep, Choosable, going, Stepped}
 use Rattle.residual.proofs.Places.{first, word-is, seq-parts, par-parts, node-plain}
 use Rattle.residual.proofs.Measures.{held-true}
 
@@ -60,7 +60,7 @@ module _ (t : Table) where
       (and-left (allFew t p) (allFew t q) f, and-right (allFew t p) (allFew t q) f)
 
 module _ (t : Table) (m : Mode) (c at middle end : ℕ) (p q : Term) (l : middle ≡ at + 1 + length (words p)) (r : end ≡ middle + length (words q)) where
-  from-seq : Chosen t m (Seq p q) c → (x : Pick) → x ≡ pickOf m c 0 (trueCounts (process t p)) (trueCounts (process t q)) → Stepped t m (Seq p q) c at (pickStep seqWord at middle end x)
+  from-seq : Choosable t m (Seq p q) c → (x : Pick) → x ≡ pickOf m c 0 (trueCounts (process t p)) (trueCounts (process t q)) → Stepped t m (Seq p q) c at (pickStep seqWord at middle end x)
   unfolding process words
   from-seq k x e = by x (subst (λ (y : Pick). SeqPicked m (process t p) (process t q) q (going t m (Seq p q) c) y) (sym e) (seq-picked m (process t p) (process t q) q c (k .choice)))
     where
@@ -74,7 +74,7 @@ module _ (t : Table) (m : Mode) (c at middle end : ℕ) (p q : Term) (l : middle
             q = q;
             term = refl;
             size = omega arith;
-            chosenIn = record { over = k .over .0; few = f .0; choice = h };
+            choosable = record { over = k .over .0; few = f .0; choice = h };
             around = around-before (going t m (Seq p q) c) (going t Actions p i) q g;
           }
       by (RightActs i) h = absurd h
@@ -85,13 +85,13 @@ module _ (t : Table) (m : Mode) (c at middle end : ℕ) (p q : Term) (l : middle
             q = q;
             term = refl;
             place = l;
-            chosenIn = record { over = k .over .1; few = f .1; choice = g };
+            choosable = record { over = k .over .1; few = f .1; choice = g };
             tick = record { over = k .over .0; few = f .0; choice = h };
             joins = d;
           }
       by (RightTicks j i) h = absurd h
 
-  from-par : Chosen t m (Par p q) c → (x : Pick) → x ≡ pickOf m c (actionsOf m (process t q)) (trueCounts (process t p)) (trueCounts (process t q)) → Stepped t m (Par p q) c at (pickStep parWord at middle end x)
+  from-par : Choosable t m (Par p q) c → (x : Pick) → x ≡ pickOf m c (actionsOf m (process t q)) (trueCounts (process t p)) (trueCounts (process t q)) → Stepped t m (Par p q) c at (pickStep parWord at middle end x)
   unfolding process words
   from-par k x e = by x (subst (λ (y : Pick). ParPicked m (process t p) p (process t q) q (going t m (Par p q) c) y) (sym e) (par-picked m (process t p) p (process t q) q c (k .choice)))
     where
@@ -105,7 +105,7 @@ module _ (t : Table) (m : Mode) (c at middle end : ℕ) (p q : Term) (l : middle
             q = q;
             term = refl;
             size = omega arith;
-            chosenIn = record { over = k .over .0; few = f .0; choice = h };
+            choosable = record { over = k .over .0; few = f .0; choice = h };
             around = around-right (going t m (Par p q) c) (going t Actions p i) q g;
           }
       by (RightActs i) (h, g) =
@@ -114,7 +114,7 @@ module _ (t : Table) (m : Mode) (c at middle end : ℕ) (p q : Term) (l : middle
             q = q;
             term = refl;
             size = omega arith;
-            chosenIn = record { over = k .over .1; few = f .1; choice = h };
+            choosable = record { over = k .over .1; few = f .1; choice = h };
             around = around-left (going t m (Par p q) c) (going t Actions q i) p g;
           }
       by (LeftTicks j i) (h, g, d) =
@@ -124,7 +124,7 @@ module _ (t : Table) (m : Mode) (c at middle end : ℕ) (p q : Term) (l : middle
             q = q;
             term = refl;
             place = l;
-            chosenIn = record { over = k .over .1; few = f .1; choice = g };
+            choosable = record { over = k .over .1; few = f .1; choice = g };
             tick = record { over = k .over .0; few = f .0; choice = h };
             joins = d;
           }
@@ -135,7 +135,7 @@ module _ (t : Table) (m : Mode) (c at middle end : ℕ) (p q : Term) (l : middle
             term = refl;
             size = omega arith;
             place = omega arith;
-            chosenIn = record { over = k .over .0; few = f .0; choice = g };
+            choosable = record { over = k .over .0; few = f .0; choice = g };
             tick = record { over = k .over .1; few = f .1; choice = h };
             joins = d;
           }
@@ -144,11 +144,11 @@ module _ (t : Table) (m : Mode) (c at middle end : ℕ) (p q : Term) (l : middle
 module _ (t : Table) (roots : ℕ) (small : roots ≤ 4096) (s ws : List ℕ) (at : ℕ) (m : Mode) (c : ℕ) (same : firstRoot t ≡ roots) (counted : Counted t s) where
   module _ (l r : Measured) (left : Found roots s ws (at + 1) l) (right : Found roots s ws (l .next) r) where
     pub on-operator : isOperator (getD ws at 0) ≡ true → (x : Pick) → x ≡ pickOf m c (besideOf (getD ws at 0) m (r .counts)) (l .counts) (r .counts)
-        → (T : Term) (rest : List ℕ) → drop at ws ≡ words T ++ rest → Chosen t m T c → Stepped t m T c at (pickStep (getD ws at 0) at (l .next) (r .next) x)
+        → (T : Term) (rest : List ℕ) → drop at ws ≡ words T ++ rest → Choosable t m T c → Stepped t m T c at (pickStep (getD ws at 0) at (l .next) (r .next) x)
     unfolding besideOf
     on-operator e x f T rest d k = by T k d (word-is ws at T rest d)
       where
-        by : (T : Term) → Chosen t m T c → drop at ws ≡ words T ++ rest → getD ws at 0 ≡ first T → Stepped t m T c at (pickStep (getD ws at 0) at (l .next) (r .next) x)
+        by : (T : Term) → Choosable t m T c → drop at ws ≡ words T ++ rest → getD ws at 0 ≡ first T → Stepped t m T c at (pickStep (getD ws at 0) at (l .next) (r .next) x)
         by (Seq p q) k d w =
             let parts = seq-parts ws at p q rest d in
             let a = left .right t same counted p (words q ++ rest) (k .over .0) (parts .left) in
@@ -172,21 +172,21 @@ module _ (t : Table) (roots : ℕ) (small : roots ≤ 4096) (s ws : List ℕ) (a
         by Idle k d w = absurd (not-both e (ap isOperator w))
         by (Node n) k d w = absurd (not-both e (ap isOperator w ∙ node-plain t (omega arith) n (k .over .0)))
 
-  pub on-tick : getD ws at 0 ≡ 65533 → (T : Term) (rest : List ℕ) → drop at ws ≡ words T ++ rest → Chosen t m T c → Stepped t m T c at Ticked
+  pub on-tick : getD ws at 0 ≡ 65533 → (T : Term) (rest : List ℕ) → drop at ws ≡ words T ++ rest → Choosable t m T c → Stepped t m T c at Ticked
   on-tick e T rest d k = by T k (sym (word-is ws at T rest d) ∙ e)
     where
-      by : (T : Term) → Chosen t m T c → first T ≡ 65533 → T ≡ Tick
+      by : (T : Term) → Choosable t m T c → first T ≡ 65533 → T ≡ Tick
       by (Seq p q) k w = absurd (omega arith)
       by (Par p q) k w = absurd (omega arith)
       by Tick k w = refl
       by Idle k w = absurd (omega arith)
       by (Node n) k w = absurd (omega (arith, k .over .0))
 
-  pub on-leaf : isOperator (getD ws at 0) ≡ false → (getD ws at 0 ≡ 65533 → ⊥) → (T : Term) (rest : List ℕ) → drop at ws ≡ words T ++ rest → Chosen t m T c → Stepped t m T c at (Leaf (getD ws at 0))
+  pub on-leaf : isOperator (getD ws at 0) ≡ false → (getD ws at 0 ≡ 65533 → ⊥) → (T : Term) (rest : List ℕ) → drop at ws ≡ words T ++ rest → Choosable t m T c → Stepped t m T c at (Leaf (getD ws at 0))
   unfolding process
   on-leaf e f T rest d k = by T k (word-is ws at T rest d)
     where
-      by : (T : Term) → Chosen t m T c → getD ws at 0 ≡ first T → T ≡ Node (getD ws at 0)
+      by : (T : Term) → Choosable t m T c → getD ws at 0 ≡ first T → T ≡ Node (getD ws at 0)
       by (Seq p q) k w = absurd (not-both (ap isOperator w) e)
       by (Par p q) k w = absurd (not-both (ap isOperator w) e)
       by Tick k w = absurd (f w)

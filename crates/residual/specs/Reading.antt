@@ -16,3 +16,7 @@ readAt ws at = cond (ltb at (length ws)) (Word (getD ws at 0) (record { at = at 
 -- a word that is a term by itself: tick, idle, or a process node below the first root
 abbrev pub leafWord : ℕ → List ℕ → ℕ → Bool
 leafWord roots kinds w = eqb w tickWord || (eqb w idleWord || (ltb w roots && isProcess (getD kinds w 0)))
+
+-- words that a lent residual has at most
+abbrev pub lentLimit : ℕ
+lentLimit = 65535

@@ -33,7 +33,7 @@ pickStep w at middle end (LeftTicks j i) = Jump middle i j
 pickStep w at middle end (RightTicks j i) = Drop (middle - (at + 1)) (at + 1 + (end - middle)) i j
 
 -- choice c of a mode of a term over process nodes is there, and each subterm has few derivations
-pub record Chosen (t : Table) (m : Mode) (T : Term) (c : ℕ) : Type 0 where
+pub record Choosable (t : Table) (m : Mode) (T : Term) (c : ℕ) : Type 0 where
   pub over : Over t T
   pub few : allFew t T ≡ true
   pub choice : c < countIn m (process t T)
@@ -48,7 +48,7 @@ pub record StepIn (t : Table) (m : Mode) (T : Term) (c w i more : ℕ) : Type 0 
   pub q : Term
   pub term : words T ≡ w ∷ (words p ++ words q)
   pub size : more ≡ length (words q)
-  pub chosenIn : Chosen t Actions p i
+  pub choosable : Choosable t Actions p i
   pub around : Around (going t m T c) (going t Actions p i) (w ∷ []) (words q)
 
 -- a tick of the left part joins the right part, which begins at a middle
@@ -58,8 +58,8 @@ pub record StepJump (t : Table) (m : Mode) (T : Term) (c at middle i j : ℕ) : 
   pub q : Term
   pub term : words T ≡ w ∷ (words p ++ words q)
   pub place : middle ≡ at + 1 + length (words p)
-  pub chosenIn : Chosen t m q i
-  pub tick : Chosen t Ticks p j
+  pub choosable : Choosable t m q i
+  pub tick : Choosable t Ticks p j
   pub joins : going t m T c ≡ join (going t Ticks p j) (going t m q i)
 
 -- an action of the right part, after the operator's word and the left part's words
@@ -68,7 +68,7 @@ pub record StepCopy (t : Table) (m : Mode) (T : Term) (c n i : ℕ) : Type 0 whe
   pub q : Term
   pub term : words T ≡ parWord ∷ (words p ++ words q)
   pub size : n ≡ 1 + length (words p)
-  pub chosenIn : Chosen t Actions q i
+  pub choosable : Choosable t Actions q i
   pub around : Around (going t m T c) (going t Actions q i) (parWord ∷ words p) []
 
 -- a tick of the right part joins the left part, whose words are moved up to the term's end
@@ -78,8 +78,8 @@ pub record StepDrop (t : Table) (m : Mode) (T : Term) (c at n to i j : ℕ) : Ty
   pub term : words T ≡ parWord ∷ (words p ++ words q)
   pub size : n ≡ length (words p)
   pub place : to ≡ at + 1 + length (words q)
-  pub chosenIn : Chosen t m p i
-  pub tick : Chosen t Ticks q j
+  pub choosable : Choosable t m p i
+  pub tick : Choosable t Ticks q j
   pub joins : going t m T c ≡ join (going t Ticks q j) (going t m p i)
 
 -- what a step says of choice c of the term T at a place
@@ -93,5 +93,5 @@ Stepped t m T c at (Drop n to i j) = StepDrop t m T c at n to i j
 
 -- the term stands at a place of ws, and its choice is there
 pub record Stands (t : Table) (m : Mode) (T : Term) (c at : ℕ) (ws : List ℕ) : Type 0 where
-  pub chosenIn : Chosen t m T c
+  pub choosable : Choosable t m T c
   pub begins : drop at ws ≡ words T ++ drop (at + length (words T)) ws

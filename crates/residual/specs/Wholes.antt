@@ -2,19 +2,19 @@
 use Prim.Native.Nat.{ℕ, _+_, _-_, _<_, _≤_}
 use mathlib.Core.Bool.{true}
 use mathlib.Core.Path.{_≡_}
-use mathlib.Core.List.{List, [], _++_}
-use lib.ListN.{length, getD, take, replicate}
+use mathlib.Core.List.{List, _++_}
+use lib.ListN.{length, take, replicate}
 use Rattle.table.specs.Tables.{Table}
-use Rattle.term.specs.declared.Label.the-variants.{Ticking}
-use Rattle.term.specs.Terms.{Term, Idle, words, termOf, areTerms}
-use Rattle.term.specs.Processes.{Derivation, derivation, derivations, process, allFew}
+use Rattle.term.specs.Terms.{Term, words, termOf, areTerms}
+use Rattle.term.specs.Processes.{derivations, process, allFew}
 use Rattle.residual.specs.declared.Choices.{Choices}
+use Rattle.residual.specs.Reading.{lentLimit}
 use Rattle.residual.specs.Spots.{furthest}
 
 -- the first so many words are one whole term over process nodes
 pub record Whole (t : Table) (size : ℕ) (ws : List ℕ) : Type 0 where
   pub fits : size ≤ length ws
-  pub room : length ws ≤ 65535
+  pub room : length ws ≤ lentLimit
   pub term : areTerms t 1 (take size ws) ≡ true
 
 abbrev pub residualTerm : ℕ → List ℕ → Term
@@ -24,10 +24,6 @@ residualTerm size ws = termOf (take size ws)
 pub record Taking (t : Table) (T : Term) (c : ℕ) : Type 0 where
   pub few : allFew t T ≡ true
   pub choice : c < length (derivations (process t T))
-
--- choice c is derivation c
-abbrev pub taken : Table → Term → ℕ → Derivation
-taken t T c = getD (derivations (process t T)) c (derivation Ticking [] Idle)
 
 -- what is found of a residual's choices
 pub record Offered (t : Table) (T : Term) (r : Choices) : Type 0 where

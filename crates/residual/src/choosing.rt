@@ -21,7 +21,8 @@ ghost use Rattle.term.specs.Terms.{words as wordsOf};
 ghost use Rattle.choice.specs.Turns.{Prepared};
 ghost use Rattle.choice.specs.Marking.{WalkMarks, Marked};
 ghost use Rattle.choice.specs.Outcomes.{Tells};
-ghost use Rattle.residual.specs.Wholes.{residualTerm, taken, Whole, Taking, Offered, limitOf, Rewritten};
+ghost use Rattle.term.specs.Processes.{derivationAt, process};
+ghost use Rattle.residual.specs.Wholes.{residualTerm, Whole, Taking, Offered, limitOf, Rewritten};
 
 // How many derivations the residual has, and whether each of its subterms has few (refusals 12 and 13).
 pub fn choices(
@@ -56,7 +57,7 @@ pub fn outcome(
     requires { ⌜ Prepared (table sizes (now kinds) (now operands)) (now scratch) ⌝ }
     requires { ⌜ Whole (table sizes (now kinds) (now operands)) size (now words) ⌝ }
     requires { ⌜ Taking (table sizes (now kinds) (now operands)) (residualTerm size (now words)) c ⌝ }
-    ensures { λ r. ⌜ Tells (taken (table sizes (now (kinds .entry)) (now (operands .entry))) (residualTerm size (now (words .entry))) c) (limitOf (table sizes (now (kinds .entry)) (now (operands .entry))) (residualTerm size (now (words .entry)))) r ⌝ }
+    ensures { λ r. ⌜ Tells (derivationAt (process (table sizes (now (kinds .entry)) (now (operands .entry))) (residualTerm size (now (words .entry)))) c) (limitOf (table sizes (now (kinds .entry)) (now (operands .entry))) (residualTerm size (now (words .entry)))) r ⌝ }
 {
     outcome_at(sizes, kinds, operands, scratch, words, 0, Mode::Any, c)
 }
@@ -74,8 +75,8 @@ pub fn rewrite(
     requires { ⌜ Prepared (table sizes (now kinds) (now operands)) (now scratch) ⌝ }
     requires { ⌜ Whole (table sizes (now kinds) (now operands)) size (now words) ⌝ }
     requires { ⌜ Taking (table sizes (now kinds) (now operands)) (residualTerm size (now words)) c ⌝ }
-    requires { ⌜ length (wordsOf (taken (table sizes (now kinds) (now operands)) (residualTerm size (now words)) c .leaving)) ≤ length (now words) ⌝ }
-    ensures { λ r. ⌜ Rewritten (wordsOf (taken (table sizes (now (kinds .entry)) (now (operands .entry))) (residualTerm size (now (words .entry))) c .leaving)) (now (words .entry)) r (now (words .exit)) ⌝ }
+    requires { ⌜ length (wordsOf (derivationAt (process (table sizes (now kinds) (now operands)) (residualTerm size (now words))) c .leaving)) ≤ length (now words) ⌝ }
+    ensures { λ r. ⌜ Rewritten (wordsOf (derivationAt (process (table sizes (now (kinds .entry)) (now (operands .entry))) (residualTerm size (now (words .entry)))) c .leaving)) (now (words .entry)) r (now (words .exit)) ⌝ }
 {
     let room = words.len();
     let at = room - size;
@@ -104,7 +105,7 @@ pub fn collect(
     requires { ⌜ Whole (table sizes (now kinds) (now operands)) size (now words) ⌝ }
     requires { ⌜ Taking (table sizes (now kinds) (now operands)) (residualTerm size (now words)) c ⌝ }
     requires { ⌜ WalkMarks (table sizes (now kinds) (now operands)) (now marks) ⌝ }
-    ensures { λ r. ⌜ Marked (table sizes (now (kinds .entry)) (now (operands .entry))) (taken (table sizes (now (kinds .entry)) (now (operands .entry))) (residualTerm size (now (words .entry))) c .guards) (now (marks .entry)) (now (marks .exit)) ⌝ }
+    ensures { λ r. ⌜ Marked (table sizes (now (kinds .entry)) (now (operands .entry))) (derivationAt (process (table sizes (now (kinds .entry)) (now (operands .entry))) (residualTerm size (now (words .entry)))) c .guards) (now (marks .entry)) (now (marks .exit)) ⌝ }
 {
     mark_at(
         sizes,

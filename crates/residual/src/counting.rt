@@ -12,6 +12,7 @@ ghost use mathlib.Core.Bool.{_&&_};
 ghost use Prim.Native.Nat.{_+_, _≤_};
 ghost use lib.Dec.{leb};
 ghost use lib.ListN.{length};
+ghost use Rattle.term.specs.Processes.{derivationLimit};
 ghost use Rattle.accept.specs.Counts.{Capped};
 ghost use Rattle.residual.specs.Measures.{leafCounts, operatorCounts, Pairs, Found};
 
@@ -44,9 +45,9 @@ fn combined(word: u32, left: Counts, right: Counts) -> Counts
 // At most 65,535 derivations.
 fn few(c: Counts) -> bool
     requires { ⌜ Capped c ⌝ }
-    ensures { λ r. ⌜ r ≡ leb (c .actions + c .ticks) 65535 ⌝ }
+    ensures { λ r. ⌜ r ≡ leb (c .actions + c .ticks) derivationLimit ⌝ }
 {
-    c.actions + c.ticks <= term::SEQ_WORD
+    c.actions + c.ticks <= term::DERIVATIONS
 }
 
 fn all_few(here: bool, left: bool, right: bool) -> bool

@@ -11,6 +11,7 @@ ghost use Rattle.table.specs.Tables.{table};
 ghost use Rattle.term.specs.Terms.{Term};
 ghost use Rattle.choice.specs.Turns.{Prepared};
 ghost use Rattle.choice.specs.Marking.{WalkMarks, Marked};
+ghost use Rattle.residual.specs.Reading.{lentLimit};
 ghost use Rattle.residual.specs.Steps.{going, Stands};
 
 // Where a tick of one part joins a derivation of the other, the guards of both.
@@ -26,7 +27,7 @@ pub fn mark_at(
     c: u64,
 )
     requires { ⌜ Prepared (table sizes (now kinds) (now operands)) (now scratch) ⌝ }
-    requires { ⌜ length (now words) ≤ 65535 ⌝ }
+    requires { ⌜ length (now words) ≤ lentLimit ⌝ }
     requires { ⌜ ((T : Term) × Stands (table sizes (now kinds) (now operands)) mode T c at (now words)) ⌝ }
     requires { ⌜ WalkMarks (table sizes (now kinds) (now operands)) (now marks) ⌝ }
     ensures { λ r. ⌜ ((T : Term) → Stands (table sizes (now (kinds .entry)) (now (operands .entry))) mode T c at (now (words .entry)) → Marked (table sizes (now (kinds .entry)) (now (operands .entry))) (going (table sizes (now (kinds .entry)) (now (operands .entry))) mode T c .guards) (now (marks .entry)) (now (marks .exit))) ⌝ }

@@ -14,6 +14,7 @@ ghost use Rattle.table.specs.Tables.{table};
 ghost use Rattle.term.specs.Terms.{Term, words as wordsOf};
 ghost use Rattle.choice.specs.Turns.{Prepared};
 ghost use Rattle.choice.specs.Outcomes.{Tells};
+ghost use Rattle.residual.specs.Reading.{lentLimit};
 ghost use Rattle.residual.specs.Steps.{going, Stands};
 ghost use Rattle.residual.specs.Spots.{furthest};
 
@@ -28,7 +29,7 @@ pub fn outcome_at(
     c: u64,
 ) -> Effect
     requires { ⌜ Prepared (table sizes (now kinds) (now operands)) (now scratch) ⌝ }
-    requires { ⌜ length (now words) ≤ 65535 ⌝ }
+    requires { ⌜ length (now words) ≤ lentLimit ⌝ }
     requires { ⌜ ((T : Term) × Stands (table sizes (now kinds) (now operands)) mode T c at (now words)) ⌝ }
     ensures { λ r. ⌜ ((T : Term) → Stands (table sizes (now (kinds .entry)) (now (operands .entry))) mode T c at (now (words .entry)) → Tells (going (table sizes (now (kinds .entry)) (now (operands .entry))) mode T c) (furthest (table sizes (now (kinds .entry)) (now (operands .entry))) + length (wordsOf T)) r) ⌝ }
 {

@@ -14,8 +14,9 @@ ghost use lib.ListN.{length, drop};
 ghost use Rattle.table.specs.Tables.{Table, firstRoot};
 ghost use Rattle.term.specs.Terms.{Term, words as wordsOf};
 ghost use Rattle.accept.specs.Scratch.{Counted};
+ghost use Rattle.residual.specs.Reading.{lentLimit};
 ghost use Rattle.residual.specs.Measures.{Pairs};
-ghost use Rattle.residual.specs.Steps.{besideOf, pickStep, Chosen, Stepped};
+ghost use Rattle.residual.specs.Steps.{besideOf, pickStep, Choosable, Stepped};
 
 // How many actions of the right part come before the joined derivations: none in a sequence.
 fn beside(word: u32, mode: Mode, right: Counts) -> u64
@@ -29,7 +30,7 @@ fn beside(word: u32, mode: Mode, right: Counts) -> u64
 
 // At an operator's term whose right part begins at a middle.
 fn part(word: u32, at: usize, middle: usize, end: usize, pick: Pick) -> Step
-    requires { ⌜ (at + 1 ≤ middle) × (middle ≤ end) × (end ≤ 65535) ⌝ }
+    requires { ⌜ (at + 1 ≤ middle) × (middle ≤ end) × (end ≤ lentLimit) ⌝ }
     ensures { λ r. ⌜ r ≡ pickStep word at middle end pick ⌝ }
 {
     match pick {
@@ -42,8 +43,8 @@ fn part(word: u32, at: usize, middle: usize, end: usize, pick: Pick) -> Step
 
 pub fn step_at(roots: usize, scratch: &[u32], words: &[u32], at: usize, mode: Mode, c: u64) -> Step
     requires { ⌜ Pairs roots (now scratch) ⌝ }
-    requires { ⌜ (at < length (now words)) × (length (now words) ≤ 65535) ⌝ }
-    ensures { λ r. ⌜ ((t : Table) → firstRoot t ≡ roots → Counted t (now (scratch .entry)) → (T : Term) (rest : List ℕ) → drop at (now (words .entry)) ≡ wordsOf T ++ rest → Chosen t mode T c → Stepped t mode T c at r) ⌝ }
+    requires { ⌜ (at < length (now words)) × (length (now words) ≤ lentLimit) ⌝ }
+    ensures { λ r. ⌜ ((t : Table) → firstRoot t ≡ roots → Counted t (now (scratch .entry)) → (T : Term) (rest : List ℕ) → drop at (now (words .entry)) ≡ wordsOf T ++ rest → Choosable t mode T c → Stepped t mode T c at r) ⌝ }
 {
     let word = words[at];
     if is_operator(word) {

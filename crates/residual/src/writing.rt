@@ -15,6 +15,7 @@ ghost use Rattle.table.specs.Tables.{table};
 ghost use Rattle.term.specs.Terms.{Term, words as wordsOf};
 ghost use Rattle.choice.specs.Turns.{Prepared};
 ghost use Rattle.choice.specs.Writing.{Written};
+ghost use Rattle.residual.specs.Reading.{lentLimit};
 ghost use Rattle.residual.specs.Steps.{going};
 ghost use Rattle.residual.specs.Spots.{Spot};
 
@@ -31,7 +32,7 @@ pub fn place(
     c: u64,
 ) -> Gap
     requires { ⌜ Prepared (table sizes (now kinds) (now operands)) (now scratch) ⌝ }
-    requires { ⌜ length (now words) ≤ 65535 ⌝ }
+    requires { ⌜ length (now words) ≤ lentLimit ⌝ }
     requires { ⌜ ((T : Term) × Spot (table sizes (now kinds) (now operands)) mode T c front at (now words)) ⌝ }
     ensures { λ r. ⌜ ((T : Term) → Spot (table sizes (now (kinds .entry)) (now (operands .entry))) mode T c front at (now (words .entry)) → Written (now (words .entry)) front (at + length (wordsOf T)) (wordsOf (going (table sizes (now (kinds .entry)) (now (operands .entry))) mode T c .leaving)) r (now (words .exit))) ⌝ }
 {

@@ -82,6 +82,10 @@ derivations (par P p Q q) =
     (joins (keep isTick (derivations P)) (derivations Q) ++
     joins (keep isTick (derivations Q)) (derivations P)))
 
+-- derivation c; where there is none, a tick that leaves idle
+abbrev pub derivationAt : Process → ℕ → Derivation
+derivationAt P c = getD (derivations P) c (derivation Ticking [] Idle)
+
 abbrev pub derivationLimit : ℕ
 derivationLimit = 65535
 

@@ -7,10 +7,10 @@ use denote.Ref.{now}
 use lib.ListN.{length}
 use Rattle.table.specs.Tables.{Table, table}
 use Rattle.term.specs.Terms.{Term, words}
-use Rattle.term.specs.Processes.{Derivation, process}
+use Rattle.term.specs.Processes.{Derivation, process, derivationAt}
 use Rattle.choice.specs.Writing.{Written}
 use Rattle.choice.proofs.Chosen.{chosen-any}
-use Rattle.residual.specs.Wholes.{residualTerm, taken}
+use Rattle.residual.specs.Wholes.{residualTerm}
 use Rattle.residual.proofs.Residuals.{term-size, spot-whole, gap-size, rewritten}
 use borrow.Author.Needs.{needs}
 use Rattle.residual.proofs.choosing.rewrite.Statement.{statement}
@@ -33,7 +33,7 @@ abbrev term : At → Term
 term c = residualTerm (start c .args .size) (ws c)
 
 abbrev goal : At → List ℕ
-goal c = words (taken (tb c) (term c) (start c .args .c) .leaving)
+goal c = words (derivationAt (process (tb c) (term c)) (start c .args .c) .leaving)
 
 abbrev moved : At → List ℕ
 moved c = c .before .before .before .before .move-up .last .0

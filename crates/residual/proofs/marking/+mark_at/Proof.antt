@@ -70,7 +70,7 @@ module _ (t : ℕ) where
   StepAt c T r = Stepped (tb c) (start c .args .mode) T (start c .args .c) (start c .args .at) r
 
   step : (c : At) (T : Term) → StandsAt c T → (r : Step) → c .step-at .result ≡ r → StepAt c T r
-  step c T st r e = subst (StepAt c T) e (c .step-at .ensures (tb c) (sym (c .before .first-root .ensures)) (ready c .counted) T _ (st .begins) (st .chosen))
+  step c T st r e = subst (StepAt c T) e (c .step-at .ensures (tb c) (sym (c .before .first-root .ensures)) (ready c .counted) T _ (st .begins) (st .choosable))
 
   low : (c : At) → (start c .args .at < length (ws c)) × (length (ws c) ≤ 65535)
   low c = (stands-here (tb c) (start c .args .mode) (some c .0) (start c .args .c) (start c .args .at) (ws c) (some c .1), start c .pre .1 .1 .0)
@@ -96,7 +96,7 @@ module _ (t : ℕ) where
       let z = c .before .before .before .before in
       let X = some z .0 in
       let e = step z X (some z .1) _ (c .before .before .step .given .1) in
-      (ready z, (reached-node (tb z) (ready z .checked .sound) (start z .args .mode) _ (start z .args .c) X e (some z .1 .chosen), kept z))
+      (ready z, (reached-node (tb z) (ready z .checked .sound) (start z .args .mode) _ (start z .args .c) X e (some z .1 .choosable), kept z))
 
   enum-known-step-2 : mark-at-lts.Need-enum-known-step-2 claims (mark-at-at t) mark-at.Post
   enum-known-step-2 c = c .match .keys3
@@ -109,7 +109,7 @@ module _ (t : ℕ) where
       let z = c .before .before .before .before in
       let X = some z .0 in
       let e = step z X (some z .1) _ (c .before .before .step2 .given .1) in
-      (omega (arith, low z, start z .pre .0), (ready z, (start z .pre .1 .1 .0, ((e .p, stands-left (tb z) (start z .args .mode) X (start z .args .c) (start z .args .at) (ws z) (some z .1) _ (e .p) (e .q) (e .term) _ _ (e .chosen)), kept z))))
+      (omega (arith, low z, start z .pre .0), (ready z, (start z .pre .1 .1 .0, ((e .p, stands-left (tb z) (start z .args .mode) X (start z .args .c) (start z .args .at) (ws z) (some z .1) _ (e .p) (e .q) (e .term) _ _ (e .choosable)), kept z))))
 
   enum-known-step-3 : mark-at-lts.Need-enum-known-step-3 claims (mark-at-at t) mark-at.Post
   enum-known-step-3 c = c .match .keys4
@@ -129,7 +129,7 @@ module _ (t : ℕ) where
       let z = c .before .before .before .before .before .before .before .before in
       let X = some z .0 in
       let e = step z X (some z .1) _ (c .before .before .before .before .before .before .step3 .given .1) in
-      (omega (arith, low z, start z .pre .0, e .place), (ready z, (start z .pre .1 .1 .0, ((e .q, stands-right (tb z) (start z .args .mode) X (start z .args .c) (start z .args .at) (ws z) (some z .1) _ (e .p) (e .q) (e .term) _ _ _ (e .place) (e .chosen)), c .before .before .before .mark-at2 .ensures (e .p) (stands-left (tb z) (start z .args .mode) X (start z .args .c) (start z .args .at) (ws z) (some z .1) _ (e .p) (e .q) (e .term) _ _ (e .tick)) .marks))))
+      (omega (arith, low z, start z .pre .0, e .place), (ready z, (start z .pre .1 .1 .0, ((e .q, stands-right (tb z) (start z .args .mode) X (start z .args .c) (start z .args .at) (ws z) (some z .1) _ (e .p) (e .q) (e .term) _ _ _ (e .place) (e .choosable)), c .before .before .before .mark-at2 .ensures (e .p) (stands-left (tb z) (start z .args .mode) X (start z .args .c) (start z .args .at) (ws z) (some z .1) _ (e .p) (e .q) (e .term) _ _ (e .tick)) .marks))))
 
   enum-known-step-4 : mark-at-lts.Need-enum-known-step-4 claims (mark-at-at t) mark-at.Post
   enum-known-step-4 c = c .match .keys5
@@ -146,7 +146,7 @@ module _ (t : ℕ) where
       let z = c .before .before .before .before in
       let X = some z .0 in
       let e = step z X (some z .1) _ (c .before .before .step4 .given .1) in
-      (omega (arith, low z, start z .pre .0, e .size), (ready z, (start z .pre .1 .1 .0, ((e .q, stands-right (tb z) (start z .args .mode) X (start z .args .c) (start z .args .at) (ws z) (some z .1) _ (e .p) (e .q) (e .term) _ _ _ (omega (arith, e .size)) (e .chosen)), kept z))))
+      (omega (arith, low z, start z .pre .0, e .size), (ready z, (start z .pre .1 .1 .0, ((e .q, stands-right (tb z) (start z .args .mode) X (start z .args .c) (start z .args .at) (ws z) (some z .1) _ (e .p) (e .q) (e .term) _ _ _ (omega (arith, e .size)) (e .choosable)), kept z))))
 
   enum-known-step-5 : mark-at-lts.Need-enum-known-step-5 claims (mark-at-at t) mark-at.Post
   enum-known-step-5 c = c .match .keys6
@@ -176,12 +176,12 @@ module _ (t : ℕ) where
       let z = c .before .before .before .before .before .before .before .before in
       let X = some z .0 in
       let e = step z X (some z .1) _ (c .before .before .before .before .before .before .step5 .given .1) in
-      (omega (arith, low z, start z .pre .0), (ready z, (start z .pre .1 .1 .0, ((e .p, stands-left (tb z) (start z .args .mode) X (start z .args .c) (start z .args .at) (ws z) (some z .1) _ (e .p) (e .q) (e .term) _ _ (e .chosen)), c .before .before .before .mark-at5 .ensures (e .q) (stands-right (tb z) (start z .args .mode) X (start z .args .c) (start z .args .at) (ws z) (some z .1) _ (e .p) (e .q) (e .term) _ _ _ (omega (arith, e .size)) (e .tick)) .marks))))
+      (omega (arith, low z, start z .pre .0), (ready z, (start z .pre .1 .1 .0, ((e .p, stands-left (tb z) (start z .args .mode) X (start z .args .c) (start z .args .at) (ws z) (some z .1) _ (e .p) (e .q) (e .term) _ _ (e .choosable)), c .before .before .before .mark-at5 .ensures (e .q) (stands-right (tb z) (start z .args .mode) X (start z .args .c) (start z .args .at) (ws z) (some z .1) _ (e .p) (e .q) (e .term) _ _ _ (omega (arith, e .size)) (e .tick)) .marks))))
 
   returns : mark-at-lts.Need-returns claims (mark-at-at t) mark-at.Post
   returns c = λ X st.
       let z = c .before .before in
-      marked-same (ap (λ (d : Derivation). d .guards) (going-tick (tb z) (start z .args .mode) X (start z .args .c) (step z X st _ (c .enum-told .given .1)) (st .chosen))) (marked-none (tb z) (ms z) (kept z))
+      marked-same (ap (λ (d : Derivation). d .guards) (going-tick (tb z) (start z .args .mode) X (start z .args .c) (step z X st _ (c .enum-told .given .1)) (st .choosable))) (marked-none (tb z) (ms z) (kept z))
 
   same-length : mark-at-lts.Need-same-length claims (mark-at-at t) mark-at.Post
   same-length c = c .before .before .mark-node .ensures .same
@@ -197,52 +197,52 @@ module _ (t : ℕ) where
       let z = c .before .before .before .before .before .before .before in
       let X = some z .0 in
       let e = step z X (some z .1) _ (c .before .before .before .before .before .step2 .given .1) in
-      c .before .before .mark-at .ensures (e .p) (stands-left (tb z) (start z .args .mode) X (start z .args .c) (start z .args .at) (ws z) (some z .1) _ (e .p) (e .q) (e .term) _ _ (e .chosen)) .same
+      c .before .before .mark-at .ensures (e .p) (stands-left (tb z) (start z .args .mode) X (start z .args .c) (start z .args .at) (ws z) (some z .1) _ (e .p) (e .q) (e .term) _ _ (e .choosable)) .same
 
   returns-3 : mark-at-lts.Need-returns-3 claims (mark-at-at t) mark-at.Post
   returns-3 c = λ X st.
       let z = c .before .before .before .before .before .before .before in
       let e = step z X st _ (c .before .before .before .before .before .step2 .given .1) in
-      marked-same (e .around .guards) (c .before .before .mark-at .ensures (e .p) (stands-left (tb z) (start z .args .mode) X (start z .args .c) (start z .args .at) (ws z) (st) _ (e .p) (e .q) (e .term) _ _ (e .chosen)))
+      marked-same (e .around .guards) (c .before .before .mark-at .ensures (e .p) (stands-left (tb z) (start z .args .mode) X (start z .args .c) (start z .args .at) (ws z) (st) _ (e .p) (e .q) (e .term) _ _ (e .choosable)))
 
   same-length-3 : mark-at-lts.Need-same-length-3 claims (mark-at-at t) mark-at.Post
   same-length-3 c =
       let z = c .before .before .before .before .before .before .before .before .before .before .before in
       let X = some z .0 in
       let e = step z X (some z .1) _ (c .before .before .before .before .before .before .before .before .before .step3 .given .1) in
-      c .before .before .mark-at3 .ensures (e .q) (stands-right (tb z) (start z .args .mode) X (start z .args .c) (start z .args .at) (ws z) (some z .1) _ (e .p) (e .q) (e .term) _ _ _ (e .place) (e .chosen)) .same ∙ c .before .before .before .before .before .before .mark-at2 .ensures (e .p) (stands-left (tb z) (start z .args .mode) X (start z .args .c) (start z .args .at) (ws z) (some z .1) _ (e .p) (e .q) (e .term) _ _ (e .tick)) .same
+      c .before .before .mark-at3 .ensures (e .q) (stands-right (tb z) (start z .args .mode) X (start z .args .c) (start z .args .at) (ws z) (some z .1) _ (e .p) (e .q) (e .term) _ _ _ (e .place) (e .choosable)) .same ∙ c .before .before .before .before .before .before .mark-at2 .ensures (e .p) (stands-left (tb z) (start z .args .mode) X (start z .args .c) (start z .args .at) (ws z) (some z .1) _ (e .p) (e .q) (e .term) _ _ (e .tick)) .same
 
   returns-4 : mark-at-lts.Need-returns-4 claims (mark-at-at t) mark-at.Post
   returns-4 c = λ X st.
       let z = c .before .before .before .before .before .before .before .before .before .before .before in
       let e = step z X st _ (c .before .before .before .before .before .before .before .before .before .step3 .given .1) in
-      marked-same (ap (λ (d : Derivation). d .guards) (e .joins)) (marked-join (tb z) (ms z) (kept z) _ _ _ _ (c .before .before .before .before .before .before .mark-at2 .ensures (e .p) (stands-left (tb z) (start z .args .mode) X (start z .args .c) (start z .args .at) (ws z) (st) _ (e .p) (e .q) (e .term) _ _ (e .tick))) (c .before .before .mark-at3 .ensures (e .q) (stands-right (tb z) (start z .args .mode) X (start z .args .c) (start z .args .at) (ws z) (st) _ (e .p) (e .q) (e .term) _ _ _ (e .place) (e .chosen))))
+      marked-same (ap (λ (d : Derivation). d .guards) (e .joins)) (marked-join (tb z) (ms z) (kept z) _ _ _ _ (c .before .before .before .before .before .before .mark-at2 .ensures (e .p) (stands-left (tb z) (start z .args .mode) X (start z .args .c) (start z .args .at) (ws z) (st) _ (e .p) (e .q) (e .term) _ _ (e .tick))) (c .before .before .mark-at3 .ensures (e .q) (stands-right (tb z) (start z .args .mode) X (start z .args .c) (start z .args .at) (ws z) (st) _ (e .p) (e .q) (e .term) _ _ _ (e .place) (e .choosable))))
 
   same-length-4 : mark-at-lts.Need-same-length-4 claims (mark-at-at t) mark-at.Post
   same-length-4 c =
       let z = c .before .before .before .before .before .before .before in
       let X = some z .0 in
       let e = step z X (some z .1) _ (c .before .before .before .before .before .step4 .given .1) in
-      c .before .before .mark-at4 .ensures (e .q) (stands-right (tb z) (start z .args .mode) X (start z .args .c) (start z .args .at) (ws z) (some z .1) _ (e .p) (e .q) (e .term) _ _ _ (omega (arith, e .size)) (e .chosen)) .same
+      c .before .before .mark-at4 .ensures (e .q) (stands-right (tb z) (start z .args .mode) X (start z .args .c) (start z .args .at) (ws z) (some z .1) _ (e .p) (e .q) (e .term) _ _ _ (omega (arith, e .size)) (e .choosable)) .same
 
   returns-5 : mark-at-lts.Need-returns-5 claims (mark-at-at t) mark-at.Post
   returns-5 c = λ X st.
       let z = c .before .before .before .before .before .before .before in
       let e = step z X st _ (c .before .before .before .before .before .step4 .given .1) in
-      marked-same (e .around .guards) (c .before .before .mark-at4 .ensures (e .q) (stands-right (tb z) (start z .args .mode) X (start z .args .c) (start z .args .at) (ws z) (st) _ (e .p) (e .q) (e .term) _ _ _ (omega (arith, e .size)) (e .chosen)))
+      marked-same (e .around .guards) (c .before .before .mark-at4 .ensures (e .q) (stands-right (tb z) (start z .args .mode) X (start z .args .c) (start z .args .at) (ws z) (st) _ (e .p) (e .q) (e .term) _ _ _ (omega (arith, e .size)) (e .choosable)))
 
   same-length-5 : mark-at-lts.Need-same-length-5 claims (mark-at-at t) mark-at.Post
   same-length-5 c =
       let z = c .before .before .before .before .before .before .before .before .before .before .before in
       let X = some z .0 in
       let e = step z X (some z .1) _ (c .before .before .before .before .before .before .before .before .before .step5 .given .1) in
-      c .before .before .mark-at6 .ensures (e .p) (stands-left (tb z) (start z .args .mode) X (start z .args .c) (start z .args .at) (ws z) (some z .1) _ (e .p) (e .q) (e .term) _ _ (e .chosen)) .same ∙ c .before .before .before .before .before .before .mark-at5 .ensures (e .q) (stands-right (tb z) (start z .args .mode) X (start z .args .c) (start z .args .at) (ws z) (some z .1) _ (e .p) (e .q) (e .term) _ _ _ (omega (arith, e .size)) (e .tick)) .same
+      c .before .before .mark-at6 .ensures (e .p) (stands-left (tb z) (start z .args .mode) X (start z .args .c) (start z .args .at) (ws z) (some z .1) _ (e .p) (e .q) (e .term) _ _ (e .choosable)) .same ∙ c .before .before .before .before .before .before .mark-at5 .ensures (e .q) (stands-right (tb z) (start z .args .mode) X (start z .args .c) (start z .args .at) (ws z) (some z .1) _ (e .p) (e .q) (e .term) _ _ _ (omega (arith, e .size)) (e .tick)) .same
 
   returns-6 : mark-at-lts.Need-returns-6 claims (mark-at-at t) mark-at.Post
   returns-6 c = λ X st.
       let z = c .before .before .before .before .before .before .before .before .before .before .before in
       let e = step z X st _ (c .before .before .before .before .before .before .before .before .before .step5 .given .1) in
-      marked-same (ap (λ (d : Derivation). d .guards) (e .joins)) (marked-join (tb z) (ms z) (kept z) _ _ _ _ (c .before .before .before .before .before .before .mark-at5 .ensures (e .q) (stands-right (tb z) (start z .args .mode) X (start z .args .c) (start z .args .at) (ws z) (st) _ (e .p) (e .q) (e .term) _ _ _ (omega (arith, e .size)) (e .tick))) (c .before .before .mark-at6 .ensures (e .p) (stands-left (tb z) (start z .args .mode) X (start z .args .c) (start z .args .at) (ws z) (st) _ (e .p) (e .q) (e .term) _ _ (e .chosen))))
+      marked-same (ap (λ (d : Derivation). d .guards) (e .joins)) (marked-join (tb z) (ms z) (kept z) _ _ _ _ (c .before .before .before .before .before .before .mark-at5 .ensures (e .q) (stands-right (tb z) (start z .args .mode) X (start z .args .c) (start z .args .at) (ws z) (st) _ (e .p) (e .q) (e .term) _ _ _ (omega (arith, e .size)) (e .tick))) (c .before .before .mark-at6 .ensures (e .p) (stands-left (tb z) (start z .args .mode) X (start z .args .c) (start z .args .at) (ws z) (st) _ (e .p) (e .q) (e .term) _ _ (e .choosable))))
 
 pub +mark-at-spec : {M : Type 1} → statement M
 +mark-at-spec = close μ-mark-at λ t. mark-at-lts.spec (claims t) (mark-at-at t) mark-at.Post

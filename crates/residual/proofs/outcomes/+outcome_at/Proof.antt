@@ -66,7 +66,7 @@ module _ (t : ℕ) where
   StepAt c T r = Stepped (tb c) (start c .args .mode) T (start c .args .c) (start c .args .at) r
 
   step : (c : At) (T : Term) → StandsAt c T → (r : Step) → c .step-at .result ≡ r → StepAt c T r
-  step c T st r e = subst (StepAt c T) e (c .step-at .ensures (tb c) (sym (c .before .first-root .ensures)) (ready c .counted) T _ (st .begins) (st .chosen))
+  step c T st r e = subst (StepAt c T) e (c .step-at .ensures (tb c) (sym (c .before .first-root .ensures)) (ready c .counted) T _ (st .begins) (st .choosable))
 
   low : (c : At) → (start c .args .at < length (ws c)) × (length (ws c) ≤ 65535)
   low c = (stands-here (tb c) (start c .args .mode) (some c .0) (start c .args .c) (start c .args .at) (ws c) (some c .1), start c .pre .1 .1 .0)
@@ -94,7 +94,7 @@ module _ (t : ℕ) where
   node-outcome-requires c κs =
       let z = c .before .before .before in
       let X = some z .0 in
-      (ready z, reached-node (tb z) (ready z .checked .sound) (start z .args .mode) _ (start z .args .c) X (step z X (some z .1) _ (c .before .step .given .1)) (some z .1 .chosen))
+      (ready z, reached-node (tb z) (ready z .checked .sound) (start z .args .mode) _ (start z .args .c) X (step z X (some z .1) _ (c .before .step .given .1)) (some z .1 .choosable))
 
   enum-known-step-2 : outcome-at-lts.Need-enum-known-step-2 claims (outcome-at-at t) outcome-at.Post
   enum-known-step-2 c = c .match .keys3
@@ -107,7 +107,7 @@ module _ (t : ℕ) where
       let z = c .before .before .before in
       let X = some z .0 in
       let e = step z X (some z .1) _ (c .before .step2 .given .1) in
-      (omega (arith, low z, start z .pre .0), (ready z, (start z .pre .1 .1 .0, (e .p, stands-left (tb z) (start z .args .mode) X (start z .args .c) (start z .args .at) (ws z) (some z .1) _ (e .p) (e .q) (e .term) _ _ (e .chosen)))))
+      (omega (arith, low z, start z .pre .0), (ready z, (start z .pre .1 .1 .0, (e .p, stands-left (tb z) (start z .args .mode) X (start z .args .c) (start z .args .at) (ws z) (some z .1) _ (e .p) (e .q) (e .term) _ _ (e .choosable)))))
 
   add-grown : outcome-at-lts.Need-add-grown claims (outcome-at-at t) outcome-at.Post
   add-grown c =
@@ -121,7 +121,7 @@ module _ (t : ℕ) where
       let z = c .before .before .before .before in
       let X = some z .0 in
       let e = step z X (some z .1) _ (c .before .before .step2 .given .1) in
-      let o = c .outcome-at .ensures (e .p) (stands-left (tb z) (start z .args .mode) X (start z .args .c) (start z .args .at) (ws z) (some z .1) _ (e .p) (e .q) (e .term) _ _ (e .chosen)) in
+      let o = c .outcome-at .ensures (e .p) (stands-left (tb z) (start z .args .mode) X (start z .args .c) (start z .args .at) (ws z) (some z .1) _ (e .p) (e .q) (e .term) _ _ (e .choosable)) in
       omega (arith, o .bound, most-words z, e .size, stands-size (tb z) (start z .args .mode) X (start z .args .c) (start z .args .at) (ws z) (some z .1) _ (e .p) (e .q) (e .term), stands-within (tb z) (start z .args .mode) X (start z .args .c) (start z .args .at) (ws z) (some z .1), low z)
 
   enum-known-step-3 : outcome-at-lts.Need-enum-known-step-3 claims (outcome-at-at t) outcome-at.Post
@@ -132,7 +132,7 @@ module _ (t : ℕ) where
       let z = c .before .before .before in
       let X = some z .0 in
       let e = step z X (some z .1) _ (c .before .step3 .given .1) in
-      (omega (arith, low z, start z .pre .0, e .place), (ready z, (start z .pre .1 .1 .0, (e .q, stands-right (tb z) (start z .args .mode) X (start z .args .c) (start z .args .at) (ws z) (some z .1) _ (e .p) (e .q) (e .term) _ _ _ (e .place) (e .chosen)))))
+      (omega (arith, low z, start z .pre .0, e .place), (ready z, (start z .pre .1 .1 .0, (e .q, stands-right (tb z) (start z .args .mode) X (start z .args .c) (start z .args .at) (ws z) (some z .1) _ (e .p) (e .q) (e .term) _ _ _ (e .place) (e .choosable)))))
 
   enum-known-step-4 : outcome-at-lts.Need-enum-known-step-4 claims (outcome-at-at t) outcome-at.Post
   enum-known-step-4 c = c .match .keys5
@@ -149,14 +149,14 @@ module _ (t : ℕ) where
       let z = c .before .before .before in
       let X = some z .0 in
       let e = step z X (some z .1) _ (c .before .step4 .given .1) in
-      (omega (arith, low z, start z .pre .0, e .size), (ready z, (start z .pre .1 .1 .0, (e .q, stands-right (tb z) (start z .args .mode) X (start z .args .c) (start z .args .at) (ws z) (some z .1) _ (e .p) (e .q) (e .term) _ _ _ (omega (arith, e .size)) (e .chosen)))))
+      (omega (arith, low z, start z .pre .0, e .size), (ready z, (start z .pre .1 .1 .0, (e .q, stands-right (tb z) (start z .args .mode) X (start z .args .c) (start z .args .at) (ws z) (some z .1) _ (e .p) (e .q) (e .term) _ _ _ (omega (arith, e .size)) (e .choosable)))))
 
   grown-requires-2 : outcome-at-lts.Need-grown-requires-2 claims (outcome-at-at t) outcome-at.Post
   grown-requires-2 c κs =
       let z = c .before .before .before .before in
       let X = some z .0 in
       let e = step z X (some z .1) _ (c .before .before .step4 .given .1) in
-      let o = c .outcome-at3 .ensures (e .q) (stands-right (tb z) (start z .args .mode) X (start z .args .c) (start z .args .at) (ws z) (some z .1) _ (e .p) (e .q) (e .term) _ _ _ (omega (arith, e .size)) (e .chosen)) in
+      let o = c .outcome-at3 .ensures (e .q) (stands-right (tb z) (start z .args .mode) X (start z .args .c) (start z .args .at) (ws z) (some z .1) _ (e .p) (e .q) (e .term) _ _ _ (omega (arith, e .size)) (e .choosable)) in
       omega (arith, o .bound, most-words z, e .size, stands-size (tb z) (start z .args .mode) X (start z .args .c) (start z .args .at) (ws z) (some z .1) _ (e .p) (e .q) (e .term), stands-within (tb z) (start z .args .mode) X (start z .args .c) (start z .args .at) (ws z) (some z .1), low z)
 
   enum-known-step-5 : outcome-at-lts.Need-enum-known-step-5 claims (outcome-at-at t) outcome-at.Post
@@ -170,7 +170,7 @@ module _ (t : ℕ) where
       let z = c .before .before .before in
       let X = some z .0 in
       let e = step z X (some z .1) _ (c .before .step5 .given .1) in
-      (omega (arith, low z, start z .pre .0), (ready z, (start z .pre .1 .1 .0, (e .p, stands-left (tb z) (start z .args .mode) X (start z .args .c) (start z .args .at) (ws z) (some z .1) _ (e .p) (e .q) (e .term) _ _ (e .chosen)))))
+      (omega (arith, low z, start z .pre .0), (ready z, (start z .pre .1 .1 .0, (e .p, stands-left (tb z) (start z .args .mode) X (start z .args .c) (start z .args .at) (ws z) (some z .1) _ (e .p) (e .q) (e .term) _ _ (e .choosable)))))
 
   returns : outcome-at-lts.Need-returns claims (outcome-at-at t) outcome-at.Post
   returns c = λ X st.
@@ -187,25 +187,25 @@ module _ (t : ℕ) where
   returns-3 c = λ X st.
       let z = c .before .before .before .before .before in
       let e = step z X st _ (c .before .before .before .step2 .given .1) in
-      told-in (tb z) (start z .args .mode) X (start z .args .c) (start z .args .at) (ws z) st _ _ _ e _ (c .before .outcome-at .ensures (e .p) (stands-left (tb z) (start z .args .mode) X (start z .args .c) (start z .args .at) (ws z) st _ (e .p) (e .q) (e .term) _ _ (e .chosen))) _ (c .grown .ensures)
+      told-in (tb z) (start z .args .mode) X (start z .args .c) (start z .args .at) (ws z) st _ _ _ e _ (c .before .outcome-at .ensures (e .p) (stands-left (tb z) (start z .args .mode) X (start z .args .c) (start z .args .at) (ws z) st _ (e .p) (e .q) (e .term) _ _ (e .choosable))) _ (c .grown .ensures)
 
   returns-4 : outcome-at-lts.Need-returns-4 claims (outcome-at-at t) outcome-at.Post
   returns-4 c = λ X st.
       let z = c .before .before .before .before in
       let e = step z X st _ (c .before .before .step3 .given .1) in
-      told-jump (tb z) (start z .args .mode) X (start z .args .c) (start z .args .at) (ws z) st _ _ _ e _ (c .outcome-at2 .ensures (e .q) (stands-right (tb z) (start z .args .mode) X (start z .args .c) (start z .args .at) (ws z) st _ (e .p) (e .q) (e .term) _ _ _ (e .place) (e .chosen)))
+      told-jump (tb z) (start z .args .mode) X (start z .args .c) (start z .args .at) (ws z) st _ _ _ e _ (c .outcome-at2 .ensures (e .q) (stands-right (tb z) (start z .args .mode) X (start z .args .c) (start z .args .at) (ws z) st _ (e .p) (e .q) (e .term) _ _ _ (e .place) (e .choosable)))
 
   returns-5 : outcome-at-lts.Need-returns-5 claims (outcome-at-at t) outcome-at.Post
   returns-5 c = λ X st.
       let z = c .before .before .before .before .before in
       let e = step z X st _ (c .before .before .before .step4 .given .1) in
-      told-copy (tb z) (start z .args .mode) X (start z .args .c) (start z .args .at) (ws z) st _ _ e _ (c .before .outcome-at3 .ensures (e .q) (stands-right (tb z) (start z .args .mode) X (start z .args .c) (start z .args .at) (ws z) st _ (e .p) (e .q) (e .term) _ _ _ (omega (arith, e .size)) (e .chosen))) _ (c .grown2 .ensures)
+      told-copy (tb z) (start z .args .mode) X (start z .args .c) (start z .args .at) (ws z) st _ _ e _ (c .before .outcome-at3 .ensures (e .q) (stands-right (tb z) (start z .args .mode) X (start z .args .c) (start z .args .at) (ws z) st _ (e .p) (e .q) (e .term) _ _ _ (omega (arith, e .size)) (e .choosable))) _ (c .grown2 .ensures)
 
   returns-6 : outcome-at-lts.Need-returns-6 claims (outcome-at-at t) outcome-at.Post
   returns-6 c = λ X st.
       let z = c .before .before .before .before in
       let e = step z X st _ (c .before .before .step5 .given .1) in
-      told-drop (tb z) (start z .args .mode) X (start z .args .c) (start z .args .at) (ws z) st _ _ _ _ e _ (c .outcome-at4 .ensures (e .p) (stands-left (tb z) (start z .args .mode) X (start z .args .c) (start z .args .at) (ws z) st _ (e .p) (e .q) (e .term) _ _ (e .chosen)))
+      told-drop (tb z) (start z .args .mode) X (start z .args .c) (start z .args .at) (ws z) st _ _ _ _ e _ (c .outcome-at4 .ensures (e .p) (stands-left (tb z) (start z .args .mode) X (start z .args .c) (start z .args .at) (ws z) st _ (e .p) (e .q) (e .term) _ _ (e .choosable)))
 
 pub +outcome-at-spec : {M : Type 1} → statement M
 +outcome-at-spec = close μ-outcome-at λ t. outcome-at-lts.spec (claims t) (outcome-at-at t) outcome-at.Post

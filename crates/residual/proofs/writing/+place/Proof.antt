@@ -66,7 +66,7 @@ module _ (t : ℕ) where
   StepAt c T r = Stepped (tb c) (start c .args .mode) T (start c .args .c) (start c .args .at) r
 
   step : (c : At) (T : Term) → SpotAt c T → (r : Step) → c .step-at .result ≡ r → StepAt c T r
-  step c T sp r e = subst (StepAt c T) e (c .step-at .ensures (tb c) (sym (c .before .before .first-root .ensures)) (ready c .counted) T _ (sp .stands .begins) (sp .stands .chosen))
+  step c T sp r e = subst (StepAt c T) e (c .step-at .ensures (tb c) (sym (c .before .before .first-root .ensures)) (ready c .counted) T _ (sp .stands .begins) (sp .stands .choosable))
 
   low : (c : At) → (start c .args .front ≤ start c .args .at) × (start c .args .at < length (ws c)) × (length (ws c) ≤ 65535)
   low c =
