@@ -5,7 +5,8 @@ use mathlib.Core.Path.{_≡_}
 use mathlib.Core.List.{List}
 use lib.Dec.{leb}
 use lib.ListN.{length}
-use Rattle.table.specs.Tables.{Table}
+use Rattle.basis.specs.Kinds as kind
+use Rattle.table.specs.Tables.{Table, agentLimit}
 use Rattle.table.specs.Sound.{Shaped}
 use Rattle.term.specs.Acceptance.{stateWords}
 
@@ -13,12 +14,12 @@ use Rattle.term.specs.Acceptance.{stateWords}
 pub record Situated (t : Table) (s : List ℕ) (sender receiver : ℕ) : Type 0 where
   pub shaped : Shaped t
   pub words : length s ≡ stateWords
-  pub sends : sender < 32
-  pub receives : receiver < 32
+  pub sends : sender < agentLimit
+  pub receives : receiver < agentLimit
 
 -- expressions made of expressions, and guards made of guards
 abbrev pub isOperation : ℕ → Bool
-isOperation kind = leb 36 kind && leb kind 40
+isOperation k = leb kind.plus k && leb k kind.remainder
 
 abbrev pub isConnective : ℕ → Bool
-isConnective kind = leb 20 kind && leb kind 22
+isConnective k = leb kind.not k && leb k kind.or

@@ -17,7 +17,7 @@ const UNDEFINED: Truth = Truth {
 fn is_connective(kind: u8) -> bool
     ensures { λ r. ⌜ r ≡ isConnective kind ⌝ }
 {
-    (20 <= kind) & (kind <= 22)
+    (basis::kinds::NOT <= kind) & (kind <= basis::kinds::OR)
 }
 
 // What a node comes to that is no connective: true, or a comparison.
@@ -34,13 +34,13 @@ fn atom(
     ensures { λ r. ⌜ r ≡ truthStep (table sizes (now (kinds .entry)) (now (operands .entry))) (now (state .entry)) sender receiver (λ (n : ℕ). undefined) node ⌝ }
 {
     let kind = kinds[node];
-    if kind == 16 {
+    if kind == basis::kinds::TRUE {
         return Truth {
             defined: true,
             holds: true,
         };
     }
-    if 20 <= kind {
+    if basis::kinds::NOT <= kind {
         return UNDEFINED;
     }
     let p = table::p_at(operands, node);
@@ -73,7 +73,7 @@ fn truth_below(
     }
     let p = table::p_at(operands, node);
     let a = truth_below(sizes, kinds, operands, state, sender, receiver, node, p);
-    if kind == 20 {
+    if kind == basis::kinds::NOT {
         return value::connect(kind, a, a);
     }
     let q = table::q_at(operands, node);

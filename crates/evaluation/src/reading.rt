@@ -17,7 +17,7 @@ fn own_key(sizes: Sizes, kinds: &[u8], operands: &[u8], node: usize, keys: u32) 
     requires { ⌜ Shaped (table sizes (now kinds) (now operands)) × (node < sizes .nodes) ⌝ }
     ensures { λ r. ⌜ Adds (isKey (table sizes (now (kinds .entry)) (now (operands .entry))) node) keys r ⌝ }
 {
-    if kinds[node] != 34 {
+    if kinds[node] != basis::kinds::STIGMERGY {
         return keys;
     }
     let p = table::p_at(operands, node);

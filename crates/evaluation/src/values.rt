@@ -2,7 +2,7 @@
 ghost use mathlib.Core.Path.{_≡_};
 ghost use Prim.Native.Nat.{ℕ, _<_, _≤_};
 ghost use Rattle.value.specs.declared.Value.the-variants.{Absent};
-ghost use Rattle.table.specs.Tables.{table};
+ghost use Rattle.table.specs.Tables.{table, agentLimit};
 ghost use Rattle.state.specs.Evaluation.{valueStep, valueBelow, valueOf};
 ghost use Rattle.evaluation.specs.Situated.{Situated, isOperation};
 ghost use Rattle.evaluation.specs.Parties.{Party};
@@ -12,7 +12,7 @@ use value::Value;
 
 // The agent whom a party names.
 fn agent_of(party: usize, sender: usize, receiver: usize) -> usize
-    requires { ⌜ (sender < 32) × (receiver < 32) ⌝ }
+    requires { ⌜ (sender < agentLimit) × (receiver < agentLimit) ⌝ }
     ensures { λ r. ⌜ Party sender receiver party r ⌝ }
 {
     if party == 2 { receiver } else { sender }
@@ -21,7 +21,7 @@ fn agent_of(party: usize, sender: usize, receiver: usize) -> usize
 fn is_operation(kind: u8) -> bool
     ensures { λ r. ⌜ r ≡ isOperation kind ⌝ }
 {
-    (36 <= kind) & (kind <= 40)
+    (basis::kinds::PLUS <= kind) & (kind <= basis::kinds::REMAINDER)
 }
 
 // The value of a node that is no operation: a constant or a key.
@@ -42,10 +42,10 @@ fn leaf_value(
     let q = table::q_at(operands, node);
     let agent = agent_of(q, sender, receiver);
     match kind {
-        32 => Value::Present(table::constant_at(operands, node)),
-        33 => state::value_in(state, Store::Attributes(agent), p),
-        34 => state::value_in(state, Store::Entries(agent), p),
-        35 => state::value_in(state, Store::Environment, p),
+        basis::kinds::CONSTANT => Value::Present(table::constant_at(operands, node)),
+        basis::kinds::ATTRIBUTE => state::value_in(state, Store::Attributes(agent), p),
+        basis::kinds::STIGMERGY => state::value_in(state, Store::Entries(agent), p),
+        basis::kinds::ENVIRONMENT => state::value_in(state, Store::Environment, p),
         _ => Value::Absent,
     }
 }

@@ -40,7 +40,7 @@ pub record SameParty (s u : List ℕ) (a : ℕ) : Type 0 where
   pub entries : SameValues s u (Entries a)
 
 module _ (t : Table) (s u : List ℕ) (x y : ℕ) (environment : SameValues s u Environment) (sender : SameParty s u x) (receiver : SameParty s u y) where
-  party : (q : ℕ) → SameParty s u (partyOf t s x y q)
+  party : (q : ℕ) → SameParty s u (partyOf x y q)
   party q = cond-cases (SameParty s u) (eqb q 2) (λ e. receiver) (λ e. sender)
 
   step-same : (value : ℕ → Value) (n : ℕ) → valueStep t s x y value n ≡ valueStep t u x y value n
@@ -104,8 +104,8 @@ module _ (t : Table) (bytes : (i : ℕ) → getD (t .operands) i 0 < 256) (s : L
   unfolding valueStep
   step-small lower n =
       cond-cases SmallValue (eqb (kindAt t n) 32) (λ e. constant-small n)
-      (λ e. cond-cases SmallValue (eqb (kindAt t n) 33) (λ f. valueIn-small s small (Attributes (partyOf t s x y (qAt t n))) (pAt t n))
-      (λ f. cond-cases SmallValue (eqb (kindAt t n) 34) (λ g. valueIn-small s small (Entries (partyOf t s x y (qAt t n))) (pAt t n))
+      (λ e. cond-cases SmallValue (eqb (kindAt t n) 33) (λ f. valueIn-small s small (Attributes (partyOf x y (qAt t n))) (pAt t n))
+      (λ f. cond-cases SmallValue (eqb (kindAt t n) 34) (λ g. valueIn-small s small (Entries (partyOf x y (qAt t n))) (pAt t n))
       (λ g. cond-cases SmallValue (eqb (kindAt t n) 35) (λ h. valueIn-small s small Environment (pAt t n))
       (λ h. operate-small (kindAt t n) (lower (pAt t n)) (lower (qAt t n))))))
 

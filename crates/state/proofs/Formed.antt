@@ -82,7 +82,7 @@ pub record ProperFacts (t : Table) (s : List ℕ) : Type 0 where
 
 -- PAIRS
 module _ (t : Table) (s : List ℕ) (store : Store) (highest keys k : ℕ) where
-  pair-read : pairFormed t s store highest keys k ≡ true → PairFormed s store highest keys k
+  pair-read : pairFormed s store highest keys k ≡ true → PairFormed s store highest keys k
   unfolding pairFormed
   pair-read e =
       let b = leb (markOf s store k) highest in
@@ -94,7 +94,7 @@ module _ (t : Table) (s : List ℕ) (store : Store) (highest keys k : ℕ) where
       by true f g = (λ h. eqb-true (wordOf s store k) 0 g, λ l. eqb-true (markOf s store k) 0 f)
       by false f g = (λ h. absurd (eqb-false (markOf s store k) 0 f h), λ l. let m = ltb-true k keys g in absurd (omega arith))
 
-  pair-test : PairFormed s store highest keys k → pairFormed t s store highest keys k ≡ true
+  pair-test : PairFormed s store highest keys k → pairFormed s store highest keys k ≡ true
   unfolding pairFormed
   pair-test p = and-both (leb (markOf s store k) highest) _ (le-leb (markOf s store k) highest (p .bound)) (by (eqb (markOf s store k) 0) refl)
     where
@@ -104,7 +104,7 @@ module _ (t : Table) (s : List ℕ) (store : Store) (highest keys k : ℕ) where
 
 -- SETS
 module _ (t : Table) (s : List ℕ) (a : ℕ) where
-  sets-read : zcOf s a < 2 ^ keyLimit → zpOf s a < 2 ^ keyLimit → ((k : ℕ) → k < keyLimit → pendingFormed t s a k ≡ true) → (z : KeySet) → SetFormed s a (wordAt s (Waits z a))
+  sets-read : zcOf s a < 2 ^ keyLimit → zpOf s a < 2 ^ keyLimit → ((k : ℕ) → k < keyLimit → pendingFormed s a k ≡ true) → (z : KeySet) → SetFormed s a (wordAt s (Waits z a))
   unfolding pendingFormed
   sets-read c p h z = record { narrow = narrow z; entered = λ k l e. held k z e (h k l) }
     where
@@ -119,7 +119,7 @@ module _ (t : Table) (s : List ℕ) (a : ℕ) where
       held : (k : ℕ) (z : KeySet) → has (wordAt s (Waits z a)) k ≡ true → (not (has (zcOf s a) k || has (zpOf s a) k) || ltb 0 (stampOf s a k)) ≡ true → 0 < stampOf s a k
       held k z e f = ltb-true 0 (stampOf s a k) (rw (pending k z e) at f)
 
-  sets-test : ((z : KeySet) → SetFormed s a (wordAt s (Waits z a))) → (k : ℕ) → k < keyLimit → pendingFormed t s a k ≡ true
+  sets-test : ((z : KeySet) → SetFormed s a (wordAt s (Waits z a))) → (k : ℕ) → k < keyLimit → pendingFormed s a k ≡ true
   unfolding pendingFormed
   sets-test h k l = by (has (zcOf s a) k) refl (has (zpOf s a) k) refl
     where
@@ -174,27 +174,27 @@ module _ (t : Table) (limits : Limits (t .sizes)) (s : List ℕ) (whole : length
 
   -- the tests of an agent
   record Tested (a : ℕ) : Type 0 where
-    attributes : every (pairFormed t s (Attributes a) 1 (t .sizes .attributes)) keyLimit ≡ true
-    entries : every (pairFormed t s (Entries a) (clockOf s) (t .sizes .stigmergy)) keyLimit ≡ true
+    attributes : every (pairFormed s (Attributes a) 1 (t .sizes .attributes)) keyLimit ≡ true
+    entries : every (pairFormed s (Entries a) (clockOf s) (t .sizes .stigmergy)) keyLimit ≡ true
     toConfirm : zcOf s a < 2 ^ keyLimit
     toPropagate : zpOf s a < 2 ^ keyLimit
-    pending : every (pendingFormed t s a) keyLimit ≡ true
+    pending : every (pendingFormed s a) keyLimit ≡ true
     residual : residualFormed t s a ≡ true
 
   tested : (a : ℕ) → agentFormed t s a ≡ true → Tested a
   unfolding agentFormed
   tested a e =
-      let f = and-right (every (pairFormed t s (Attributes a) 1 (t .sizes .attributes)) keyLimit) _ e in
-      let g = and-right (every (pairFormed t s (Entries a) (clockOf s) (t .sizes .stigmergy)) keyLimit) _ f in
+      let f = and-right (every (pairFormed s (Attributes a) 1 (t .sizes .attributes)) keyLimit) _ e in
+      let g = and-right (every (pairFormed s (Entries a) (clockOf s) (t .sizes .stigmergy)) keyLimit) _ f in
       let h = and-left (ltb (zcOf s a) (2 ^ keyLimit) && ltb (zpOf s a) (2 ^ keyLimit)) _ g in
       let i = and-right (ltb (zcOf s a) (2 ^ keyLimit) && ltb (zpOf s a) (2 ^ keyLimit)) _ g in
       record {
-        attributes = and-left (every (pairFormed t s (Attributes a) 1 (t .sizes .attributes)) keyLimit) _ e;
-        entries = and-left (every (pairFormed t s (Entries a) (clockOf s) (t .sizes .stigmergy)) keyLimit) _ f;
+        attributes = and-left (every (pairFormed s (Attributes a) 1 (t .sizes .attributes)) keyLimit) _ e;
+        entries = and-left (every (pairFormed s (Entries a) (clockOf s) (t .sizes .stigmergy)) keyLimit) _ f;
         toConfirm = ltb-true (zcOf s a) (2 ^ keyLimit) (and-left (ltb (zcOf s a) (2 ^ keyLimit)) _ h);
         toPropagate = ltb-true (zpOf s a) (2 ^ keyLimit) (and-right (ltb (zcOf s a) (2 ^ keyLimit)) _ h);
-        pending = and-left (every (pendingFormed t s a) keyLimit) _ i;
-        residual = and-right (every (pendingFormed t s a) keyLimit) _ i;
+        pending = and-left (every (pendingFormed s a) keyLimit) _ i;
+        residual = and-right (every (pendingFormed s a) keyLimit) _ i;
       }
 
   pub well-formed-read : wellFormed t s ≡ true → WellFormed t s
@@ -203,30 +203,30 @@ module _ (t : Table) (limits : Limits (t .sizes)) (s : List ℕ) (whole : length
       let n = t .sizes .agents in
       let f = and-right (eqb (getD s agentsAt 0) n) _ e in
       let g = and-right (leb (clockOf s) 65535) _ f in
-      let h = and-right (every (pairFormed t s Environment 1 (t .sizes .environment)) keyLimit) _ g in
+      let h = and-right (every (pairFormed s Environment 1 (t .sizes .environment)) keyLimit) _ g in
       let each : (a : ℕ) → a < n → Tested a = λ a l. tested a (every-at (agentFormed t s) n (and-left (every (agentFormed t s) n) _ h) a l) in
       let zeros = zero-at (drop (blockAt n) s) (and-right (every (agentFormed t s) n) _ h) in
       record {
         clock = leb-true (clockOf s) 65535 (and-left (leb (clockOf s) 65535) _ f);
         formed = record {
           agents = eqb-true (getD s agentsAt 0) n (and-left (eqb (getD s agentsAt 0) n) _ e);
-          pairs = pairs (and-left (every (pairFormed t s Environment 1 (t .sizes .environment)) keyLimit) _ g) each;
-          sets = λ z a l. let b = each a l in sets-read t s a (b .toConfirm) (b .toPropagate) (every-at (pendingFormed t s a) keyLimit (b .pending)) z;
+          pairs = pairs (and-left (every (pairFormed s Environment 1 (t .sizes .environment)) keyLimit) _ g) each;
+          sets = λ z a l. let b = each a l in sets-read t s a (b .toConfirm) (b .toPropagate) (every-at (pendingFormed s a) keyLimit (b .pending)) z;
           residuals = λ a l. residual-read t few s whole a (omega arith) (each a l .residual);
           unused = λ i l. let j : i ≡ blockAt n + (i - blockAt n) = omega arith in
               ap (λ (m : ℕ). getD s m 0) j ∙ sym (getD-drop (blockAt n) s (i - blockAt n) 0) ∙ zeros (i - blockAt n);
         };
       }
     where
-      pairs : every (pairFormed t s Environment 1 (t .sizes .environment)) keyLimit ≡ true → ((a : ℕ) → a < t .sizes .agents → Tested a)
+      pairs : every (pairFormed s Environment 1 (t .sizes .environment)) keyLimit ≡ true → ((a : ℕ) → a < t .sizes .agents → Tested a)
           → (store : Store) → There t store → (k : ℕ) → k < keyLimit → PairFormed s store (highestIn (clockOf s) store) (keysIn t store) k
       pairs g each Environment h k l = pair-read t s Environment 1 (t .sizes .environment) k (every-at _ keyLimit g k l)
       pairs g each (Attributes a) h k l = pair-read t s (Attributes a) 1 (t .sizes .attributes) k (every-at _ keyLimit (each a h .attributes) k l)
       pairs g each (Entries a) h k l = pair-read t s (Entries a) (clockOf s) (t .sizes .stigmergy) k (every-at _ keyLimit (each a h .entries) k l)
 
   module _ (w : WellFormed t s) where
-    pairs-test : (store : Store) → There t store → every (pairFormed t s store (highestIn (clockOf s) store) (keysIn t store)) keyLimit ≡ true
-    pairs-test store h = every-all (pairFormed t s store (highestIn (clockOf s) store) (keysIn t store)) keyLimit
+    pairs-test : (store : Store) → There t store → every (pairFormed s store (highestIn (clockOf s) store) (keysIn t store)) keyLimit ≡ true
+    pairs-test store h = every-all (pairFormed s store (highestIn (clockOf s) store) (keysIn t store)) keyLimit
         (λ k l. pair-test t s store (highestIn (clockOf s) store) (keysIn t store) k (w .formed .pairs store h k l))
 
     agent-test : (a : ℕ) → a < t .sizes .agents → agentFormed t s a ≡ true
@@ -235,7 +235,7 @@ module _ (t : Table) (limits : Limits (t .sizes)) (s : List ℕ) (whole : length
         and-both _ _ (pairs-test (Attributes a) l)
         (and-both _ _ (pairs-test (Entries a) l)
         (and-both _ _ (and-both _ _ (lt-ltb (zcOf s a) (2 ^ keyLimit) (w .formed .sets Zc a l .narrow)) (lt-ltb (zpOf s a) (2 ^ keyLimit) (w .formed .sets Zp a l .narrow)))
-        (and-both _ _ (every-all (pendingFormed t s a) keyLimit (sets-test t s a (λ z. w .formed .sets z a l)))
+        (and-both _ _ (every-all (pendingFormed s a) keyLimit (sets-test t s a (λ z. w .formed .sets z a l)))
         (residual-test t few s whole a (omega arith) (w .formed .residuals a l)))))
 
     pub well-formed-test : wellFormed t s ≡ true

@@ -1,6 +1,7 @@
 -- What code asks of a place among the state's words, and what it answers.
 use Prim.Native.Nat.{ℕ, _+_, _<_, _≤_}
 use mathlib.Core.Path.{_≡_}
+use Rattle.table.specs.Tables.{agentLimit}
 use Rattle.term.specs.Acceptance.{stateWords}
 use Rattle.state.specs.declared.Store.{Store}
 use Rattle.state.specs.declared.Store.the-variants.{Environment, Attributes, Entries}
@@ -14,7 +15,7 @@ storeAgent (Entries a) = a
 
 -- a pair that a state has
 pub record Pair (store : Store) (k : ℕ) : Type 0 where
-  pub agent : storeAgent store < 32
+  pub agent : storeAgent store < agentLimit
   pub key : k < keyLimit
 
 -- r is this place, and so many words stand in the state from there on

@@ -18,7 +18,7 @@ unfoldable pub allZero : List ℕ → Bool
 allZero [] = true
 allZero (w ∷ ws) = eqb w 0 && allZero ws
 
-module _ (t : Table) (s : List ℕ) where
+module _ (s : List ℕ) where
   -- pair k of a store of so many keys: no mark is over the highest, absent has value 0, a key that there is not is absent
   unfoldable pub pairFormed : Store → ℕ → ℕ → ℕ → Bool
   pairFormed store highest keys k =
@@ -29,6 +29,7 @@ module _ (t : Table) (s : List ℕ) where
   unfoldable pub pendingFormed : ℕ → ℕ → Bool
   pendingFormed a k = not (has (zcOf s a) k || has (zpOf s a) k) || ltb 0 (stampOf s a k)
 
+module _ (t : Table) (s : List ℕ) where
   -- the residual is one whole term, and 0 after it
   unfoldable pub residualFormed : ℕ → Bool
   residualFormed a =
@@ -37,10 +38,10 @@ module _ (t : Table) (s : List ℕ) where
 
   unfoldable pub agentFormed : ℕ → Bool
   agentFormed a =
-      every (pairFormed (Attributes a) 1 (t .sizes .attributes)) keyLimit
-      && (every (pairFormed (Entries a) (clockOf s) (t .sizes .stigmergy)) keyLimit
+      every (pairFormed s (Attributes a) 1 (t .sizes .attributes)) keyLimit
+      && (every (pairFormed s (Entries a) (clockOf s) (t .sizes .stigmergy)) keyLimit
       && ((ltb (zcOf s a) (2 ^ keyLimit) && ltb (zpOf s a) (2 ^ keyLimit))
-      && (every (pendingFormed a) keyLimit
+      && (every (pendingFormed s a) keyLimit
       && residualFormed a)))
 
   -- A agrees with the table, the clock is at most 65,535, and the blocks past agent A - 1 are 0
@@ -48,7 +49,7 @@ module _ (t : Table) (s : List ℕ) where
   wellFormed =
       eqb (getD s agentsAt 0) (t .sizes .agents)
       && (leb (clockOf s) clockLimit
-      && (every (pairFormed Environment 1 (t .sizes .environment)) keyLimit
+      && (every (pairFormed s Environment 1 (t .sizes .environment)) keyLimit
       && (every agentFormed (t .sizes .agents)
       && allZero (drop (blockAt (t .sizes .agents)) s))))
 

@@ -1,5 +1,6 @@
 // Where things stand in the state's words.
 ghost use Prim.Native.Nat.{_<_, _≤_};
+ghost use Rattle.table.specs.Tables.{agentLimit};
 ghost use Rattle.state.specs.Layout.{residualWords, blockAt, zcAt, zpAt, lengthAt, residualAt, markAt, valueAt};
 ghost use Rattle.state.specs.Standing.{Pair, Standing};
 use super::Store;
@@ -14,9 +15,14 @@ pub const KEYS: usize = 16;
 
 pub const RESIDUAL_WORDS: usize = 63;
 
+// The highest stamp, and the set of all keys.
+pub const CLOCK_LIMIT: u32 = 65535;
+
+pub const ALL_KEYS: u32 = 65535;
+
 // The first word of an agent's block; after the last agent's, the end.
 pub fn block_at(agent: usize) -> usize
-    requires { ⌜ agent ≤ 32 ⌝ }
+    requires { ⌜ agent ≤ agentLimit ⌝ }
     ensures { λ r. ⌜ Standing (blockAt agent) 0 r ⌝ }
 {
     34 + 130 * agent
@@ -24,7 +30,7 @@ pub fn block_at(agent: usize) -> usize
 
 // An agent's set of keys to confirm.
 pub fn zc_at(agent: usize) -> usize
-    requires { ⌜ agent < 32 ⌝ }
+    requires { ⌜ agent < agentLimit ⌝ }
     ensures { λ r. ⌜ Standing (zcAt agent) 1 r ⌝ }
 {
     block_at(agent) + 64
@@ -32,7 +38,7 @@ pub fn zc_at(agent: usize) -> usize
 
 // An agent's set of keys to propagate.
 pub fn zp_at(agent: usize) -> usize
-    requires { ⌜ agent < 32 ⌝ }
+    requires { ⌜ agent < agentLimit ⌝ }
     ensures { λ r. ⌜ Standing (zpAt agent) 1 r ⌝ }
 {
     block_at(agent) + 65
@@ -40,7 +46,7 @@ pub fn zp_at(agent: usize) -> usize
 
 // The length of an agent's residual.
 pub fn length_at(agent: usize) -> usize
-    requires { ⌜ agent < 32 ⌝ }
+    requires { ⌜ agent < agentLimit ⌝ }
     ensures { λ r. ⌜ Standing (lengthAt agent) 1 r ⌝ }
 {
     block_at(agent) + 66
@@ -48,7 +54,7 @@ pub fn length_at(agent: usize) -> usize
 
 // An agent's residual.
 pub fn residual_at(agent: usize) -> usize
-    requires { ⌜ agent < 32 ⌝ }
+    requires { ⌜ agent < agentLimit ⌝ }
     ensures { λ r. ⌜ Standing (residualAt agent) residualWords r ⌝ }
 {
     block_at(agent) + 67

@@ -3,7 +3,9 @@ mod layout; // layout.rt: where things stand
 mod stores; // stores.rt: values of keys, and changes of pairs and of sets of keys
 
 pub use layout::AGENTS;
+pub use layout::ALL_KEYS;
 pub use layout::CLOCK;
+pub use layout::CLOCK_LIMIT;
 pub use layout::KEYS;
 pub use layout::RESIDUAL_WORDS;
 pub use layout::block_at;

@@ -3,6 +3,7 @@ ghost use mathlib.Core.Path.{_≡_};
 ghost use Prim.Native.Nat.{_<_};
 ghost use lib.ListN.{length};
 ghost use Rattle.term.specs.Acceptance.{stateWords};
+ghost use Rattle.table.specs.Tables.{agentLimit};
 ghost use Rattle.state.specs.Layout.{valueIn, put as putIn, addKey, dropKey};
 ghost use Rattle.state.specs.Standing.{storeAgent, Pair};
 use super::Store;
@@ -13,7 +14,7 @@ use value::Value;
 
 // The value of a key: absent where there is none, or no such key.
 pub fn value_in(state: &[u32], store: Store, key: usize) -> Value
-    requires { ⌜ (length (now state) ≡ stateWords) × (storeAgent store < 32) ⌝ }
+    requires { ⌜ (length (now state) ≡ stateWords) × (storeAgent store < agentLimit) ⌝ }
     ensures { λ r. ⌜ r ≡ valueIn (now (state .entry)) store key ⌝ }
 {
     if KEYS <= key {

@@ -40,18 +40,18 @@ words-some (Node n) = omega arith
 
 -- every word of a term is below 65,536
 
-abbrev Small : List ℕ → Type 0
-Small ws = (i : ℕ) → getD ws i 0 < 65536
+abbrev Narrow : List ℕ → Type 0
+Narrow ws = (i : ℕ) → getD ws i 0 < 65536
 
-small-cons : (w : ℕ) (ws : List ℕ) → w < 65536 → Small ws → Small (w ∷ ws)
+small-cons : (w : ℕ) (ws : List ℕ) → w < 65536 → Narrow ws → Narrow (w ∷ ws)
 small-cons w ws h s zero = h
 small-cons w ws h s (suc i) = s i
 
-small-append : (vs ws : List ℕ) → Small vs → Small ws → Small (vs ++ ws)
+small-append : (vs ws : List ℕ) → Narrow vs → Narrow ws → Narrow (vs ++ ws)
 small-append [] ws r s = s
 small-append (v ∷ vs) ws r s = small-cons v (vs ++ ws) (r 0) (small-append vs ws (λ i. r (suc i)) s)
 
-small-nil : Small []
+small-nil : Narrow []
 small-nil i = omega arith
 
 pub words-small : (T : Term) → Low T → (i : ℕ) → getD (words T) i 0 < 65536

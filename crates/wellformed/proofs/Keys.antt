@@ -8,27 +8,26 @@ use lib.Dec.{eqb, ltb}
 use lib.ListN.{getD}
 use borrow.Author.Tests.{eq-eqb, ne-eqb, lt-leb, le-leb}
 use Rattle.basis.specs.KeySets.{has}
-use Rattle.table.specs.Tables.{Table}
 use Rattle.state.specs.declared.Store.{Store}
 use Rattle.state.specs.declared.Store.the-variants.{Entries}
 use Rattle.state.specs.Layout.{markOf, wordOf, markAt, zcAt, zpAt}
 use Rattle.state.specs.WellFormed.{pairFormed, pendingFormed}
 
-module _ (t : Table) (s : List ℕ) (store : Store) (highest keys k mark : ℕ) (is : mark ≡ markOf s store k) where
-  pub pair-high : highest < mark → false ≡ pairFormed t s store highest keys k
+module _ (s : List ℕ) (store : Store) (highest keys k mark : ℕ) (is : mark ≡ markOf s store k) where
+  pub pair-high : highest < mark → false ≡ pairFormed s store highest keys k
   unfolding pairFormed
   pair-high h = rw (← is, lt-leb mark highest h)
 
-  pub pair-absent : mark ≤ highest → mark ≡ 0 → (value : ℕ) → value ≡ wordOf s store k → eqb value 0 ≡ pairFormed t s store highest keys k
+  pub pair-absent : mark ≤ highest → mark ≡ 0 → (value : ℕ) → value ≡ wordOf s store k → eqb value 0 ≡ pairFormed s store highest keys k
   unfolding pairFormed
   pair-absent h e value v = rw (← is, le-leb mark highest h, eq-eqb mark 0 e, v)
 
-  pub pair-present : mark ≤ highest → (mark ≡ 0 → ⊥) → ltb k keys ≡ pairFormed t s store highest keys k
+  pub pair-present : mark ≤ highest → (mark ≡ 0 → ⊥) → ltb k keys ≡ pairFormed s store highest keys k
   unfolding pairFormed
   pair-present h e = rw (← is, le-leb mark highest h, ne-eqb mark 0 e)
 
 -- c, p and m are the places of both sets and of the key's stamp
-pub pending-is : (t : Table) (s : List ℕ) (a k c p m : ℕ) → c ≡ zcAt a → p ≡ zpAt a → m ≡ markAt (Entries a) k
-    → (x y : Bool) → x ≡ has (getD s c 0) k → y ≡ has (getD s p 0) k → (not (x || y) || ltb 0 (getD s m 0)) ≡ pendingFormed t s a k
+pub pending-is : (s : List ℕ) (a k c p m : ℕ) → c ≡ zcAt a → p ≡ zpAt a → m ≡ markAt (Entries a) k
+    → (x y : Bool) → x ≡ has (getD s c 0) k → y ≡ has (getD s p 0) k → (not (x || y) || ltb 0 (getD s m 0)) ≡ pendingFormed s a k
 unfolding pendingFormed
-pending-is t s a k c p m ec ep em x y ex ey = rw (ex, ey, ec, ep, em)
+pending-is s a k c p m ec ep em x y ex ey = rw (ex, ey, ec, ep, em)

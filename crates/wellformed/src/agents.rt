@@ -11,12 +11,12 @@ ghost use mathlib.Core.Path.{_≡_};
 ghost use mathlib.Core.List.{List};
 ghost use Prim.Native.Nat.{ℕ, _<_};
 ghost use Rattle.basis.specs.Numbers.{every};
-ghost use Rattle.table.specs.Tables.{table};
+ghost use Rattle.table.specs.Tables.{table, agentLimit};
 ghost use Rattle.state.specs.WellFormed.{agentFormed};
 ghost use Rattle.wellformed.specs.Given.{CheckGiven};
 
 fn agent_formed(sizes: Sizes, kinds: &[u8], state: &[u32], agent: usize) -> bool
-    requires { ⌜ (CheckGiven sizes (now kinds) (now state)) × (agent < 32) ⌝ }
+    requires { ⌜ (CheckGiven sizes (now kinds) (now state)) × (agent < agentLimit) ⌝ }
     ensures { λ r. ⌜ ((operands : List ℕ) → r ≡ agentFormed (table sizes (now (kinds .entry)) operands) (now (state .entry)) agent) ⌝ }
 {
     if !store_formed(state, Store::Attributes(agent), 1, sizes.attributes) {
@@ -26,11 +26,11 @@ fn agent_formed(sizes: Sizes, kinds: &[u8], state: &[u32], agent: usize) -> bool
         return false;
     }
     let zc = zc_at(agent);
-    if 65535 < state[zc] {
+    if state::ALL_KEYS < state[zc] {
         return false;
     }
     let zp = zp_at(agent);
-    if 65535 < state[zp] {
+    if state::ALL_KEYS < state[zp] {
         return false;
     }
     if !all_pending_formed(state, agent) {

@@ -12,6 +12,7 @@ use pairs::store_formed;
 use state::AGENTS;
 use state::CLOCK;
 use state::Store;
+use state::CLOCK_LIMIT;
 use state::block_at;
 use table::Sizes;
 use zeros::all_zero;
@@ -30,7 +31,7 @@ pub fn well_formed(sizes: Sizes, kinds: &[u8], state: &[u32]) -> bool
     if state[AGENTS] as usize != sizes.agents {
         return false;
     }
-    if 65535 < state[CLOCK] {
+    if CLOCK_LIMIT < state[CLOCK] {
         return false;
     }
     if !store_formed(state, Store::Environment, 1, sizes.environment) {

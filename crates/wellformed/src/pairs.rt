@@ -7,7 +7,7 @@ ghost use mathlib.Core.Path.{_≡_};
 ghost use Prim.Native.Nat.{_<_};
 ghost use lib.ListN.{length};
 ghost use Rattle.basis.specs.Numbers.{every};
-ghost use Rattle.table.specs.Tables.{Table};
+ghost use Rattle.table.specs.Tables.{agentLimit};
 ghost use Rattle.term.specs.Acceptance.{stateWords};
 ghost use Rattle.state.specs.Layout.{keyLimit};
 ghost use Rattle.state.specs.WellFormed.{pairFormed};
@@ -16,7 +16,7 @@ ghost use Rattle.state.specs.Standing.{storeAgent, Pair};
 // One pair of a store that has so many keys and no mark above the highest.
 fn pair_formed(state: &[u32], store: Store, highest: u32, keys: usize, key: usize) -> bool
     requires { ⌜ (length (now state) ≡ stateWords) × Pair store key ⌝ }
-    ensures { λ r. ⌜ ((t : Table) → r ≡ pairFormed t (now (state .entry)) store highest keys key) ⌝ }
+    ensures { λ r. ⌜ r ≡ pairFormed (now (state .entry)) store highest keys key ⌝ }
 {
     let at = mark_at(store, key);
     let mark = state[at];
@@ -32,8 +32,8 @@ fn pair_formed(state: &[u32], store: Store, highest: u32, keys: usize, key: usiz
 
 // All pairs of such a store.
 pub fn store_formed(state: &[u32], store: Store, highest: u32, keys: usize) -> bool
-    requires { ⌜ (length (now state) ≡ stateWords) × (storeAgent store < 32) ⌝ }
-    ensures { λ r. ⌜ ((t : Table) → r ≡ every (pairFormed t (now (state .entry)) store highest keys) keyLimit) ⌝ }
+    requires { ⌜ (length (now state) ≡ stateWords) × (storeAgent store < agentLimit) ⌝ }
+    ensures { λ r. ⌜ r ≡ every (pairFormed (now (state .entry)) store highest keys) keyLimit ⌝ }
 {
     let mut key: usize = 0;
     while key < KEYS {

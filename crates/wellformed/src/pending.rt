@@ -9,15 +9,15 @@ ghost use mathlib.Core.Path.{_≡_};
 ghost use Prim.Native.Nat.{_<_};
 ghost use lib.ListN.{length};
 ghost use Rattle.basis.specs.Numbers.{every};
-ghost use Rattle.table.specs.Tables.{Table};
+ghost use Rattle.table.specs.Tables.{agentLimit};
 ghost use Rattle.term.specs.Acceptance.{stateWords};
 ghost use Rattle.state.specs.Layout.{keyLimit};
 ghost use Rattle.state.specs.WellFormed.{pendingFormed};
 
 // A key that is pending has an entry.
 fn pending_formed(state: &[u32], agent: usize, key: usize) -> bool
-    requires { ⌜ (length (now state) ≡ stateWords) × (agent < 32) × (key < keyLimit) ⌝ }
-    ensures { λ r. ⌜ ((t : Table) → r ≡ pendingFormed t (now (state .entry)) agent key) ⌝ }
+    requires { ⌜ (length (now state) ≡ stateWords) × (agent < agentLimit) × (key < keyLimit) ⌝ }
+    ensures { λ r. ⌜ r ≡ pendingFormed (now (state .entry)) agent key ⌝ }
 {
     let zc = zc_at(agent);
     let zp = zp_at(agent);
@@ -28,8 +28,8 @@ fn pending_formed(state: &[u32], agent: usize, key: usize) -> bool
 
 // Every pending key of an agent has an entry.
 pub fn all_pending_formed(state: &[u32], agent: usize) -> bool
-    requires { ⌜ (length (now state) ≡ stateWords) × (agent < 32) ⌝ }
-    ensures { λ r. ⌜ ((t : Table) → r ≡ every (pendingFormed t (now (state .entry)) agent) keyLimit) ⌝ }
+    requires { ⌜ (length (now state) ≡ stateWords) × (agent < agentLimit) ⌝ }
+    ensures { λ r. ⌜ r ≡ every (pendingFormed (now (state .entry)) agent) keyLimit ⌝ }
 {
     let mut key: usize = 0;
     while key < KEYS {

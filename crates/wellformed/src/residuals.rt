@@ -8,12 +8,12 @@ use table::Sizes;
 ghost use mathlib.Core.Path.{_≡_};
 ghost use mathlib.Core.List.{List};
 ghost use Prim.Native.Nat.{ℕ, _<_};
-ghost use Rattle.table.specs.Tables.{table};
+ghost use Rattle.table.specs.Tables.{table, agentLimit};
 ghost use Rattle.state.specs.WellFormed.{residualFormed};
 ghost use Rattle.wellformed.specs.Given.{CheckGiven};
 
 pub fn residual_formed(sizes: Sizes, kinds: &[u8], state: &[u32], agent: usize) -> bool
-    requires { ⌜ (CheckGiven sizes (now kinds) (now state)) × (agent < 32) ⌝ }
+    requires { ⌜ (CheckGiven sizes (now kinds) (now state)) × (agent < agentLimit) ⌝ }
     ensures { λ r. ⌜ ((operands : List ℕ) → r ≡ residualFormed (table sizes (now (kinds .entry)) operands) (now (state .entry)) agent) ⌝ }
 {
     let at = length_at(agent);

@@ -13,7 +13,7 @@ use Rattle.basis.specs.Numbers.{every}
 use Rattle.basis.proofs.Lists.{take-rest}
 use Rattle.table.specs.Tables.{Table, table}
 use Rattle.state.specs.declared.Store.the-variants.{Environment}
-use Rattle.state.specs.Layout.{agentsAt, keyLimit, clockOf}
+use Rattle.state.specs.Layout.{agentsAt, keyLimit, clockLimit, clockOf}
 use Rattle.state.specs.WellFormed.{allZero, pairFormed, agentFormed, wellFormed}
 use borrow.Author.Needs.{needs}
 use Rattle.wellformed.proofs.well_formed.Statement.{statement}
@@ -38,12 +38,11 @@ start4 c = start3 (c .before .before)
 agents : (c : tie.Else1) → eqb (getD (now (start1 c .args .state)) agentsAt 0) (start1 c .args .sizes .agents) ≡ true
 agents c = eq-eqb _ _ (c .if1 .left)
 
-clock : (c : tie.Else2) → leb (clockOf (now (start2 c .args .state))) 65535 ≡ true
+clock : (c : tie.Else2) → leb (clockOf (now (start2 c .args .state))) clockLimit ≡ true
 clock c = le-leb _ _ (c .if2 .left)
 
-environment : (c : tie.Else3) (operands : List ℕ)
-    → every (pairFormed (whole (start3 c) operands) (now (start3 c .args .state)) Environment 1 (start3 c .args .sizes .environment)) keyLimit ≡ true
-environment c operands = sym (c .before .store-formed .ensures (whole (start3 c) operands)) ∙ not-false _ (c .if3 .left)
+environment : (c : tie.Else3) → every (pairFormed (now (start3 c .args .state)) Environment 1 (start3 c .args .sizes .environment)) keyLimit ≡ true
+environment c = sym (c .before .store-formed .ensures) ∙ not-false _ (c .if3 .left)
 
 blocks : (c : tie.Else4) (operands : List ℕ)
     → every (agentFormed (whole (start4 c) operands) (now (start4 c .args .state))) (start4 c .args .sizes .agents) ≡ true
@@ -73,7 +72,7 @@ returns-3 : tie.Need-returns-3
 unfolding wellFormed
 returns-3 c operands =
     let q = c .before .before in
-    rw (agents (q .before .before), clock q, sym (c .before .store-formed .ensures (whole (start2 q) operands)) ∙ not-true _ (c .if3 .taken))
+    rw (agents (q .before .before), clock q, sym (c .before .store-formed .ensures) ∙ not-true _ (c .if3 .taken))
 
 agents-formed-requires : tie.Need-agents-formed-requires
 agents-formed-requires c κs = search needs
@@ -83,7 +82,7 @@ unfolding wellFormed
 returns-4 c operands =
     let r = c .before .before in
     let q = r .before .before in
-    rw (agents (q .before .before), clock q, environment r operands, sym (c .before .agents-formed .ensures operands) ∙ not-true _ (c .if4 .taken))
+    rw (agents (q .before .before), clock q, environment r, sym (c .before .agents-formed .ensures operands) ∙ not-true _ (c .if4 .taken))
 
 block-at-requires : tie.Need-block-at-requires
 block-at-requires c κs = search needs
@@ -111,7 +110,7 @@ returns-5 c operands =
     let q = r .before .before in
     let s = now (start4 u .args .state) in
     let end = c .before .before .block-at in
-    rw (agents (q .before .before), clock q, environment r operands, blocks u operands)
+    rw (agents (q .before .before), clock q, environment r, blocks u operands)
     (c .all-zero .ensures ∙ ap allZero (take-rest s (end .result)) ∙ ap (λ (i : ℕ). allZero (drop i s)) (end .ensures .is))
 
 pub well-formed-spec : {M : Type 1} → statement M

@@ -6,10 +6,10 @@ use Rattle.evaluation.proofs.values.agent_of.Statement.{statement}
 use Rattle.evaluation.proofs.values.agent_of.Tie as tie
 
 returns : tie.Need-returns
-returns c = record { is = λ t s. simp (eq-eqb _ _ (c .if1 .taken)); there = omega arith }
+returns c = record { is = simp (eq-eqb _ _ (c .if1 .taken)); there = omega arith }
 
 returns-2 : tie.Need-returns-2
-returns-2 c = record { is = λ t s. simp (ne-eqb _ _ (c .if1 .left)); there = omega arith }
+returns-2 c = record { is = simp (ne-eqb _ _ (c .if1 .left)); there = omega arith }
 
 pub agent-of-spec : {M : Type 1} → statement M
 agent-of-spec = tie.close (tie.spec returns returns-2)

@@ -40,14 +40,12 @@ returns c = rw (c .before .match .keys1) (ap Present (c .constant-at .ensures))
 returns-2 : tie.Need-returns-2
 unfolding valueStep
 returns-2 c =
-    let a = c .before .before .before .before .before .before .before .before .before .args in
-    rw (c .before .match .keys2, ← c .before .before .before .before .p-at .ensures .is, ← c .before .before .before .q-at .ensures .is, ← c .before .before .agent-of .ensures .is (table (a .sizes) (a .kinds .now) (a .operands .now)) (a .state .now)) (c .value-in .ensures)
+    rw (c .before .match .keys2, ← c .before .before .before .before .p-at .ensures .is, ← c .before .before .before .q-at .ensures .is, ← c .before .before .agent-of .ensures .is) (c .value-in .ensures)
 
 returns-3 : tie.Need-returns-3
 unfolding valueStep
 returns-3 c =
-    let a = c .before .before .before .before .before .before .before .before .before .args in
-    rw (c .before .match .keys3, ← c .before .before .before .before .p-at .ensures .is, ← c .before .before .before .q-at .ensures .is, ← c .before .before .agent-of .ensures .is (table (a .sizes) (a .kinds .now) (a .operands .now)) (a .state .now)) (c .value-in2 .ensures)
+    rw (c .before .match .keys3, ← c .before .before .before .before .p-at .ensures .is, ← c .before .before .before .q-at .ensures .is, ← c .before .before .agent-of .ensures .is) (c .value-in2 .ensures)
 
 returns-4 : tie.Need-returns-4
 unfolding valueStep

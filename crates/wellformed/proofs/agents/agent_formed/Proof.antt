@@ -36,13 +36,11 @@ abbrev start5 : tie.Else5 → tie.Start
 start5 c = start4 (c .before .before)
 
 -- what has been passed
-attributes : (c : tie.Else1) (operands : List ℕ)
-    → every (pairFormed (whole (start1 c) operands) (now (start1 c .args .state)) (Attributes (start1 c .args .agent)) 1 (start1 c .args .sizes .attributes)) keyLimit ≡ true
-attributes c operands = sym (c .before .store-formed .ensures (whole (start1 c) operands)) ∙ not-false _ (c .if1 .left)
+attributes : (c : tie.Else1) → every (pairFormed (now (start1 c .args .state)) (Attributes (start1 c .args .agent)) 1 (start1 c .args .sizes .attributes)) keyLimit ≡ true
+attributes c = sym (c .before .store-formed .ensures) ∙ not-false _ (c .if1 .left)
 
-entries : (c : tie.Else2) (operands : List ℕ)
-    → every (pairFormed (whole (start2 c) operands) (now (start2 c .args .state)) (Entries (start2 c .args .agent)) (clockOf (now (start2 c .args .state))) (start2 c .args .sizes .stigmergy)) keyLimit ≡ true
-entries c operands = sym (c .before .store-formed2 .ensures (whole (start2 c) operands)) ∙ not-false _ (c .if2 .left)
+entries : (c : tie.Else2) → every (pairFormed (now (start2 c .args .state)) (Entries (start2 c .args .agent)) (clockOf (now (start2 c .args .state))) (start2 c .args .sizes .stigmergy)) keyLimit ≡ true
+entries c = sym (c .before .store-formed2 .ensures) ∙ not-false _ (c .if2 .left)
 
 confirmed : (c : tie.Else3) → ltb (zcOf (now (start3 c .args .state)) (start3 c .args .agent)) (2 ^ keyLimit) ≡ true
 confirmed c = narrow (now (start3 c .args .state)) _ _ (c .before .before .zc-at .ensures .is) (c .if3 .left)
@@ -50,15 +48,15 @@ confirmed c = narrow (now (start3 c .args .state)) _ _ (c .before .before .zc-at
 propagated : (c : tie.Else4) → ltb (zpOf (now (start4 c .args .state)) (start4 c .args .agent)) (2 ^ keyLimit) ≡ true
 propagated c = narrow (now (start4 c .args .state)) _ _ (c .before .before .zp-at .ensures .is) (c .if4 .left)
 
-pending : (c : tie.Else5) (operands : List ℕ) → every (pendingFormed (whole (start5 c) operands) (now (start5 c .args .state)) (start5 c .args .agent)) keyLimit ≡ true
-pending c operands = sym (c .before .all-pending-formed .ensures (whole (start5 c) operands)) ∙ not-false _ (c .if5 .left)
+pending : (c : tie.Else5) → every (pendingFormed (now (start5 c .args .state)) (start5 c .args .agent)) keyLimit ≡ true
+pending c = sym (c .before .all-pending-formed .ensures) ∙ not-false _ (c .if5 .left)
 
 store-formed-requires : tie.Need-store-formed-requires
 store-formed-requires c κs = search needs
 
 returns : tie.Need-returns
 unfolding agentFormed
-returns c operands = rw (sym (c .before .store-formed .ensures (whole (c .before .before .before .before) operands)) ∙ not-true _ (c .if1 .taken))
+returns c operands = rw (sym (c .before .store-formed .ensures) ∙ not-true _ (c .if1 .taken))
 
 shared-slice-read-store-formed : tie.Need-shared-slice-read-store-formed
 shared-slice-read-store-formed c = search needs
@@ -70,7 +68,7 @@ returns-2 : tie.Need-returns-2
 unfolding agentFormed
 returns-2 c operands =
     let p = c .before .before .before in
-    rw (attributes p operands, sym (c .before .store-formed2 .ensures (whole (start1 p) operands)) ∙ not-true _ (c .if2 .taken))
+    rw (attributes p, sym (c .before .store-formed2 .ensures) ∙ not-true _ (c .if2 .taken))
 
 zc-at-requires : tie.Need-zc-at-requires
 zc-at-requires c κs = search needs
@@ -85,7 +83,7 @@ returns-3 : tie.Need-returns-3
 unfolding agentFormed
 returns-3 c operands =
     let q = c .before .before .before in
-    rw (attributes (q .before .before .before) operands, entries q operands, wide (now (start2 q .args .state)) _ _ (c .before .before .zc-at .ensures .is) (c .if3 .taken))
+    rw (attributes (q .before .before .before), entries q, wide (now (start2 q .args .state)) _ _ (c .before .before .zc-at .ensures .is) (c .if3 .taken))
 
 zp-at-requires : tie.Need-zp-at-requires
 zp-at-requires c κs = search needs
@@ -101,7 +99,7 @@ unfolding agentFormed
 returns-4 c operands =
     let r = c .before .before .before in
     let q = r .before .before .before in
-    rw (attributes (q .before .before .before) operands, entries q operands, confirmed r, wide (now (start3 r .args .state)) _ _ (c .before .before .zp-at .ensures .is) (c .if4 .taken))
+    rw (attributes (q .before .before .before), entries q, confirmed r, wide (now (start3 r .args .state)) _ _ (c .before .before .zp-at .ensures .is) (c .if4 .taken))
 
 all-pending-formed-requires : tie.Need-all-pending-formed-requires
 all-pending-formed-requires c κs = search needs
@@ -113,7 +111,7 @@ returns-5 c operands =
     let r = u .before .before .before in
     let q = r .before .before .before in
     let p = q .before .before .before in
-    rw (attributes p operands, entries q operands, confirmed r, propagated u, sym (c .before .all-pending-formed .ensures (whole (start1 p) operands)) ∙ not-true _ (c .if5 .taken))
+    rw (attributes p, entries q, confirmed r, propagated u, sym (c .before .all-pending-formed .ensures) ∙ not-true _ (c .if5 .taken))
 
 residual-formed-requires : tie.Need-residual-formed-requires
 residual-formed-requires c κs = search needs
@@ -125,7 +123,7 @@ returns-6 c operands =
     let u = v .before .before in
     let r = u .before .before .before in
     let q = r .before .before .before in
-    rw (attributes (q .before .before .before) operands, entries q operands, confirmed r, propagated u, pending v operands) (c .residual-formed .ensures operands)
+    rw (attributes (q .before .before .before), entries q, confirmed r, propagated u, pending v) (c .residual-formed .ensures operands)
 
 pub agent-formed-spec : {M : Type 1} → statement M
 agent-formed-spec =

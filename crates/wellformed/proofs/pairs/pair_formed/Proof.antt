@@ -26,9 +26,9 @@ shared-slice-read-mark : tie.Need-shared-slice-read-mark
 shared-slice-read-mark c = search needs
 
 returns : tie.Need-returns
-returns c t =
+returns c =
     let m = c .before in
-    pair-high t _ _ _ _ _ _ (mark m) (c .if1 .taken)
+    pair-high _ _ _ _ _ _ (mark m) (c .if1 .taken)
 
 value-at-requires : tie.Need-value-at-requires
 value-at-requires c κs = search needs
@@ -40,14 +40,14 @@ shared-slice-read-result : tie.Need-shared-slice-read-result
 shared-slice-read-result c = search needs
 
 returns-2 : tie.Need-returns-2
-returns-2 c t =
+returns-2 c =
     let m = c .before .before .before .before in
-    pair-absent t _ _ _ _ _ _ (mark m) (c .before .before .before .if1 .left) (c .before .before .if2 .taken) _ (ap (λ (i : ℕ). getD (now (m .before .before .before .args .state)) i 0) (c .before .value-at .ensures .is))
+    pair-absent _ _ _ _ _ _ (mark m) (c .before .before .before .if1 .left) (c .before .before .if2 .taken) _ (ap (λ (i : ℕ). getD (now (m .before .before .before .args .state)) i 0) (c .before .value-at .ensures .is))
 
 returns-3 : tie.Need-returns-3
-returns-3 c t =
+returns-3 c =
     let m = c .before .before in
-    pair-present t _ _ _ _ _ _ (mark m) (c .before .if1 .left) (c .if2 .left)
+    pair-present _ _ _ _ _ _ (mark m) (c .before .if1 .left) (c .if2 .left)
 
 pub pair-formed-spec : {M : Type 1} → statement M
 pair-formed-spec =

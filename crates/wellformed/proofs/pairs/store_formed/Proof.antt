@@ -8,27 +8,26 @@ use borrow.Author.Tests.{not-true, not-false}
 use Rattle.basis.specs.Numbers.{every}
 use Rattle.basis.proofs.Numbers.{every-more, every-fails}
 use Rattle.basis.proofs.Tests.{and-both}
-use Rattle.table.specs.Tables.{Table}
 use Rattle.state.specs.Layout.{keyLimit}
 use Rattle.state.specs.WellFormed.{pairFormed}
 use Rattle.wellformed.proofs.pairs.store_formed.Statement.{statement}
 use Rattle.wellformed.proofs.pairs.store_formed.Tie as tie
 
 abbrev Inv-loop : tie.InvT-loop
-Inv-loop state store highest keys key₀ key = (key ≤ keyLimit) × ((t : Table) → every (pairFormed t state store highest keys) key ≡ true)
+Inv-loop state store highest keys key₀ key = (key ≤ keyLimit) × (every (pairFormed state store highest keys) key ≡ true)
 
 abbrev μ-loop : tie.MeasureT-loop
 μ-loop state store highest keys key₀ key = keyLimit - key
 
 loop-holds : tie.Need-loop-holds Inv-loop μ-loop
 unfolding every
-loop-holds c = (omega arith, λ t. refl)
+loop-holds c = (omega arith, refl)
 
 pair-formed-requires : tie.Need-pair-formed-requires Inv-loop μ-loop
 pair-formed-requires c κs = search needs
 
 returns : tie.Need-returns Inv-loop μ-loop
-returns c t = sym (every-fails _ keyLimit _ (c .before .before .loop-test .taken) (sym (c .before .pair-formed .ensures t) ∙ not-true _ (c .if1 .taken)))
+returns c = sym (every-fails _ keyLimit _ (c .before .before .loop-test .taken) (sym (c .before .pair-formed .ensures) ∙ not-true _ (c .if1 .taken)))
 
 add-key : tie.Need-add-key Inv-loop μ-loop
 add-key c = search needs
@@ -38,10 +37,10 @@ loop-less c = search needs
 
 loop-again : tie.Need-loop-again Inv-loop μ-loop
 loop-again c =
-    (omega arith, λ t. every-more _ _ ∙ and-both _ _ (c .before .before .before .loop .inv .1 t) (sym (c .before .pair-formed .ensures t) ∙ not-false _ (c .if1 .left)))
+    (omega arith, every-more _ _ ∙ and-both _ _ (c .before .before .before .loop .inv .1) (sym (c .before .pair-formed .ensures) ∙ not-false _ (c .if1 .left)))
 
 returns-2 : tie.Need-returns-2 Inv-loop μ-loop
-returns-2 c t = let done : c .before .loop .key ≡ keyLimit = omega arith in sym (rw done at (c .before .loop .inv .1 t))
+returns-2 c = let done : c .before .loop .key ≡ keyLimit = omega arith in sym (rw done at (c .before .loop .inv .1))
 
 pub store-formed-spec : {M : Type 1} → statement M
 store-formed-spec =

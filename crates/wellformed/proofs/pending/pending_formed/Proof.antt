@@ -38,10 +38,10 @@ shared-slice-read-result : tie.Need-shared-slice-read-result
 shared-slice-read-result c = search needs
 
 returns : tie.Need-returns
-returns c t =
+returns c =
     let h = c .before .before in
     let p = h .before .before .before .before in
-    pending-is t _ _ _ _ _ _ (p .before .zc-at .ensures .is) (p .zp-at .ensures .is) (c .before .mark-at .ensures .is) _ _ (h .before .before .has .ensures) (h .has2 .ensures)
+    pending-is _ _ _ _ _ _ (p .before .zc-at .ensures .is) (p .zp-at .ensures .is) (c .before .mark-at .ensures .is) _ _ (h .before .before .has .ensures) (h .has2 .ensures)
 
 pub pending-formed-spec : {M : Type 1} → statement M
 pending-formed-spec =
