@@ -54,28 +54,28 @@ nodes-more t marks n w v r a b = adds-same (λ k. some-more (λ (b : ℕ). marke
 
 -- THE MARKED GUARDS are those of a list
 module _ (t : Table) (was : List ℕ) (x : ℕ) where
-  read-in : (gs : List ℕ) (b k : ℕ) → isIn b gs ≡ true → reads t b k ≡ true → guardsRead t was x gs k ≡ true
+  read-in : (gs : List ℕ) (b k : ℕ) → isIn b gs ≡ true → reads t b k ≡ true → guardsRead t gs k ≡ true
   unfolding isIn
   read-in [] b k e f = e
   read-in (g ∷ gs) b k e f =
-      ⊎-elim (λ (d : eqb b g ≡ true). or-left (reads t g k) (guardsRead t was x gs k) (rw (eqb-true b g d) at f))
-      (λ (d : isIn b gs ≡ true). or-right (reads t g k) (guardsRead t was x gs k) (read-in gs b k d f)) (or-either (eqb b g) (isIn b gs) e)
+      ⊎-elim (λ (d : eqb b g ≡ true). or-left (reads t g k) (guardsRead t gs k) (rw (eqb-true b g d) at f))
+      (λ (d : isIn b gs ≡ true). or-right (reads t g k) (guardsRead t gs k) (read-in gs b k d f)) (or-either (eqb b g) (isIn b gs) e)
 
-  in-read : (gs : List ℕ) (k : ℕ) → guardsRead t was x gs k ≡ true → (b : ℕ) × (isIn b gs ≡ true) × (reads t b k ≡ true)
+  in-read : (gs : List ℕ) (k : ℕ) → guardsRead t gs k ≡ true → (b : ℕ) × (isIn b gs ≡ true) × (reads t b k ≡ true)
   unfolding isIn
   in-read [] k e = absurd (not-both e refl)
   in-read (g ∷ gs) k e =
       ⊎-elim (λ (d : reads t g k ≡ true). (g, or-left (eqb g g) (isIn g gs) (eq-eqb g g refl), d))
-      (λ (d : guardsRead t was x gs k ≡ true). let w = in-read gs k d in (w .0, or-right (eqb (w .0) g) (isIn (w .0) gs) (w .1), w .2))
-      (or-either (reads t g k) (guardsRead t was x gs k) e)
+      (λ (d : guardsRead t gs k ≡ true). let w = in-read gs k d in (w .0, or-right (eqb (w .0) g) (isIn (w .0) gs) (w .1), w .2))
+      (or-either (reads t g k) (guardsRead t gs k) e)
 
-  pub guards-marked : (gs marks : List ℕ) → GuardsMarked t gs marks → (k : ℕ) → markedReads t marks (t .sizes .nodes) k ≡ guardsRead t was x gs k
-  guards-marked gs marks c k = same-test (markedReads t marks N k) (guardsRead t was x gs k) there back
+  pub guards-marked : (gs marks : List ℕ) → GuardsMarked t gs marks → (k : ℕ) → markedReads t marks (t .sizes .nodes) k ≡ guardsRead t gs k
+  guards-marked gs marks c k = same-test (markedReads t marks N k) (guardsRead t gs k) there back
     where
       N : ℕ
       N = t .sizes .nodes
 
-      there : markedReads t marks N k ≡ true → guardsRead t was x gs k ≡ true
+      there : markedReads t marks N k ≡ true → guardsRead t gs k ≡ true
       there e =
           let w = some-witness (λ (b : ℕ). markedReadsAt t marks b k) N e in
           let b = w .0 in
@@ -83,7 +83,7 @@ module _ (t : Table) (was : List ℕ) (x : ℕ) where
           let i = sym (c .guards b (and-left (isGuard (kindAt t b)) (hasMark marks b) g)) ∙ and-right (isGuard (kindAt t b)) (hasMark marks b) g in
           read-in gs b k i (and-right (isGuard (kindAt t b) && hasMark marks b) (reads t b k) (w .2))
 
-      back : guardsRead t was x gs k ≡ true → markedReads t marks N k ≡ true
+      back : guardsRead t gs k ≡ true → markedReads t marks N k ≡ true
       back e =
           let w = in-read gs k e in
           let b = w .0 in
@@ -93,22 +93,22 @@ module _ (t : Table) (was : List ℕ) (x : ℕ) where
 
 -- WHAT AN ACTION'S EXPRESSION READS
 module _ (t : Table) (was : List ℕ) (x : ℕ) (label : Label) where
-  pub label-none : label ≡ Ticking → (w : ℕ) → Adds (labelReads t was x label) w w
-  label-none e w = adds-none (λ k l. ap (λ (d : Label). labelReads t was x d k) e)
+  pub label-none : label ≡ Ticking → (w : ℕ) → Adds (labelReads t label) w w
+  label-none e w = adds-none (λ k l. ap (λ (d : Label). labelReads t d k) e)
 
-  pub label-expression : {n : ℕ} → label ≡ Acting n → (q : ℕ) → q ≡ qAt t n → (w : ℕ) → w < 2 ^ keyLimit → (r : ℕ) → r ≡ plusAll (reads t q) keyLimit w → Adds (labelReads t was x label) w r
+  pub label-expression : {n : ℕ} → label ≡ Acting n → (q : ℕ) → q ≡ qAt t n → (w : ℕ) → w < 2 ^ keyLimit → (r : ℕ) → r ≡ plusAll (reads t q) keyLimit w → Adds (labelReads t label) w r
   label-expression e q f w low r a =
-      adds-same (λ k. ap (λ (d : Label). labelReads t was x d k) e ∙ sym (ap (λ (m : ℕ). reads t m k) f)) (all-adds low a)
+      adds-same (λ k. ap (λ (d : Label). labelReads t d k) e ∙ sym (ap (λ (m : ℕ). reads t m k) f)) (all-adds low a)
 
 -- WHAT ZC GAINS
 pub gains : (t : Table) (was : List ℕ) (x : ℕ) (marks : List ℕ) (label : Label) (v r : ℕ)
-    → Adds (markedReads t marks (t .sizes .nodes)) 0 v → Adds (labelReads t was x label) v r
+    → Adds (markedReads t marks (t .sizes .nodes)) 0 v → Adds (labelReads t label) v r
     → Gains t was x marks label (plusAll (hasEntry was x r) keyLimit 0)
 gains t was x marks label v r a b d e c =
     plusAll-ext (hasEntry was x r) (toConfirm t was x d) keyLimit 0 (λ k l. ap (λ f. f && ltb 0 (stampOf was x k)) (read k l))
   where
-    read : (k : ℕ) → k < keyLimit → has r k ≡ (guardsRead t was x (d .guards) k || labelReads t was x (d .label) k)
+    read : (k : ℕ) → k < keyLimit → has r k ≡ (guardsRead t (d .guards) k || labelReads t (d .label) k)
     read k l =
         b .keys k l
         ∙ ap₂ (λ p q. p || q) (a .keys k l ∙ ap (λ f. f || markedReads t marks (t .sizes .nodes) k) (has-nothing k) ∙ guards-marked t was x (d .guards) marks c k)
-        (ap (λ m. labelReads t was x m k) e)
+        (ap (λ m. labelReads t m k) e)

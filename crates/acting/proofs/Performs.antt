@@ -56,7 +56,7 @@ module _ (t : Table) (scratch : List ℕ) (ready : Prepared t scratch) (was : Li
   -- WHAT A LABEL'S KEY LEAVES
   label-other : (l : Label) → Labelled t l → (q : Place) → Still x q → SameAt (setKey t was x l) was q
   label-other Ticking h q s = ap (λ (u : List ℕ). wordAt u q) (set-tick t was x)
-  label-other (Acting n) h q s = set-key-other t was x n (action-key t was x (ready .checked .sound) n h) q (s .inside) (s .clock) (s .waits) (s .mark (storeOf t was x n) (pAt t n)) (s .word (storeOf t was x n) (pAt t n))
+  label-other (Acting n) h q s = set-key-other t was x n (action-key t was x (ready .checked .sound) n h) q (s .inside) (s .clock) (s .waits) (s .mark (storeOf t x n) (pAt t n)) (s .word (storeOf t x n) (pAt t n))
 
   module _ (c : ℕ) (marks : List ℕ) (label : Label) (v : ℕ) (d : Decided t was x c marks label v) where
     abbrev D : Derivation
@@ -92,7 +92,7 @@ module _ (t : Table) (scratch : List ℕ) (ready : Prepared t scratch) (was : Li
           agent = low;
           action = a;
           key = action-key t was x (ready .checked .sound) n a;
-          room = λ k. able .room (ap (writesEntry t was x) (sym l) ∙ eq-eqb (kindAt t n) 3 k);
+          room = λ k. able .room (ap (writesEntry t) (sym l) ∙ eq-eqb (kindAt t n) 3 k);
           value = d .value ∙ ap (wordFor t was x) (sym l);
         }
 

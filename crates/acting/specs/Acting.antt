@@ -52,7 +52,7 @@ pub record Entering (s : List ℕ) (x k : ℕ) : Type 0 where
 
 -- the store that an action of a kind sets
 pub record Stored (kind x : ℕ) (r : Store) : Type 0 where
-  pub is : (t : Table) (was : List ℕ) (n : ℕ) → kindAt t n ≡ kind → r ≡ storeOf t was x n
+  pub is : (t : Table) (was : List ℕ) (n : ℕ) → kindAt t n ≡ kind → r ≡ storeOf t x n
   pub agent : storeAgent r < 32
 
 -- action n of agent x sets its key to word v

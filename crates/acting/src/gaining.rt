@@ -74,7 +74,7 @@ fn guard_keys(sizes: Sizes, kinds: &[u8], operands: &[u8], marks: &[u8]) -> u32
 // The set with the keys that an action's expression reads; a tick has none.
 fn label_keys(sizes: Sizes, kinds: &[u8], operands: &[u8], label: Label, keys: u32) -> u32
     requires { ⌜ Shaped (table sizes (now kinds) (now operands)) × LabelKey (table sizes (now kinds) (now operands)) label × (keys < 2 ^ keyLimit) ⌝ }
-    ensures { λ r. ⌜ ((was : List ℕ) (x : ℕ) → Adds (labelReads (table sizes (now (kinds .entry)) (now (operands .entry))) was x label) keys r) ⌝ }
+    ensures { λ r. ⌜ ((was : List ℕ) (x : ℕ) → Adds (labelReads (table sizes (now (kinds .entry)) (now (operands .entry))) label) keys r) ⌝ }
 {
     match label {
         Label::Ticking => keys,

@@ -26,7 +26,7 @@ module _ (t : Table) (was : List ℕ) (x : ℕ) (label : Label) (size : ℕ) whe
     long = refuseIf 17 (ltb residualWords size) ∷ []
 
     abbrev full : Bool
-    full = writesEntry t was x label && leb 65535 (clockOf was)
+    full = writesEntry t label && leb 65535 (clockOf was)
 
     -- 16
     ends-full : full ≡ true → (r : Judgement) → r ≡ refusedBy 16 → r ≡ ended t was x label size
@@ -55,8 +55,8 @@ module _ (t : Table) (was : List ℕ) (x : ℕ) where
     absent-ends e r f = ends-absent t was x (Acting n) size (ap isAbsent e) r f
 
     module _ (word : ℕ) (present : valueFor t was x n ≡ Present word) where
-      pub full-ends : (writesEntry t was x (Acting n) && leb 65535 (clockOf was)) ≡ true → (r : Judgement) → r ≡ refusedBy 16 → r ≡ ended t was x (Acting n) size
+      pub full-ends : (writesEntry t (Acting n) && leb 65535 (clockOf was)) ≡ true → (r : Judgement) → r ≡ refusedBy 16 → r ≡ ended t was x (Acting n) size
       full-ends e r f = ends-full t was x (Acting n) size (ap isAbsent present) e r f
 
-      pub action-ends : (writesEntry t was x (Acting n) && leb 65535 (clockOf was)) ≡ false → (r : Judgement) → r ≡ sized (Acting n) word size → r ≡ ended t was x (Acting n) size
+      pub action-ends : (writesEntry t (Acting n) && leb 65535 (clockOf was)) ≡ false → (r : Judgement) → r ≡ sized (Acting n) word size → r ≡ ended t was x (Acting n) size
       action-ends e r f = ends-sized t was x (Acting n) size (ap isAbsent present) e r (f ∙ ap (λ (v : ℕ). sized (Acting n) v size) (sym (ap wordIn present)))

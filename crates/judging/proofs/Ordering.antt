@@ -102,7 +102,7 @@ module _ (t : Table) (was : List ℕ) (x c : ℕ) where
   last-told : (label : Label) (size : ℕ) → Told (lastChecks t was x label size)
   last-told label size =
       told-test 15 (omega arith) (lacksValue t was x label) _
-      (told-test 16 (omega arith) (writesEntry t was x label && leb clockLimit (clockOf was)) _
+      (told-test 16 (omega arith) (writesEntry t label && leb clockLimit (clockOf was)) _
       (told-test 17 (omega arith) (ltb residualWords size) [] told-none))
 
   acts-told : Told (actChecks t was x c)

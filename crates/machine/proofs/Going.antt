@@ -31,7 +31,7 @@ module _ (t : Table) (was : List ℕ) where
 
   pub step-bound : (kind x number : ℕ) → stepIn t was kind x number .taken ≤ t .sizes .agents
   unfolding stepIn outcome
-  step-bound kind x number = by (firstOf (refuseIf 10 (outOfRange t was kind x number) ∷ ownChecks t was kind x number))
+  step-bound kind x number = by (firstOf (refuseIf 10 (outOfRange t kind x number) ∷ ownChecks t was kind x number))
     where
       by : (c : Check) → outcome c was (takenBy t was kind x number) (after t was kind x number) .taken ≤ t .sizes .agents
       by passes = taken-bound kind x number

@@ -72,14 +72,14 @@ module _ (t : Table) (was : List ℕ) where
 
   -- A STEP
   module _ (kind x number : ℕ) where
-    pub step-out : outOfRange t was kind x number ≡ true → Steps (stepIn t was kind x number) (Refused 10 0) was
+    pub step-out : outOfRange t kind x number ≡ true → Steps (stepIn t was kind x number) (Refused 10 0) was
     unfolding stepIn
     step-out e =
-        steps-refused (outcome-refused was (takenBy t was kind x number) (after t was kind x number) (firstOf (refuseIf 10 (outOfRange t was kind x number) ∷ ownChecks t was kind x number))
-        (first-refuses (refuseIf 10 (outOfRange t was kind x number)) (ownChecks t was kind x number) e))
+        steps-refused (outcome-refused was (takenBy t was kind x number) (after t was kind x number) (firstOf (refuseIf 10 (outOfRange t kind x number) ∷ ownChecks t was kind x number))
+        (first-refuses (refuseIf 10 (outOfRange t kind x number)) (ownChecks t was kind x number) e))
 
-    pub step-own : outOfRange t was kind x number ≡ false → stepIn t was kind x number ≡ ownStep t was kind x number
+    pub step-own : outOfRange t kind x number ≡ false → stepIn t was kind x number ≡ ownStep t was kind x number
     unfolding stepIn
     step-own e =
         ap (λ c. outcome c was (takenBy t was kind x number) (after t was kind x number))
-        (first-later (refuseIf 10 (outOfRange t was kind x number)) (ownChecks t was kind x number) e)
+        (first-later (refuseIf 10 (outOfRange t kind x number)) (ownChecks t was kind x number) e)

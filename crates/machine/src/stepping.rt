@@ -23,7 +23,7 @@ ghost use Rattle.machine.specs.Stepping.{ownStep, offerKind};
 
 // 10: the kind, the agent or the key is out of range.
 fn out_of_range(sizes: Sizes, kind: u8, agent: usize, number: usize) -> bool
-    ensures { λ r. ⌜ ((kinds operands was : List ℕ) → r ≡ outOfRange (table sizes kinds operands) was kind agent number) ⌝ }
+    ensures { λ r. ⌜ ((kinds operands was : List ℕ) → r ≡ outOfRange (table sizes kinds operands) kind agent number) ⌝ }
 {
     if 3 <= kind {
         return true;

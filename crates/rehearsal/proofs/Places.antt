@@ -18,7 +18,7 @@ use Rattle.term.proofs.Each.{Each}
 use Rattle.state.specs.WellFormed.{loaded}
 use Rattle.steps.specs.Steps.{refused, stateChecks, outOfRange, ownChecks, takenBy, after, stepIn, loadOf, stepOf}
 use Rattle.steps.specs.Runs.{scheduleChecks, runOf}
-use Rattle.steps.proofs.Steps.{outcome-check, step-in}
+use Rattle.steps.proofs.Steps.{outcome-check, step-in, step-stopped}
 
 pub record Near (c : Check) : Type 0 where
   pub number : numberOf c ≤ 20
@@ -90,17 +90,13 @@ module _ (t : Table) (was : List ℕ) where
   in-near : (kind x number : ℕ) → Near (stepIn t was kind x number .check)
   unfolding stepIn firstOf
   in-near kind x number =
-      subst Near (sym (outcome-check was (takenBy t was kind x number) (after t was kind x number) (firstOf (refuseIf 10 (outOfRange t was kind x number) ∷ ownChecks t was kind x number))))
-      (then-near (refuseIf 10 (outOfRange t was kind x number)) (firstOf (ownChecks t was kind x number)) (search (if-near 10 (omega arith))) (λ e. own-near kind x number))
+      subst Near (sym (outcome-check was (takenBy t was kind x number) (after t was kind x number) (firstOf (refuseIf 10 (outOfRange t kind x number) ∷ ownChecks t was kind x number))))
+      (then-near (refuseIf 10 (outOfRange t kind x number)) (firstOf (ownChecks t was kind x number)) (search (if-near 10 (omega arith))) (λ e. own-near kind x number))
 
 module _ (bytes was : List ℕ) (scratch kind x number : ℕ) where
-  pub step-stopped : {n place : ℕ} → firstOf (stateChecks bytes was scratch) ≡ refuses n place → stepOf bytes was scratch kind x number ≡ refused n place was
-  unfolding stepOf
-  step-stopped e = rw (stepOf, e)
-
   pub step-near : Near (stepOf bytes was scratch kind x number .check)
   step-near = by (firstOf (stateChecks bytes was scratch)) refl
     where
       by : (c : Check) → firstOf (stateChecks bytes was scratch) ≡ c → Near (stepOf bytes was scratch kind x number .check)
       by passes e = subst (λ o. Near (o .check)) (sym (step-in bytes was scratch kind x number e)) (in-near (tableOf bytes) was kind x number)
-      by (refuses n place) e = subst (λ o. Near (o .check)) (sym (step-stopped e)) (subst Near e (state-near bytes was scratch))
+      by (refuses n place) e = subst (λ o. Near (o .check)) (sym (step-stopped bytes was scratch kind x number e)) (subst Near e (state-near bytes was scratch))

@@ -10,13 +10,12 @@ use Rattle.table.specs.Tables.{Table, tableOf}
 use Rattle.table.proofs.Checks.{append-passes}
 use Rattle.steps.specs.Steps.{Outcome, stateChecks, stepIn, stepOf}
 use Rattle.steps.specs.Runs.{Progress, begun, added, ran, kindOf, agentOf, numberIn, stepsOf, scheduleChecks, runOf}
-use Rattle.steps.proofs.Steps.{state-checks, step-in}
+use Rattle.steps.proofs.Steps.{state-checks, step-in, step-stopped}
 use Rattle.machine.specs.declared.Totals.{Totals}
 use Rattle.machine.specs.Answers.{totals}
 use Rattle.machine.specs.Running.{TotalsWithin}
 use Rattle.machine.proofs.Going.{step-bound, within-more}
 use Rattle.machine.proofs.Schedules.{passes-runnable}
-use Rattle.rehearsal.proofs.Places.{step-stopped}
 
 abbrev pub totalsOf : Progress → Totals
 totalsOf p = totals (p .done) (p .refused) (p .taken)

@@ -52,17 +52,17 @@ module _ (t : Table) (was : List ℕ) (x : ℕ) where
       by (suc (suc (suc (suc (suc k))))) e l m = absurd (omega arith)
 
   -- its store, by the action's kind
-  pub store-attribute : (n : ℕ) → kindAt t n ≡ 2 → storeOf t was x n ≡ Attributes x
+  pub store-attribute : (n : ℕ) → kindAt t n ≡ 2 → storeOf t x n ≡ Attributes x
   store-attribute n e = rw e
 
-  pub store-entry : (n : ℕ) → kindAt t n ≡ 3 → storeOf t was x n ≡ Entries x
+  pub store-entry : (n : ℕ) → kindAt t n ≡ 3 → storeOf t x n ≡ Entries x
   store-entry n e = rw e
 
-  pub store-environment : (n : ℕ) → kindAt t n ≡ 4 → storeOf t was x n ≡ Environment
+  pub store-environment : (n : ℕ) → kindAt t n ≡ 4 → storeOf t x n ≡ Environment
   store-environment n e = rw e
 
   -- a stigmergy key is an entry only
-  pub store-other : (n : ℕ) → ActionNode t n → (kindAt t n ≡ 3 → ⊥) → storeKind (storeOf t was x n) ≡ 2 → ⊥
+  pub store-other : (n : ℕ) → ActionNode t n → (kindAt t n ≡ 3 → ⊥) → storeKind (storeOf t x n) ≡ 2 → ⊥
   store-other n a d f = by (kindAt t n) refl (a .1) (a .2)
     where
       by : (k : ℕ) → kindAt t n ≡ k → 2 ≤ k → k ≤ 4 → ⊥
@@ -78,7 +78,7 @@ module _ (t : Table) (was : List ℕ) (x : ℕ) where
   unfolding setKey
   set-tick = refl
 
-  pub set-value : (n : ℕ) → (kindAt t n ≡ 3 → ⊥) → setKey t was x (Acting n) ≡ put (storeOf t was x n) (pAt t n) (wordIn (valueFor t was x n)) 1 was
+  pub set-value : (n : ℕ) → (kindAt t n ≡ 3 → ⊥) → setKey t was x (Acting n) ≡ put (storeOf t x n) (pAt t n) (wordIn (valueFor t was x n)) 1 was
   unfolding setKey
   set-value n d = rw (setKey, ne-eqb (kindAt t n) 3 d)
 
@@ -129,7 +129,7 @@ module _ (t : Table) (was : List ℕ) (x : ℕ) where
 
     -- of other words, the clock and Zp change where it is a stigmergy key, and nothing else
     pub set-key-other : pAt t n < keyLimit → (q : Place) → Inside q → same q Clock ≡ false → same q (Waits Zp x) ≡ false
-        → same q (Mark (storeOf t was x n) (pAt t n)) ≡ false → same q (Word (storeOf t was x n) (pAt t n)) ≡ false → SameAt (setKey t was x (Acting n)) was q
+        → same q (Mark (storeOf t x n) (pAt t n)) ≡ false → same q (Word (storeOf t x n) (pAt t n)) ≡ false → SameAt (setKey t was x (Acting n)) was q
     unfolding setKey
     set-key-other key q h c z m w =
         cond-cases (λ (u : List ℕ). SameAt u was q) (eqb (kindAt t n) 3)
@@ -139,13 +139,13 @@ module _ (t : Table) (was : List ℕ) (x : ℕ) where
         (λ e. put-other store k v 1 was key q h m w)
       where
         store : Store
-        store = storeOf t was x n
+        store = storeOf t x n
 
   pub set-length : (l : Label) → length (setKey t was x l) ≡ length was
   set-length Ticking = ap (λ (s : List ℕ). length s) set-tick
   set-length (Acting n) =
       ⊎-elim (λ (e : kindAt t n ≡ 3). ap (λ (s : List ℕ). length s) (set-entry n e) ∙ length-set (queued n) clockAt (nextStamp was) ∙ queued-length n)
-      (λ (d : kindAt t n ≡ 3 → ⊥). ap (λ (s : List ℕ). length s) (set-value n d) ∙ put-length (storeOf t was x n) (k n) (v n) 1 was) (same-or-other (kindAt t n) 3)
+      (λ (d : kindAt t n ≡ 3 → ⊥). ap (λ (s : List ℕ). length s) (set-value n d) ∙ put-length (storeOf t x n) (k n) (v n) 1 was) (same-or-other (kindAt t n) 3)
 
   -- THE WHOLE ACT
   module _ (d : Derivation) where

@@ -176,7 +176,7 @@ module _ (t : Table) (sound : Sound t) (bytes : (i : ℕ) → getD (t .operands)
       let pending = kept-add t limits was c (clockOf was) u entry Zp x k there k16 (rw (put-mark (Entries x) k (word n) c was k16 (proper .whole) (omega arith)) (omega arith)) in
       (c, omega arith, kept-clock t limits was c (clockOf was) (addKey (zpAt x) k u) pending c (omega arith))
 
-  node-set : (n : ℕ) → ActionNode t n → (writesEntry t was x (Acting n) ≡ true → clockOf was < 65535) → Set (setKey t was x (Acting n))
+  node-set : (n : ℕ) → ActionNode t n → (writesEntry t (Acting n) ≡ true → clockOf was < 65535) → Set (setKey t was x (Acting n))
   node-set n a room =
       ⊎-elim
       (λ (h : kindAt t n < 3).
@@ -196,12 +196,12 @@ module _ (t : Table) (sound : Sound t) (bytes : (i : ℕ) → getD (t .operands)
       (lt-or-le (kindAt t n) 4))
       (lt-or-le (kindAt t n) 3)
 
-  label-set : (l : Label) → Labelled t l → (writesEntry t was x l ≡ true → clockOf was < 65535) → Set (setKey t was x l)
+  label-set : (l : Label) → Labelled t l → (writesEntry t l ≡ true → clockOf was < 65535) → Set (setKey t was x l)
   unfolding setKey
   label-set Ticking h room = (clockOf was, proper .formed .clock, start)
   label-set (Acting n) h room = node-set n h room
 
-  module _ (d : Derivation) (inside : DerivationInside t d) (room : writesEntry t was x (d .label) ≡ true → clockOf was < 65535) (short : length (words (d .leaving)) ≤ residualWords) where
+  module _ (d : Derivation) (inside : DerivationInside t d) (room : writesEntry t (d .label) ≡ true → clockOf was < 65535) (short : length (words (d .leaving)) ≤ residualWords) where
     pub acted-proper : ProperFacts t (acted t was x d)
     unfolding acted
     acted-proper =
@@ -209,6 +209,6 @@ module _ (t : Table) (sound : Sound t) (bytes : (i : ℕ) → getD (t .operands)
         let b = label-set (d .label) (inside .label) room in
         let c = b .0 in
         let w = plusAll (toConfirm t was x d) keyLimit (zcOf s x) in
-        let gained = set-plusAll s x (zcOf s x) (b .2 .formed .sets Zc x there) (toConfirm t was x d) (λ k l e. b .2 .stamps x k l (ltb-true 0 (stampOf was x k) (and-right (guardsRead t was x (d .guards) k || labelReads t was x (d .label) k) (ltb 0 (stampOf was x k)) e))) in
+        let gained = set-plusAll s x (zcOf s x) (b .2 .formed .sets Zc x there) (toConfirm t was x d) (λ k l e. b .2 .stamps x k l (ltb-true 0 (stampOf was x k) (and-right (guardsRead t (d .guards) k || labelReads t (d .label) k) (ltb 0 (stampOf was x k)) e))) in
         let confirmed = kept-keys t limits was c c s (b .2) Zc x w there gained in
         kept-proper t c was (acted t was x d) (b .1) (kept-leave t limits was c c (set s (zcAt x) w) confirmed x there (d .leaving) (inside .leaving) short)

@@ -55,11 +55,11 @@ module _ (t : Table) (sound : Sound t) (bytes : (i : ℕ) → getD (t .operands)
   -- a step, done or refused
   pub step-proper : (kind x number : ℕ) → ProperFacts t (stepIn t was kind x number .state)
   unfolding stepIn outcome
-  step-proper kind x number = by (firstOf (refuseIf 10 (outOfRange t was kind x number) ∷ ownChecks t was kind x number)) refl
+  step-proper kind x number = by (firstOf (refuseIf 10 (outOfRange t kind x number) ∷ ownChecks t was kind x number)) refl
     where
-      by : (c : Check) → firstOf (refuseIf 10 (outOfRange t was kind x number) ∷ ownChecks t was kind x number) ≡ c
+      by : (c : Check) → firstOf (refuseIf 10 (outOfRange t kind x number) ∷ ownChecks t was kind x number) ≡ c
           → ProperFacts t (outcome c was (takenBy t was kind x number) (after t was kind x number) .state)
-      by passes e = let r = first-passes (refuseIf 10 (outOfRange t was kind x number)) (ownChecks t was kind x number) e in
+      by passes e = let r = first-passes (refuseIf 10 (outOfRange t kind x number)) (ownChecks t was kind x number) e in
           after-proper kind x number (in-range t was kind x number .0 ((r .0))) (r .1)
       by (refuses n place) e = proper
 

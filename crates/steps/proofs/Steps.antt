@@ -11,7 +11,7 @@ use lib.ListN.{length}
 use borrow.Author.Tests.{ltb-true, ltb-false, leb-false, eqb-true, lt-ltb, le-ltb, lt-leb, not-false}
 use Rattle.basis.specs.KeySets.{has}
 use Rattle.basis.proofs.Tests.{not-both, and-left, and-right, and-fails, or-neither}
-use Rattle.table.specs.Checks.{Check, passes, refuses, refuseIf, firstOf}
+use Rattle.table.specs.Checks.{Check, passes, refuses, Refusal, refuseIf, firstOf}
 use Rattle.table.specs.Tables.{Table, tableOf}
 use Rattle.table.proofs.Checks.{first-passes, first-both, none-passes, append-passes, append-both}
 use Rattle.term.specs.Terms.{words}
@@ -22,7 +22,7 @@ use Rattle.state.specs.Layout.{residualWords, clockOf, zcOf, zpOf, termIn}
 use Rattle.state.specs.WellFormed.{wellFormed, loaded}
 use Rattle.steps.specs.Acts.{choices, chosen, allHold, lacksValue, writesEntry, actChecks}
 use Rattle.term.specs.Acceptance.{tableChecks}
-use Rattle.steps.specs.Steps.{Outcome, done, refused, outcome, loadOf, outOfRange, ownChecks, takenBy, after, stepIn, stateChecks, stepOf}
+use Rattle.steps.specs.Steps.{Outcome, done, refused, outcome, loadOf, outOfRange, ownChecks, takenBy, after, stepChecks, stepIn, stateChecks, stepOf}
 
 module _ (was : List ℕ) (taken : ℕ) (s : List ℕ) where
   pub outcome-check : (c : Check) → outcome c was taken s .check ≡ c
@@ -53,7 +53,7 @@ pub record InRange (t : Table) (kind x number : ℕ) : Type 0 where
   pub key-below : 0 < kind → number < t .sizes .stigmergy
 
 module _ (t : Table) (was : List ℕ) (kind x number : ℕ) where
-  pub in-range : outOfRange t was kind x number ≡ false ↔ InRange t kind x number
+  pub in-range : outOfRange t kind x number ≡ false ↔ InRange t kind x number
   in-range = (there, back)
     where
       A : ℕ
@@ -62,7 +62,7 @@ module _ (t : Table) (was : List ℕ) (kind x number : ℕ) where
       S : ℕ
       S = t .sizes .stigmergy
 
-      there : outOfRange t was kind x number ≡ false → InRange t kind x number
+      there : outOfRange t kind x number ≡ false → InRange t kind x number
       there e =
           let v = or-neither (not (ltb kind 3)) _ e in
           let w = or-neither (not (ltb x A)) (ltb 0 kind && not (ltb number S)) (v .1) in
@@ -77,7 +77,7 @@ module _ (t : Table) (was : List ℕ) (kind x number : ℕ) where
       key r true e = rw (lt-ltb number S (r .key-below (ltb-true 0 kind e)))
       key r false e = refl
 
-      back : InRange t kind x number → outOfRange t was kind x number ≡ false
+      back : InRange t kind x number → outOfRange t kind x number ≡ false
       back r = rw (lt-ltb kind 3 (r .kind-below), lt-ltb x A (r .agent-below)) (key r (ltb 0 kind) refl)
 
 -- 11 to 17 have passed, of choice c
@@ -88,7 +88,7 @@ pub record Able (t : Table) (was : List ℕ) (x c : ℕ) : Type 0 where
   pub there : c < length (choices t was x)
   pub guards : allHold t was x (chosen t was x c .guards) ≡ true
   pub present : lacksValue t was x (chosen t was x c .label) ≡ false
-  pub room : writesEntry t was x (chosen t was x c .label) ≡ true → clockOf was < 65535
+  pub room : writesEntry t (chosen t was x c .label) ≡ true → clockOf was < 65535
   pub short : length (words (chosen t was x c .leaving)) ≤ residualWords
 
 module _ (t : Table) (was : List ℕ) (x : ℕ) where
@@ -105,7 +105,7 @@ module _ (t : Table) (was : List ℕ) (x : ℕ) where
       lacks = lacksValue t was x (chosen t was x c .label)
 
       writes : Bool
-      writes = writesEntry t was x (chosen t was x c .label)
+      writes = writesEntry t (chosen t was x c .label)
 
       long : ℕ
       long = length (words (chosen t was x c .leaving))
@@ -182,10 +182,14 @@ module _ (bytes was : List ℕ) (scratch : ℕ) where
     unfolding stepOf
     step-in e = rw (stepOf, e)
 
-    abbrev checks : List Check
-    checks = refuseIf 10 (outOfRange t was kind x number) ∷ ownChecks t was kind x number
+    pub step-stopped : {n place : ℕ} → firstOf (stateChecks bytes was scratch) ≡ refuses n place → stepOf bytes was scratch kind x number ≡ refused n place was
+    unfolding stepOf
+    step-stopped e = rw (stepOf, e)
 
-    in-check : stepIn t was kind x number .check ≡ firstOf checks
+    abbrev checks : List Refusal
+    checks = stepChecks t was kind x number
+
+    pub in-check : stepIn t was kind x number .check ≡ firstOf checks
     unfolding stepIn
     in-check = outcome-check was (takenBy t was kind x number) (after t was kind x number) (firstOf checks)
 
@@ -203,7 +207,7 @@ module _ (bytes was : List ℕ) (scratch : ℕ) where
             → Done bytes was scratch kind x number
         by passes d e =
             let p = state-checks .0 d in
-            let w = first-passes (refuseIf 10 (outOfRange t was kind x number)) (ownChecks t was kind x number) (sym in-check ∙ e) in
+            let w = first-passes (refuseIf 10 (outOfRange t kind x number)) (ownChecks t was kind x number) (sym in-check ∙ e) in
             record { accepted = p .0; formed = p .1; range = in-range t was kind x number .0 (w .0); own = w .1 }
         by (refuses n place) d e = absurd (let z : _≡_ {A = ℕ} 0 1 = cc in omega arith)
 
@@ -214,7 +218,7 @@ module _ (bytes was : List ℕ) (scratch : ℕ) where
     step-done d =
         step-in (state-checks .1 (d .accepted, d .formed))
         ∙ outcome-done was (takenBy t was kind x number) (after t was kind x number) (firstOf checks)
-        (first-both (refuseIf 10 (outOfRange t was kind x number)) (ownChecks t was kind x number) (in-range t was kind x number .1 (d .range)) (d .own))
+        (first-both (refuseIf 10 (outOfRange t kind x number)) (ownChecks t was kind x number) (in-range t was kind x number .1 (d .range)) (d .own))
 
     -- a refused step leaves the state as it was
     pub step-refused : {n place : ℕ} → stepOf bytes was scratch kind x number .check ≡ refuses n place → stepOf bytes was scratch kind x number ≡ refused n place was

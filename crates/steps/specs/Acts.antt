@@ -6,14 +6,15 @@ use lib.Dec.{eqb, leb, ltb}
 use lib.ListN.{length, getD, set}
 use Rattle.basis.specs.Numbers.{forEach}
 use Rattle.basis.specs.KeySets.{plusAll}
+use Rattle.basis.specs.Kinds as kind
 use Rattle.value.specs.declared.Value.{Value}
 use Rattle.value.specs.declared.Value.the-variants.{Absent, Present}
-use Rattle.table.specs.Checks.{Check, refuseIf}
+use Rattle.table.specs.Checks.{Refusal, refuseIf}
 use Rattle.table.specs.Tables.{Table, kindAt, pAt, qAt}
 use Rattle.term.specs.declared.Label.{Label}
 use Rattle.term.specs.declared.Label.the-variants.{Ticking, Acting}
-use Rattle.term.specs.Terms.{Idle, words}
-use Rattle.term.specs.Processes.{Derivation, derivation, derivations, process, allFew}
+use Rattle.term.specs.Terms.{words}
+use Rattle.term.specs.Processes.{Derivation, derivations, derivationAt, process, allFew}
 use Rattle.state.specs.declared.Store.{Store}
 use Rattle.state.specs.declared.Store.the-variants.{Environment, Attributes, Entries}
 use Rattle.state.specs.Layout.{clockAt, zcAt, zpAt, lengthAt, residualAt, residualWords, keyLimit, clockLimit, clockOf, stampOf, zcOf, zpOf, termIn, put, addKey}
@@ -41,13 +42,32 @@ unfoldable pub leave : ℕ → List ℕ → List ℕ → List ℕ
 leave x ws s =
     set (forEach (λ (i : ℕ) (u : List ℕ). set u (residualAt x + i) (getD ws i 0)) residualWords s) (lengthAt x) (length ws)
 
+module _ (t : Table) where
+  -- a stigmergy key is set
+  abbrev pub writesEntry : Label → Bool
+  writesEntry Ticking = false
+  writesEntry (Acting n) = eqb (kindAt t n) kind.setStigmergy
+
+  -- a stigmergy key in the guards or the expression
+  abbrev pub guardsRead : List ℕ → ℕ → Bool
+  guardsRead [] k = false
+  guardsRead (b ∷ g) k = reads t b k || guardsRead g k
+
+  abbrev pub labelReads : Label → ℕ → Bool
+  labelReads Ticking k = false
+  labelReads (Acting n) k = reads t (qAt t n) k
+
+  -- the store in which node n of agent x sets a key: an attribute, a stigmergy key or an environment key
+  abbrev pub storeOf : ℕ → ℕ → Store
+  storeOf x n = getD (Attributes x ∷ Entries x ∷ Environment ∷ []) (kindAt t n - kind.setAttribute) Environment
+
 module _ (t : Table) (was : List ℕ) (x : ℕ) where
   -- the derivations of what is left of its process; choice c is derivation c
   abbrev pub choices : List Derivation
   choices = derivations (process t (termIn was x))
 
   abbrev pub chosen : ℕ → Derivation
-  chosen c = getD choices c (derivation Ticking [] Idle)
+  chosen c = derivationAt (process t (termIn was x)) c
 
   abbrev pub allHold : List ℕ → Bool
   allHold [] = true
@@ -61,20 +81,16 @@ module _ (t : Table) (was : List ℕ) (x : ℕ) where
   lacksValue Ticking = false
   lacksValue (Acting n) = isAbsent (valueFor n)
 
-  abbrev pub writesEntry : Label → Bool
-  writesEntry Ticking = false
-  writesEntry (Acting n) = eqb (kindAt t n) 3
-
   -- refusals 15 to 17, of what is done and how many words it leaves
-  abbrev pub lastChecks : Label → ℕ → List Check
+  abbrev pub lastChecks : Label → ℕ → List Refusal
   lastChecks label size =
       refuseIf 15 (lacksValue label)
-      ∷ refuseIf 16 (writesEntry label && leb clockLimit (clockOf was))
+      ∷ refuseIf 16 (writesEntry t label && leb clockLimit (clockOf was))
       ∷ refuseIf 17 (ltb residualWords size)
       ∷ []
 
   -- refusals 11 to 17, of choice c
-  abbrev pub actChecks : ℕ → List Check
+  abbrev pub actChecks : ℕ → List Refusal
   actChecks c =
       refuseIf 11 (not (eqb (zcOf was x) 0 && eqb (zpOf was x) 0))
       ∷ refuseIf 12 (not (allFew t (termIn was x)))
@@ -82,30 +98,17 @@ module _ (t : Table) (was : List ℕ) (x : ℕ) where
       ∷ refuseIf 14 (not (allHold (chosen c .guards)))
       ∷ lastChecks (chosen c .label) (length (words (chosen c .leaving)))
 
-  -- a stigmergy key in the guards or the expression
-  abbrev pub guardsRead : List ℕ → ℕ → Bool
-  guardsRead [] k = false
-  guardsRead (b ∷ g) k = reads t b k || guardsRead g k
-
-  abbrev pub labelReads : Label → ℕ → Bool
-  labelReads Ticking k = false
-  labelReads (Acting n) k = reads t (qAt t n) k
-
   -- what Zc gains: those that had an entry before (house rule: a key without one could never be confirmed)
   abbrev pub toConfirm : Derivation → ℕ → Bool
-  toConfirm d k = (guardsRead (d .guards) k || labelReads (d .label) k) && ltb 0 (stampOf was x k)
-
-  -- the store that node n sets: kind 2 an attribute, 3 a stigmergy key, 4 an environment key
-  abbrev pub storeOf : ℕ → Store
-  storeOf n = getD (Attributes x ∷ Entries x ∷ Environment ∷ []) (kindAt t n - 2) Environment
+  toConfirm d k = (guardsRead t (d .guards) k || labelReads t (d .label) k) && ltb 0 (stampOf was x k)
 
   -- the key is set; a tick sets none
   unfoldable pub setKey : Label → List ℕ
   setKey Ticking = was
   setKey (Acting n) =
-      cond (eqb (kindAt t n) 3)
+      cond (eqb (kindAt t n) kind.setStigmergy)
       (entered was x (pAt t n) (wordIn (valueFor n)))
-      (put (storeOf n) (pAt t n) (wordIn (valueFor n)) 1 was)
+      (put (storeOf t x n) (pAt t n) (wordIn (valueFor n)) 1 was)
 
   -- then Zc and the residual
   unfoldable pub acted : Derivation → List ℕ

@@ -2,35 +2,40 @@
 use Prim.Native.Nat.{ℕ, _^_, _-_}
 use mathlib.Core.Bool.{Bool, cond}
 use mathlib.Core.Path.{_≡_}
-use mathlib.Core.List.{List, [], _∷_, _++_, map}
-use lib.ListN.{length, set}
+use mathlib.Core.List.{List, [], _∷_, _++_}
+use lib.ListN.{length, set, replicate}
 use Rattle.value.specs.declared.Value.{Value}
 use Rattle.value.specs.declared.Value.the-variants.{Absent, Present}
-use Rattle.value.specs.Values.{operate}
 use Rattle.table.specs.Checks.{numberOf}
 use Rattle.table.specs.Tables.{Table, tableOf}
 use Rattle.term.specs.Terms.{Node, words}
 use Rattle.term.specs.Processes.{Derivation, derivations, process}
+use Rattle.term.specs.Acceptance.{stateWords}
 use Rattle.state.specs.declared.Store.the-variants.{Attributes, Entries}
 use Rattle.state.specs.Layout.{clockAt, zcAt, zpAt, wordOf, stampOf, zcOf, zpOf, put, addKey}
-use Rattle.state.specs.Evaluation.{holds}
-use Rattle.state.specs.WellFormed.{wellFormed, loaded}
-use Rattle.steps.specs.Steps.{Outcome, stepIn}
+use Rattle.state.specs.Evaluation.{valueOf, holds}
+use Rattle.state.specs.WellFormed.{loaded}
+use Rattle.steps.specs.Steps.{Outcome, loadOf, stepOf}
 
--- sizes 26, 1, 2, 1, 1, 0. 0 to 5: not (attribute 0 = 1), or true. 6 to 8: tick|tick. 9 to 12: action|tick. 13 to 17: a|b.
--- 18 calls definition 0; 19 to 21: the sender's attribute 0 = 1. Roots: definition 0 is 12, the link is 21, the agents start as 18 and 8
+-- sizes 32, 1, 2, 1, 1, 0. 0 to 5: not (1 = attribute 0), or true. 6 to 8: tick|tick. 9 to 12: action|tick. 13 to 17: a|b. 18 calls
+-- definition 0. 19 to 21: the sender's attribute 0 = 1. 22 to 24: 2,147,483,647 + 1. 25 to 27: -7 remainder 3.
+-- Roots: definition 0 is 12, the link is 21, the agents start as 18 and 8
 abbrev pub example : List ℕ
 example =
-    26 ∷ 0 ∷ 1 ∷ 0 ∷ 2 ∷ 0 ∷ 1 ∷ 0 ∷ 1 ∷ 0 ∷ 0 ∷ 0
-    ∷ 32 ∷ 33 ∷ 17 ∷ 20 ∷ 16 ∷ 22 ∷ 1 ∷ 1 ∷ 8 ∷ 32 ∷ 2 ∷ 1 ∷ 8 ∷ 32 ∷ 2 ∷ 32 ∷ 3 ∷ 8 ∷ 9 ∷ 33 ∷ 32 ∷ 17 ∷ 64 ∷ 64 ∷ 64 ∷ 64
-    ∷ 1 ∷ 0 ∷ 0 ∷ 0 ∷ 0 ∷ 0 ∷ 0 ∷ 0 ∷ 1 ∷ 0 ∷ 0 ∷ 0 ∷ 2 ∷ 0 ∷ 0 ∷ 0 ∷ 0 ∷ 0 ∷ 0 ∷ 0 ∷ 3 ∷ 0 ∷ 4 ∷ 0
+    32 ∷ 0 ∷ 1 ∷ 0 ∷ 2 ∷ 0 ∷ 1 ∷ 0 ∷ 1 ∷ 0 ∷ 0 ∷ 0
+    ∷ 32 ∷ 33 ∷ 17 ∷ 20 ∷ 16 ∷ 22 ∷ 1 ∷ 1 ∷ 8 ∷ 32 ∷ 2 ∷ 1 ∷ 8 ∷ 32 ∷ 2 ∷ 32 ∷ 3 ∷ 8 ∷ 9 ∷ 33 ∷ 32 ∷ 17 ∷ 32 ∷ 32 ∷ 36 ∷ 32 ∷ 32 ∷ 40 ∷ 64 ∷ 64 ∷ 64 ∷ 64
+    ∷ 1 ∷ 0 ∷ 0 ∷ 0 ∷ 0 ∷ 0 ∷ 0 ∷ 0 ∷ 0 ∷ 0 ∷ 1 ∷ 0 ∷ 2 ∷ 0 ∷ 0 ∷ 0 ∷ 0 ∷ 0 ∷ 0 ∷ 0 ∷ 3 ∷ 0 ∷ 4 ∷ 0
     ∷ 0 ∷ 0 ∷ 0 ∷ 0 ∷ 0 ∷ 0 ∷ 0 ∷ 0 ∷ 6 ∷ 0 ∷ 7 ∷ 0 ∷ 7 ∷ 0 ∷ 0 ∷ 0 ∷ 0 ∷ 0 ∷ 9 ∷ 0 ∷ 0 ∷ 0 ∷ 0 ∷ 0
     ∷ 10 ∷ 0 ∷ 11 ∷ 0 ∷ 8 ∷ 0 ∷ 0 ∷ 0 ∷ 0 ∷ 0 ∷ 13 ∷ 0 ∷ 9 ∷ 0 ∷ 0 ∷ 0 ∷ 0 ∷ 0 ∷ 15 ∷ 0 ∷ 14 ∷ 0 ∷ 16 ∷ 0
-    ∷ 0 ∷ 0 ∷ 0 ∷ 0 ∷ 0 ∷ 0 ∷ 1 ∷ 0 ∷ 1 ∷ 0 ∷ 0 ∷ 0 ∷ 19 ∷ 0 ∷ 20 ∷ 0 ∷ 12 ∷ 0 ∷ 0 ∷ 0 ∷ 21 ∷ 0 ∷ 0 ∷ 0
+    ∷ 0 ∷ 0 ∷ 0 ∷ 0 ∷ 0 ∷ 0 ∷ 1 ∷ 0 ∷ 1 ∷ 0 ∷ 0 ∷ 0 ∷ 19 ∷ 0 ∷ 20 ∷ 0 ∷ 255 ∷ 255 ∷ 255 ∷ 127 ∷ 1 ∷ 0 ∷ 0 ∷ 0
+    ∷ 22 ∷ 0 ∷ 23 ∷ 0 ∷ 249 ∷ 255 ∷ 255 ∷ 255 ∷ 3 ∷ 0 ∷ 0 ∷ 0 ∷ 25 ∷ 0 ∷ 26 ∷ 0 ∷ 12 ∷ 0 ∷ 0 ∷ 0 ∷ 21 ∷ 0 ∷ 0 ∷ 0
     ∷ 18 ∷ 0 ∷ 0 ∷ 0 ∷ 8 ∷ 0 ∷ 0 ∷ 0 ∷ []
 
 abbrev pub t : Table
 t = tableOf example
+
+abbrev pub scratch : ℕ
+scratch = 64
 
 -- the loaded state at clock 4, where agent 0 has attribute 0 = 1, so that its link to agent 1 holds and the other way doesn't,
 -- agent 0 holds (v, u) and agent 1 holds (w, z) for key 0, which is in the set of agent 0 at a place
@@ -41,19 +46,19 @@ holding at v u w z =
 abbrev pub bit : Bool → ℕ
 bit b = cond b 1 0
 
--- the state is well formed; what a step comes to: refusal, taken, then for each agent value and stamp of key 0, Zc, Zp
-abbrev pub shown : List ℕ → Outcome → List ℕ
-shown was o =
-    bit (wellFormed t was) ∷ numberOf (o .check) ∷ o .taken
+-- what a step comes to: refusal, taken, then for each agent value and stamp of key 0, Zc, Zp
+abbrev pub shown : Outcome → List ℕ
+shown o =
+    numberOf (o .check) ∷ o .taken
     ∷ wordOf (o .state) (Entries 0) 0 ∷ stampOf (o .state) 0 0 ∷ zcOf (o .state) 0 ∷ zpOf (o .state) 0
     ∷ wordOf (o .state) (Entries 1) 0 ∷ stampOf (o .state) 1 0 ∷ zcOf (o .state) 1 ∷ zpOf (o .state) 1 ∷ []
 
--- agent 0 propagates, or confirms, key 0
+-- agent 0, holding (v, u), propagates, or confirms, key 0 to agent 1, holding (w, z)
 abbrev pub propagating : ℕ → ℕ → ℕ → ℕ → List ℕ
-propagating v u w z = shown (holding (zpAt 0) v u w z) (stepIn t (holding (zpAt 0) v u w z) 1 0 0)
+propagating v u w z = shown (stepOf example (holding (zpAt 0) v u w z) scratch 1 0 0)
 
 abbrev pub confirming : ℕ → ℕ → ℕ → ℕ → List ℕ
-confirming v u w z = shown (holding (zcAt 0) v u w z) (stepIn t (holding (zcAt 0) v u w z) 2 0 0)
+confirming v u w z = shown (stepOf example (holding (zcAt 0) v u w z) scratch 2 0 0)
 
 -- the words that each choice of node n leaves, one list after another, each with its length first
 unfoldable pub leftBy : List Derivation → List ℕ
@@ -63,10 +68,16 @@ leftBy (d ∷ ds) = length (words (d .leaving)) ∷ (words (d .leaving) ++ leftB
 abbrev pub leaving : ℕ → List ℕ
 leaving n = leftBy (derivations (process t (Node n)))
 
--- present or not, and the word
+-- guard n holds, and expression n's value, present or not, and the word: in the loaded state
+abbrev pub holding? : ℕ → ℕ
+holding? n = bit (holds t (loaded t) 0 0 n)
+
 abbrev pub valueWords : Value → List ℕ
 valueWords Absent = 0 ∷ 0 ∷ []
 valueWords (Present v) = 1 ∷ v ∷ []
+
+abbrev pub value : ℕ → List ℕ
+value n = valueWords (valueOf t (loaded t) 0 0 n)
 
 pub record Example : Type 0 where
   pub computed : List ℕ
@@ -76,20 +87,24 @@ abbrev pub _gives_ : List ℕ → List ℕ → Example
 _gives_ c e = record { computed = c; expected = e }
 
 infix 10 _gives_
+-- Columns of a step: refusal, taken; value, stamp, Zc, Zp of agent 0; the same of agent 1.
+-- Columns of `leaving`: for each choice the number of words that it leaves, and the words. Of `value`: present, word
 abbrev pub examples : List Example
 examples =
-    (propagating 9 3 5 3 gives 1 ∷ 0 ∷ 0 ∷ 9 ∷ 3 ∷ 0 ∷ 0 ∷ 5 ∷ 3 ∷ 0 ∷ 0 ∷ [])  -- (a) stored (5, stamp 3), offered (9, 3): stays
-    ∷ (propagating 9 4 5 3 gives 1 ∷ 0 ∷ 1 ∷ 9 ∷ 4 ∷ 0 ∷ 0 ∷ 9 ∷ 4 ∷ 0 ∷ 1 ∷ [])  -- (b) offered (9, 4): taken
-    ∷ (propagating 5 3 0 0 gives 1 ∷ 0 ∷ 1 ∷ 5 ∷ 3 ∷ 0 ∷ 0 ∷ 5 ∷ 3 ∷ 0 ∷ 1 ∷ [])  -- (c) none stored, offered (5, 3): taken
+    (numberOf (loadOf example (replicate stateWords 0) scratch .check) ∷ [] gives 0 ∷ [])  -- the table is accepted
+    ∷ (propagating 9 3 5 3 gives 0 ∷ 0 ∷ 9 ∷ 3 ∷ 0 ∷ 0 ∷ 5 ∷ 3 ∷ 0 ∷ 0 ∷ [])  -- (a) stored (5, stamp 3), offered (9, 3): stays
+    ∷ (propagating 9 4 5 3 gives 0 ∷ 1 ∷ 9 ∷ 4 ∷ 0 ∷ 0 ∷ 9 ∷ 4 ∷ 0 ∷ 1 ∷ [])  -- (b) offered (9, 4): taken
+    ∷ (propagating 5 3 0 0 gives 0 ∷ 1 ∷ 5 ∷ 3 ∷ 0 ∷ 0 ∷ 5 ∷ 3 ∷ 0 ∷ 1 ∷ [])  -- (c) none stored, offered (5, 3): taken
     ∷ (length (derivations (process t (Node 8))) ∷ [] gives 2 ∷ [])  -- (d) tick|tick has 2 choices
     ∷ (leaving 12 gives 3 ∷ 65534 ∷ 65533 ∷ 11 ∷ 1 ∷ 65533 ∷ [])  -- (e) action|tick has 2, leaving 3 words and 1 word
     ∷ (leaving 17 gives 3 ∷ 65534 ∷ 65533 ∷ 16 ∷ 3 ∷ 65534 ∷ 14 ∷ 65533 ∷ [])  -- (f) a|b leaves tick|b, then a|tick
-    ∷ (map bit (holds t (loaded t) 0 0 3 ∷ holds t (loaded t) 0 0 5 ∷ []) gives 0 ∷ 1 ∷ [])  -- (g) not (attribute = 1), attribute absent: doesn't hold; the same or true: holds
-    ∷ (valueWords (operate 36 (Present 2147483647) (Present 1)) gives 0 ∷ 0 ∷ [])  -- (h) 2,147,483,647 + 1 is absent
-    ∷ (valueWords (operate 40 (Present (2 ^ 32 - 7)) (Present 3)) gives 1 ∷ (2 ^ 32 - 1) ∷ [])  -- (i) -7 remainder 3 is -1
-    ∷ (confirming 5 3 9 4 gives 1 ∷ 0 ∷ 0 ∷ 5 ∷ 3 ∷ 0 ∷ 0 ∷ 9 ∷ 4 ∷ 0 ∷ 1 ∷ [])  -- (j) asker (5, 3), other (9, 4): nobody's entry changes, the other gains the key in Zp
+    ∷ (holding? 3 ∷ holding? 5 ∷ [] gives 0 ∷ 1 ∷ [])  -- (g) not (attribute = 1), attribute absent: doesn't hold; the same or true: holds
+    ∷ (value 24 gives 0 ∷ 0 ∷ [])  -- (h) 2,147,483,647 + 1 is absent
+    ∷ (value 27 gives 1 ∷ (2 ^ 32 - 1) ∷ [])  -- (i) -7 remainder 3 is -1
+    ∷ (confirming 5 3 9 4 gives 0 ∷ 0 ∷ 5 ∷ 3 ∷ 0 ∷ 0 ∷ 9 ∷ 4 ∷ 0 ∷ 1 ∷ [])  -- (j) asker (5, 3), other (9, 4): nobody's entry changes, the other gains the key in Zp
     ∷ []
 
 -- every example gives what it should
-abbrev pub AllGiven : Type 0
-AllGiven = map (λ (e : Example). e .computed) examples ≡ map (λ (e : Example). e .expected) examples
+abbrev pub AllGiven : List Example → Type 0
+AllGiven [] = Unit {0}
+AllGiven (e ∷ es) = (e .computed ≡ e .expected) × AllGiven es

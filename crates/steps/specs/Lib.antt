@@ -2,4 +2,5 @@ pub mod Acts
 pub mod Offers
 pub mod Steps
 pub mod Runs
+pub mod Orders
 pub mod Examples

@@ -6,7 +6,7 @@ use lib.Dec.{eqb, ltb}
 use lib.ListN.{length, getD, set}
 use Rattle.basis.specs.Numbers.{forEach}
 use Rattle.basis.specs.Bytes.{u16At}
-use Rattle.table.specs.Checks.{Check, passes, refuses, refuseIf, firstOf, passed, numberOf}
+use Rattle.table.specs.Checks.{Check, passes, refuses, Refusal, refuseIf, firstOf, passed, numberOf}
 use Rattle.table.specs.Tables.{Table, tableOf}
 use Rattle.steps.specs.Steps.{Outcome, stateChecks, stepIn}
 
@@ -24,7 +24,7 @@ abbrev pub numberIn : List ℕ → ℕ → ℕ
 numberIn schedule i = u16At schedule (2 + stepsOf schedule + 4 * i + 2)
 
 -- 19: the length is wrong, or n over 8,192; 20: the answer buffer has under n bytes
-abbrev pub scheduleChecks : List ℕ → List ℕ → List Check
+abbrev pub scheduleChecks : List ℕ → List ℕ → List Refusal
 scheduleChecks schedule answers =
     refuseIf 19
     (ltb (length schedule) 2 || (not (eqb (length schedule) (2 + 5 * stepsOf schedule)) || ltb 8192 (stepsOf schedule)))

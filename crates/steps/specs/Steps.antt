@@ -5,7 +5,7 @@ use mathlib.Core.List.{List, [], _∷_, _++_}
 use lib.Dec.{ltb}
 use lib.ListN.{length}
 use Rattle.basis.specs.KeySets.{has}
-use Rattle.table.specs.Checks.{Check, passes, refuses, refuseIf, firstOf}
+use Rattle.table.specs.Checks.{Check, passes, refuses, Refusal, refuseIf, firstOf}
 use Rattle.table.specs.Tables.{Table, tableOf}
 use Rattle.term.specs.Acceptance.{tableChecks}
 use Rattle.state.specs.Layout.{zcOf, zpOf}
@@ -34,14 +34,14 @@ abbrev pub loadOf : List ℕ → List ℕ → ℕ → Outcome
 loadOf bytes was scratchLength =
     outcome (firstOf (tableChecks bytes (length was) scratchLength)) was 0 (loaded (tableOf bytes))
 
-module _ (t : Table) (was : List ℕ) where
-  -- 10: kind, agent or key out of range; an act's number is a choice, of which 13 judges
-  abbrev pub outOfRange : ℕ → ℕ → ℕ → Bool
-  outOfRange kind x number =
-      not (ltb kind 3) || (not (ltb x (t .sizes .agents)) || (ltb 0 kind && not (ltb number (t .sizes .stigmergy))))
+-- kind, agent or key out of range; an act's number is a choice, of which 13 judges
+abbrev pub outOfRange : Table → ℕ → ℕ → ℕ → Bool
+outOfRange t kind x number =
+    not (ltb kind 3) || (not (ltb x (t .sizes .agents)) || (ltb 0 kind && not (ltb number (t .sizes .stigmergy))))
 
+module _ (t : Table) (was : List ℕ) where
   -- what is a kind's own: act 11 to 17; propagate and confirm 18
-  abbrev pub ownChecks : ℕ → ℕ → ℕ → List Check
+  abbrev pub ownChecks : ℕ → ℕ → ℕ → List Refusal
   ownChecks zero x c = actChecks t was x c
   ownChecks (suc zero) x k = refuseIf 18 (not (has (zpOf was x) k)) ∷ []
   ownChecks (suc (suc kind)) x k = refuseIf 18 (not (has (zcOf was x) k)) ∷ []
@@ -55,14 +55,17 @@ module _ (t : Table) (was : List ℕ) where
   after (suc zero) x k = propagated t was x k (t .sizes .agents)
   after (suc (suc kind)) x k = confirmed t was x k (t .sizes .agents)
 
+  abbrev pub stepChecks : ℕ → ℕ → ℕ → List Refusal
+  stepChecks kind x number = refuseIf 10 (outOfRange t kind x number) ∷ ownChecks kind x number
+
   -- a step of an accepted table and a well-formed state
   unfoldable pub stepIn : ℕ → ℕ → ℕ → Outcome
   stepIn kind x number =
-      outcome (firstOf (refuseIf 10 (outOfRange kind x number) ∷ ownChecks kind x number)) was
+      outcome (firstOf (stepChecks kind x number)) was
       (takenBy kind x number) (after kind x number)
 
 -- 9: the state is not well formed
-abbrev pub stateChecks : List ℕ → List ℕ → ℕ → List Check
+abbrev pub stateChecks : List ℕ → List ℕ → ℕ → List Refusal
 stateChecks bytes was scratchLength =
     tableChecks bytes (length was) scratchLength ++ (refuseIf 9 (not (wellFormed (tableOf bytes) was)) ∷ [])
 

@@ -77,7 +77,7 @@ module _ (t : Table) (s : List ℕ) (x j : ℕ) where
         (kept (Waits Zp a) tt refl refl) (shows-itself s j a)
       where
         store : Store
-        store = storeOf t s x n
+        store = storeOf t x n
 
         apart : (q p : Place) → (placeKind q ≡ placeKind p → ⊥) → same q p ≡ false
         apart q p f = same-not q p (λ e. f (ap placeKind e))

@@ -371,10 +371,10 @@ module _ (t : Table) (ok : Checked t) (s : List ℕ) (whole : length s ≡ state
   clock-other : (n : ℕ) → ActionNode t n → (kindAt t n ≡ 3 → ⊥) → clockOf (setKey t s x (Acting n)) ≡ clockOf s
   clock-other n h d =
       ap (λ (u : List ℕ). clockOf u) (set-value t s x n d)
-      ∙ put-other (storeOf t s x n) (pAt t n) (wordIn (valueFor t s x n)) 1 s (action-key t s x (ok .sound) n h) Clock tt refl refl
+      ∙ put-other (storeOf t x n) (pAt t n) (wordIn (valueFor t s x n)) 1 s (action-key t s x (ok .sound) n h) Clock tt refl refl
 
   -- it stays within its limit where a write has room
-  clock-fits : (l : Label) → Labelled t l → (clockOf (setKey t s x l) ≤ 65535) ↔ (writesEntry t s x l ≡ true → clockOf s < 65535)
+  clock-fits : (l : Label) → Labelled t l → (clockOf (setKey t s x l) ≤ 65535) ↔ (writesEntry t l ≡ true → clockOf s < 65535)
   clock-fits Ticking h = (λ c e. absurd (not-both e refl), λ f. rw (set-tick t s x) (formed .clock))
   clock-fits (Acting n) h =
       ⊎-elim
@@ -398,7 +398,7 @@ module _ (t : Table) (ok : Checked t) (s : List ℕ) (whole : length s ≡ state
       })
 
   able-choice : (c : ℕ) (d : Derivation) → getElem? (choices t s x) c ≡ some d → Enabled t s x d → allFew t (termIn s x) ≡ true
-      → (writesEntry t s x (d .label) ≡ true → clockOf s < 65535) → length (words (d .leaving)) ≤ residualWords → Able t s x c
+      → (writesEntry t (d .label) ≡ true → clockOf s < 65535) → length (words (d .leaving)) ≤ residualWords → Able t s x c
   able-choice c d e r few room short =
       let w = nth-is (choices t s x) c (derivation Ticking [] Idle) d e in
       let i : d ≡ chosen t s x c = sym (w .1) in
@@ -409,7 +409,7 @@ module _ (t : Table) (ok : Checked t) (s : List ℕ) (whole : length s ≡ state
         there = w .0;
         guards = subst (λ (o : Derivation). allHold t s x (o .guards) ≡ true) i (r .guards);
         present = subst (λ (o : Derivation). lacksValue t s x (o .label) ≡ false) i (r .present);
-        room = subst (λ (o : Derivation). writesEntry t s x (o .label) ≡ true → clockOf s < 65535) i room;
+        room = subst (λ (o : Derivation). writesEntry t (o .label) ≡ true → clockOf s < 65535) i room;
         short = subst (λ (o : Derivation). length (words (o .leaving)) ≤ residualWords) i short;
       }
 
@@ -418,7 +418,7 @@ module _ (t : Table) (ok : Checked t) (s : List ℕ) (whole : length s ≡ state
       ↔ (Able t s x c × Same (t .sizes .agents) S′ (systemOf (acted t s x d)))
   act-exactly c d e S′ = (allowed, given)
     where
-      fits : (r : Enabled t s x d) → (clockOf (acted t s x d) ≤ 65535) ↔ (writesEntry t s x (d .label) ≡ true → clockOf s < 65535)
+      fits : (r : Enabled t s x d) → (clockOf (acted t s x d) ≤ 65535) ↔ (writesEntry t (d .label) ≡ true → clockOf s < 65535)
       fits r =
           let f = clock-fits (d .label) (inside d (r .moves) .label) in
           let i = final-clock t s x d whole there in
@@ -436,5 +436,5 @@ module _ (t : Table) (ok : Checked t) (s : List ℕ) (whole : length s ≡ state
           let r = enabled-choice c d e (p .0) in
           let i : chosen t s x c ≡ d = nth-is (choices t s x) c (derivation Ticking [] Idle) d e .1 in
           let short = subst (λ (o : Derivation). length (words (o .leaving)) ≤ residualWords) i (p .0 .short) in
-          let room = subst (λ (o : Derivation). writesEntry t s x (o .label) ≡ true → clockOf s < 65535) i (p .0 .room) in
+          let room = subst (λ (o : Derivation). writesEntry t (o .label) ≡ true → clockOf s < 65535) i (p .0 .room) in
           (act-agrees d short S′ .1 (r, p .1), p .0 .few, omega (arith, fits r .1 room, p .1 .clock-same), short)

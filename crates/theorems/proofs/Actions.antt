@@ -81,11 +81,11 @@ present-entry s x k = by (ltb k keyLimit) (stampOf s x k)
     by false m = refl
 
 module _ (t : Table) (sound : Sound t) (s : List ℕ) (x : ℕ) where
-  pub guards-read : (g : List ℕ) → Each (GuardNode t) g → (k : ℕ) → guardsRead t s x g k ≡ guardKeys t g k
+  pub guards-read : (g : List ℕ) → Each (GuardNode t) g → (k : ℕ) → guardsRead t g k ≡ guardKeys t g k
   guards-read [] e k = refl
   guards-read (b ∷ g) e k = ap₂ (λ c d. c || d) (guard-keys t sound b k (e .0 .1)) (guards-read g (e .1) k)
 
-  pub label-reads : (l : Label) → Labelled t l → (k : ℕ) → labelReads t s x l k ≡ labelKeys t l k
+  pub label-reads : (l : Label) → Labelled t l → (k : ℕ) → labelReads t l k ≡ labelKeys t l k
   label-reads Ticking h k = refl
   label-reads (Acting n) h k = expression-keys t sound (qAt t n) k (action-expression t sound n h .1)
 

@@ -125,7 +125,7 @@ set-clock bytes s x whole there (Acting n) i key = ⊎-elim entered other (same-
     other : (kindAt (tableOf bytes) n ≡ 3 → ⊥) → clockOf (setKey (tableOf bytes) s x (Acting n)) ≡ clockOf s + length (writeOf bytes s x (Acting n))
     other d =
         ap (λ (u : List ℕ). clockOf u) (set-value t s x n d)
-        ∙ put-other (storeOf t s x n) (pAt t n) (wordIn (valueFor t s x n)) 1 s (key n i) Clock tt refl refl
+        ∙ put-other (storeOf t x n) (pAt t n) (wordIn (valueFor t s x n)) 1 s (key n i) Clock tt refl refl
         ∙ rw (ne-eqb (kindAt t n) 3 d) (omega arith)
 
 pub step-clock : (bytes s : List ℕ) (scratch kind x number : ℕ) → Done bytes s scratch kind x number

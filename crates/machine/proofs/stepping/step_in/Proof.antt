@@ -26,9 +26,9 @@ abbrev was : tie.Start → List ℕ
 was a = now (a .args .state)
 
 abbrev Judged : tie.Start → Bool → Type 0
-Judged a out = (kinds operands s : List ℕ) → out ≡ outOfRange (table (a .args .sizes) kinds operands) s (a .args .kind) (a .args .agent) (a .args .number)
+Judged a out = (kinds operands s : List ℕ) → out ≡ outOfRange (table (a .args .sizes) kinds operands) (a .args .kind) (a .args .agent) (a .args .number)
 
-within : (a : tie.Start) (out : Bool) → Judged a out → out ≡ false → outOfRange (T a) (was a) (a .args .kind) (a .args .agent) (a .args .number) ≡ false
+within : (a : tie.Start) (out : Bool) → Judged a out → out ≡ false → outOfRange (T a) (a .args .kind) (a .args .agent) (a .args .number) ≡ false
 within a out judged e = sym (judged (now (a .args .kinds)) (now (a .args .operands)) (was a)) ∙ e
 
 range : (a : tie.Start) (out : Bool) → Judged a out → out ≡ false → InRange (T a) (a .args .kind) (a .args .agent) (a .args .number)

@@ -1,0 +1,36 @@
+-- The order of the checks.
+-- Assumes nothing.
+use mathlib.Core.Path.{_≡_, refl, sym, ap, _∙_}
+use mathlib.Core.List.{List, _++_}
+use Prim.Native.Nat.{ℕ}
+use Rattle.table.specs.Checks.{Check, passes, refuses, firstOf}
+use Rattle.table.specs.Tables.{tableOf}
+use Rattle.table.proofs.Checks.{append-later, append-refuses}
+use Rattle.steps.specs.Steps.{Outcome, stateChecks, stepChecks, stepOf}
+use Rattle.steps.specs.Orders.{InOrder}
+use Rattle.steps.proofs.Steps.{step-in, in-check, step-stopped}
+
+step-first : (bytes was : List ℕ) (scratch kind x number : ℕ)
+    → stepOf bytes was scratch kind x number .check ≡ firstOf (stateChecks bytes was scratch ++ stepChecks (tableOf bytes) was kind x number)
+step-first bytes was scratch kind x number = by (firstOf (stateChecks bytes was scratch)) refl
+  where
+    by : (c : Check) → firstOf (stateChecks bytes was scratch) ≡ c
+        → stepOf bytes was scratch kind x number .check ≡ firstOf (stateChecks bytes was scratch ++ stepChecks (tableOf bytes) was kind x number)
+    by passes e =
+        ap (λ (o : Outcome). o .check) (step-in bytes was scratch kind x number e) ∙ in-check bytes was scratch kind x number
+        ∙ sym (append-later (stateChecks bytes was scratch) (stepChecks (tableOf bytes) was kind x number) e)
+    by (refuses n place) e =
+        ap (λ (o : Outcome). o .check) (step-stopped bytes was scratch kind x number e)
+        ∙ sym (append-refuses (stateChecks bytes was scratch) (stepChecks (tableOf bytes) was kind x number) e)
+
+pub in-order : InOrder
+in-order =
+    record {
+      load = λ bytes stateLength scratch. refl;
+      state = λ bytes was scratch. refl;
+      act = λ t was x c. refl;
+      propagate = λ t was x k. refl;
+      confirm = λ t was x k. refl;
+      run = λ schedule answers. refl;
+      step = step-first;
+    }
