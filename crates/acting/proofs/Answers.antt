@@ -1,11 +1,10 @@
 -- What an act answers, by its judgement.
 -- Assumes nothing.
 use Prim.Native.Nat.{ℕ}
-use mathlib.Core.Bool.{Bool, not}
 use mathlib.Core.Path.{_≡_, sym, ap, _∙_}
 use mathlib.Core.List.{List}
-use borrow.Author.Tests.{ne-eqb}
-use Rattle.table.specs.Checks.{passes, refuseIf, firstOf, refusalCheck}
+use Rattle.table.proofs.Checks.{refusal-refuses}
+use Rattle.table.specs.Checks.{passes, firstOf, refusalCheck}
 use Rattle.table.specs.Tables.{Table}
 use Rattle.steps.specs.Acts.{actChecks, chosen, acted}
 use Rattle.steps.specs.Steps.{Outcome}
@@ -35,5 +34,5 @@ module _ (t : Table) (was : List ℕ) (x c r : ℕ) (check : refusalCheck r ≡ 
 
   pub acts-refused : (r ≡ 0 → ⊥) → Acts t was x c r was
   acts-refused d =
-      let p = sym check ∙ ap (λ (b : Bool). refuseIf r (not b)) (ne-eqb r 0 d) in
+      let p = sym check ∙ refusal-refuses r d in
       record { check = check; state = sym (ap (λ (o : Outcome). o .state) (outcome-refused was 0 done (firstOf (actChecks t was x c)) p)) }

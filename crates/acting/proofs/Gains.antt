@@ -92,7 +92,7 @@ module _ (t : Table) (was : List ℕ) (x : ℕ) where
           (and-both (isGuard (kindAt t b) && hasMark marks b) (reads t b k) (and-both (isGuard (kindAt t b)) (hasMark marks b) (n .1) (c .guards b (n .1) ∙ w .1)) (w .2))
 
 -- WHAT AN ACTION'S EXPRESSION READS
-module _ (t : Table) (was : List ℕ) (x : ℕ) (label : Label) where
+module _ (t : Table) (label : Label) where
   pub label-none : label ≡ Ticking → (w : ℕ) → Adds (labelReads t label) w w
   label-none e w = adds-none (λ k l. ap (λ (d : Label). labelReads t d k) e)
 

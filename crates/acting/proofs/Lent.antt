@@ -6,8 +6,9 @@ use mathlib.Core.List.{List, _++_}
 use native.Mathlib.Omega.{arith}
 use lib.ListN.{length, set, take, drop}
 use Rattle.table.specs.Tables.{Table}
+use Rattle.term.specs.Processes.{derivationAt, process}
 use Rattle.term.specs.Terms.{words}
-use Rattle.residual.specs.Wholes.{Whole, Taking, Rewritten, residualTerm, taken}
+use Rattle.residual.specs.Wholes.{Whole, Taking, Rewritten, residualTerm}
 use Rattle.state.specs.Layout.{residualAt, residualWords, lengthAt, lengthOf, residualOf}
 use Rattle.state.proofs.Residuals.{residual-length}
 use Rattle.steps.specs.Acts.{chosen, leave}
@@ -17,7 +18,7 @@ use Rattle.acting.specs.Acting.{Leaving}
 
 -- what `rewrite` asks of words and their number
 abbrev pub Lends : Table → ℕ → ℕ → List ℕ → Type 0
-Lends t c size ws = Whole t size ws × (Taking t (residualTerm size ws) c × (length (words (taken t (residualTerm size ws) c .leaving)) ≤ length ws))
+Lends t c size ws = Whole t size ws × (Taking t (residualTerm size ws) c × (length (words (derivationAt (process t (residualTerm size ws)) c .leaving)) ≤ length ws))
 
 module _ (t : Table) (s : List ℕ) (x c : ℕ) (l : Leaving t s x c) where
   long : length (residualOf s x) ≡ residualWords
@@ -32,7 +33,7 @@ module _ (t : Table) (s : List ℕ) (x c : ℕ) (l : Leaving t s x c) where
           (record { few = l .few; choice = l .there }, omega (arith, long, l .short)),
         )
 
-    module _ (r : ℕ) (out : List ℕ) (w : Rewritten (words (taken t (residualTerm size (take n (drop at s))) c .leaving)) (take n (drop at s)) r out) where
+    module _ (r : ℕ) (out : List ℕ) (w : Rewritten (words (derivationAt (process t (residualTerm size (take n (drop at s)))) c .leaving)) (take n (drop at s)) r out) where
       back : Rewritten (words (chosen t s x c .leaving)) (residualOf s x) r out
       back = rw (begins, all, sized) at w
 

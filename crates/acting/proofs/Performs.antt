@@ -8,15 +8,15 @@ use native.Mathlib.Omega.{arith}
 use lib.ListN.{length, set, length-set}
 use borrow.Author.Tests.{eq-eqb}
 use Rattle.basis.specs.KeySets.{plusAll}
+use Rattle.basis.specs.Kinds as kind
 use Rattle.table.specs.Tables.{Table, kindAt, pAt, firstRoot}
 use Rattle.term.specs.declared.Label.{Label}
 use Rattle.term.specs.declared.Label.the-variants.{Ticking, Acting}
 use Rattle.term.specs.Terms.{Term, words}
-use Rattle.term.specs.Processes.{Derivation}
+use Rattle.term.specs.Processes.{Derivation, derivationAt, process}
 use Rattle.term.specs.Accepted.{ActionNode, Labelled}
 use Rattle.term.proofs.Inside.{Inside as InsideTable}
 use Rattle.choice.specs.Turns.{Prepared}
-use Rattle.residual.specs.Wholes.{taken}
 use Rattle.state.specs.declared.Store.{Store}
 use Rattle.state.specs.Layout.{zcAt, keyLimit, residualWords, zcOf, termIn}
 use Rattle.state.proofs.Places.{Place, Zc, Zp, Clock, Mark, Word, Waits, Length, Residual, Inside, same}
@@ -30,10 +30,6 @@ use Rattle.steps.proofs.Acts.{chosen-inside, action-key, set-tick, set-key-othe
 use Rattle.judging.specs.Outcomes.{wordFor}
 use Rattle.acting.specs.Acting.{Decided, Leaving, Setting}
 use Rattle.acting.specs.Gaining.{LabelKey, Gaining, Gains}
-
-label-back : (l : Label) → l ≡ l
-label-back Ticking = refl
-label-back (Acting n) = refl
 
 -- a place that no setting of a key of agent x changes
 record Still (x : ℕ) (q : Place) : Type 0 where
@@ -65,14 +61,11 @@ module _ (t : Table) (scratch : List ℕ) (ready : Prepared t scratch) (was : Li
     able : Able t was x c
     able = act-able t was x c .0 (d .able)
 
-    label : label ≡ D .label
-    label = ap (d .label) ∙ label-back (D .label)
-
     inside : InsideTable t D
     inside = chosen-inside t was x (ready .checked .sound) (formed .over) c (able .there)
 
     labelled : Labelled t label
-    labelled = subst (Labelled t) (sym label) (inside .label)
+    labelled = subst (Labelled t) (sym (d .label)) (inside .label)
 
     within : (e : Label) → Labelled t e → LabelKey t e
     within Ticking h = tt
@@ -84,7 +77,7 @@ module _ (t : Table) (scratch : List ℕ) (ready : Prepared t scratch) (was : Li
 
     pub decided-setting : (n : ℕ) → label ≡ Acting n → Setting t was x n v
     decided-setting n e =
-        let l : Acting n ≡ D .label = sym (ap e) ∙ label in
+        let l : Acting n ≡ D .label = sym e ∙ d .label in
         let a : ActionNode t n = subst (Labelled t) (sym l) (inside .label) in
         record {
           shaped = ready .checked .sound .shaped;
@@ -92,7 +85,7 @@ module _ (t : Table) (scratch : List ℕ) (ready : Prepared t scratch) (was : Li
           agent = low;
           action = a;
           key = action-key t was x (ready .checked .sound) n a;
-          room = λ k. able .room (ap (writesEntry t) (sym l) ∙ eq-eqb (kindAt t n) 3 k);
+          room = λ k. able .room (ap (writesEntry t) (sym l) ∙ eq-eqb (kindAt t n) kind.setStigmergy k);
           value = d .value ∙ ap (wordFor t was x) (sym l);
         }
 
@@ -117,7 +110,7 @@ module _ (t : Table) (scratch : List ℕ) (ready : Prepared t scratch) (was : Li
       same-term = term-same s was x long same-size same-words
 
       same-chosen : chosen t s x c ≡ chosen t was x c
-      same-chosen = ap (λ (T : Term). taken t T c) same-term
+      same-chosen = ap (λ (T : Term). derivationAt (process t T) c) same-term
 
       pub decided-leaving : Leaving t s x c
       decided-leaving = record {
@@ -133,12 +126,12 @@ module _ (t : Table) (scratch : List ℕ) (ready : Prepared t scratch) (was : Li
       zc-empty = key-still (Waits Zc x) (record { inside = tt; clock = refl; waits = refl; mark = λ store k. refl; word = λ store k. refl }) ∙ able .confirmed
 
       is-key-set : keySet ≡ setKey t was x (D .label)
-      is-key-set = set-key ∙ ap (setKey t was x) label
+      is-key-set = set-key ∙ ap (setKey t was x) (d .label)
 
       -- the residual comes last
       pub decided-acted : Gains t was x marks label g → (out : List ℕ) → out ≡ leave x (words (chosen t s x c .leaving)) s → out ≡ acted t was x (chosen t was x c)
       unfolding acted
       decided-acted gains out o =
-          let e : g ≡ plusAll (toConfirm t was x D) keyLimit (zcOf keySet x) = gains D label (d .guards) ∙ ap (plusAll (toConfirm t was x D) keyLimit) (sym zc-empty) in
+          let e : g ≡ plusAll (toConfirm t was x D) keyLimit (zcOf keySet x) = gains D (d .label) (d .guards) ∙ ap (plusAll (toConfirm t was x D) keyLimit) (sym zc-empty) in
           o ∙ ap₂ (λ (e : Derivation) (u : List ℕ). leave x (words (e .leaving)) u) same-chosen
           (set-zc ∙ ap (set keySet (zcAt x)) e ∙ ap (λ (u : List ℕ). set u (zcAt x) (plusAll (toConfirm t was x D) keyLimit (zcOf u x))) is-key-set)

@@ -6,7 +6,8 @@ use mathlib.Core.List.{List}
 use native.Mathlib.Omega.{arith}
 use Rattle.term.specs.declared.Label.{Label}
 use Rattle.term.specs.declared.Label.the-variants.{Ticking, Acting}
-use Rattle.table.specs.Tables.{Table, kindAt, pAt}
+use Rattle.basis.specs.Kinds as kinds
+use Rattle.table.specs.Tables.{Table, kindAt, pAt, agentLimit}
 use Rattle.state.specs.declared.Store.{Store}
 use Rattle.state.specs.declared.Store.the-variants.{Environment, Attributes, Entries}
 use Rattle.state.specs.Layout.{put}
@@ -15,22 +16,22 @@ use Rattle.steps.proofs.Acts.{store-attribute, store-entry, store-environment, 
 use Rattle.acting.specs.Acting.{Stored, Setting}
 
 -- the store, by the kind
-module _ (x : ℕ) (there : x < 32) where
-  pub stored-attribute : (kind : ℕ) → kind ≡ 2 → Stored kind x (Attributes x)
-  stored-attribute kind e = record { is = λ t was n f. sym (store-attribute t was x n (f ∙ e)); agent = there }
+module _ (x : ℕ) (there : x < agentLimit) where
+  pub stored-attribute : (kind : ℕ) → kind ≡ kinds.setAttribute → Stored kind x (Attributes x)
+  stored-attribute kind e = record { is = λ t n f. sym (store-attribute t x n (f ∙ e)); agent = there }
 
-  pub stored-entry : (kind : ℕ) → kind ≡ 3 → Stored kind x (Entries x)
-  stored-entry kind e = record { is = λ t was n f. sym (store-entry t was x n (f ∙ e)); agent = there }
+  pub stored-entry : (kind : ℕ) → kind ≡ kinds.setStigmergy → Stored kind x (Entries x)
+  stored-entry kind e = record { is = λ t n f. sym (store-entry t x n (f ∙ e)); agent = there }
 
-  pub stored-environment : (kind : ℕ) → kind ≡ 4 → Stored kind x Environment
-  stored-environment kind e = record { is = λ t was n f. sym (store-environment t was x n (f ∙ e)); agent = omega arith }
+  pub stored-environment : (kind : ℕ) → kind ≡ kinds.setEnvironment → Stored kind x Environment
+  stored-environment kind e = record { is = λ t n f. sym (store-environment t x n (f ∙ e)); agent = omega arith }
 
 module _ (t : Table) (s : List ℕ) (x n v : ℕ) (a : Setting t s x n v) (k : ℕ) (key : k ≡ pAt t n) (out : List ℕ) where
   pub entered-is : kindAt t n ≡ 3 → out ≡ entered s x k v → out ≡ setKey t s x (Acting n)
   entered-is e o = o ∙ rw (set-entry t s x n e, key, a .value)
 
   pub stored-is : (kindAt t n ≡ 3 → ⊥) → (store : Store) → Stored (kindAt t n) x store → out ≡ put store k v 1 s → out ≡ setKey t s x (Acting n)
-  stored-is d store h o = let e = h .is t s n refl in o ∙ rw (set-value t s x n d, e, key, a .value)
+  stored-is d store h o = let e = h .is t n refl in o ∙ rw (set-value t s x n d, e, key, a .value)
 
 -- what an act does
 module _ (t : Table) (s : List ℕ) (x : ℕ) (label : Label) where

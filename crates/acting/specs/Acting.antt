@@ -4,8 +4,9 @@ use mathlib.Core.Bool.{true}
 use mathlib.Core.Path.{_≡_}
 use mathlib.Core.List.{List}
 use lib.ListN.{length, set}
+use Rattle.basis.specs.Kinds as kind
 use Rattle.table.specs.Checks.{passes, firstOf, refusalCheck}
-use Rattle.table.specs.Tables.{Table, kindAt, pAt}
+use Rattle.table.specs.Tables.{Table, kindAt, pAt, agentLimit}
 use Rattle.table.specs.Sound.{Shaped}
 use Rattle.term.specs.declared.Label.{Label}
 use Rattle.term.specs.Terms.{words}
@@ -14,7 +15,7 @@ use Rattle.term.specs.Processes.{allFew}
 use Rattle.term.specs.Accepted.{ActionNode}
 use Rattle.state.specs.declared.Store.{Store}
 use Rattle.state.specs.declared.Store.the-variants.{Entries}
-use Rattle.state.specs.Layout.{clockAt, zpAt, keyLimit, residualWords, clockOf, termIn, put, addKey}
+use Rattle.state.specs.Layout.{clockAt, zpAt, keyLimit, residualWords, clockOf, termIn, put, addKey, clockLimit}
 use Rattle.state.specs.Standing.{storeAgent}
 use Rattle.state.specs.WellFormed.{residualFormed}
 use Rattle.steps.specs.Acts.{nextStamp, wordIn, valueFor, choices, actChecks, chosen, storeOf, acted}
@@ -30,14 +31,14 @@ pub record Acts (t : Table) (was : List ℕ) (x c r : ℕ) (s : List ℕ) : Type
 -- choice c of agent x can be done: this is what it does, the word that it sets, and the marks of its guards
 pub record Decided (t : Table) (was : List ℕ) (x c : ℕ) (marks : List ℕ) (d : Label) (v : ℕ) : Type 0 where
   pub able : firstOf (actChecks t was x c) ≡ passes
-  pub label : d ≡ (chosen t was x c .label)
+  pub label : d ≡ chosen t was x c .label
   pub value : v ≡ wordFor t was x (chosen t was x c .label)
   pub guards : GuardsMarked t (chosen t was x c .guards) marks
 
 -- what choice c of agent x's residual leaves has room
 pub record Leaving (t : Table) (s : List ℕ) (x c : ℕ) : Type 0 where
   pub whole : length s ≡ stateWords
-  pub agent : x < 32
+  pub agent : x < agentLimit
   pub formed : residualFormed t s x ≡ true
   pub few : allFew t (termIn s x) ≡ true
   pub there : c < length (choices t s x)
@@ -46,21 +47,21 @@ pub record Leaving (t : Table) (s : List ℕ) (x c : ℕ) : Type 0 where
 -- agent x can write to stigmergy key k
 pub record Entering (s : List ℕ) (x k : ℕ) : Type 0 where
   pub whole : length s ≡ stateWords
-  pub agent : x < 32
+  pub agent : x < agentLimit
   pub key : k < keyLimit
-  pub room : clockOf s < 65535
+  pub room : clockOf s < clockLimit
 
 -- the store that an action of a kind sets
 pub record Stored (kind x : ℕ) (r : Store) : Type 0 where
-  pub is : (t : Table) (was : List ℕ) (n : ℕ) → kindAt t n ≡ kind → r ≡ storeOf t x n
-  pub agent : storeAgent r < 32
+  pub is : (t : Table) (n : ℕ) → kindAt t n ≡ kind → r ≡ storeOf t x n
+  pub agent : storeAgent r < agentLimit
 
 -- action n of agent x sets its key to word v
 pub record Setting (t : Table) (s : List ℕ) (x n v : ℕ) : Type 0 where
   pub shaped : Shaped t
   pub whole : length s ≡ stateWords
-  pub agent : x < 32
+  pub agent : x < agentLimit
   pub action : ActionNode t n
   pub key : pAt t n < keyLimit
-  pub room : kindAt t n ≡ 3 → clockOf s < 65535
+  pub room : kindAt t n ≡ kind.setStigmergy → clockOf s < clockLimit
   pub value : v ≡ wordIn (valueFor t s x n)

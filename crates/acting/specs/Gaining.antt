@@ -7,7 +7,7 @@ use lib.Dec.{ltb}
 use lib.ListN.{length}
 use Rattle.basis.specs.Numbers.{someBelow}
 use Rattle.basis.specs.KeySets.{has, plusAll}
-use Rattle.table.specs.Tables.{Table, kindAt}
+use Rattle.table.specs.Tables.{Table, kindAt, agentLimit}
 use Rattle.table.specs.Nodes.{isGuard}
 use Rattle.table.specs.Sound.{Shaped}
 use Rattle.term.specs.declared.Label.{Label}
@@ -41,7 +41,7 @@ LabelKey t (Acting n) = n < t .sizes .nodes
 pub record Gaining (t : Table) (s : List ℕ) (x : ℕ) (marks : List ℕ) (label : Label) : Type 0 where
   pub shaped : Shaped t
   pub whole : length s ≡ stateWords
-  pub agent : x < 32
+  pub agent : x < agentLimit
   pub room : t .sizes .nodes ≤ length marks
   pub within : LabelKey t label
 

@@ -1,3 +1,2 @@
 pub mod Acting
-pub mod Gaininguse Rattle.term.specs.declared.Label.the-variants.{Acting}
-
+pub mod Gaining

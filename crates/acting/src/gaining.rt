@@ -14,7 +14,7 @@ ghost use mathlib.Core.List.{List};
 ghost use Prim.Native.Nat.{ℕ, _^_, _<_, _≤_};
 ghost use lib.ListN.{length};
 ghost use Rattle.basis.specs.KeySets.{plusAll};
-ghost use Rattle.table.specs.Tables.{table};
+ghost use Rattle.table.specs.Tables.{table, agentLimit};
 ghost use Rattle.table.specs.Sound.{Shaped};
 ghost use Rattle.term.specs.Acceptance.{stateWords};
 ghost use Rattle.state.specs.Layout.{keyLimit};
@@ -24,7 +24,7 @@ ghost use Rattle.acting.specs.Gaining.{hasEntry, markedReadsAt, markedRe
 
 // Of a set of keys, those that have an entry of an agent.
 fn with_entry(state: &[u32], agent: usize, keys: u32) -> u32
-    requires { ⌜ (length (now state) ≡ stateWords) × (agent < 32) ⌝ }
+    requires { ⌜ (length (now state) ≡ stateWords) × (agent < agentLimit) ⌝ }
     ensures { λ r. ⌜ r ≡ plusAll (hasEntry (now (state .entry)) agent keys) keyLimit 0 ⌝ }
 {
     let mut found = 0;
@@ -74,7 +74,7 @@ fn guard_keys(sizes: Sizes, kinds: &[u8], operands: &[u8], marks: &[u8]) -> u32
 // The set with the keys that an action's expression reads; a tick has none.
 fn label_keys(sizes: Sizes, kinds: &[u8], operands: &[u8], label: Label, keys: u32) -> u32
     requires { ⌜ Shaped (table sizes (now kinds) (now operands)) × LabelKey (table sizes (now kinds) (now operands)) label × (keys < 2 ^ keyLimit) ⌝ }
-    ensures { λ r. ⌜ ((was : List ℕ) (x : ℕ) → Adds (labelReads (table sizes (now (kinds .entry)) (now (operands .entry))) label) keys r) ⌝ }
+    ensures { λ r. ⌜ Adds (labelReads (table sizes (now (kinds .entry)) (now (operands .entry))) label) keys r ⌝ }
 {
     match label {
         Label::Ticking => keys,

@@ -9,20 +9,21 @@ use table::Sizes;
 use table::p_at;
 ghost use mathlib.Core.Path.{_≡_};
 ghost use Prim.Native.Nat.{ℕ, _<_, _≤_};
+ghost use Rattle.basis.specs.Kinds as kinds;
+ghost use Rattle.table.specs.Tables.{table, agentLimit};
 ghost use Rattle.term.specs.declared.Label.the-variants.{Acting};
-ghost use Rattle.table.specs.Tables.{table};
 ghost use Rattle.steps.specs.Acts.{entered, setKey};
 ghost use Rattle.acting.specs.Acting.{Stored, Entering, Setting};
 
 // The store that an action of a kind sets.
 fn store_of(kind: u8, agent: usize) -> Store
-    requires { ⌜ (2 ≤ kind) × (kind ≤ 4) × (agent < 32) ⌝ }
+    requires { ⌜ (kinds.setAttribute ≤ kind) × (kind ≤ kinds.setEnvironment) × (agent < agentLimit) ⌝ }
     ensures { λ r. ⌜ Stored kind agent r ⌝ }
 {
-    if kind == 2 {
+    if kind == basis::kinds::SET_ATTRIBUTE {
         return Store::Attributes(agent);
     }
-    if kind == 3 {
+    if kind == basis::kinds::SET_STIGMERGY {
         return Store::Entries(agent);
     }
     Store::Environment
@@ -55,7 +56,7 @@ fn set_key(
 {
     let key = p_at(operands, node);
     let kind = kinds[node];
-    if kind == 3 {
+    if kind == basis::kinds::SET_STIGMERGY {
         write_entry(state, agent, key, value);
     } else {
         let store = store_of(kind, agent);

@@ -8,7 +8,7 @@ use table::Sizes;
 ghost use mathlib.Core.Path.{_≡_};
 ghost use Prim.Native.Nat.{_<_};
 ghost use lib.ListN.{length, set};
-ghost use Rattle.table.specs.Tables.{table};
+ghost use Rattle.table.specs.Tables.{table, agentLimit};
 ghost use Rattle.term.specs.Acceptance.{stateWords};
 ghost use Rattle.choice.specs.Turns.{Prepared};
 ghost use Rattle.state.specs.Layout.{zcAt};
@@ -18,7 +18,7 @@ ghost use Rattle.acting.specs.Acting.{Decided};
 
 // An agent's Zc becomes a set of keys.
 fn set_zc(state: &mut [u32], agent: usize, keys: u32)
-    requires { ⌜ (length (now state) ≡ stateWords) × (agent < 32) ⌝ }
+    requires { ⌜ (length (now state) ≡ stateWords) × (agent < agentLimit) ⌝ }
     ensures { λ _. ⌜ now (state .exit) ≡ set (now (state .entry)) (zcAt agent) keys ⌝ }
 {
     let at = zc_at(agent);

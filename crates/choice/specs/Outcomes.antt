@@ -18,6 +18,6 @@ most level n = 2 * reach level n + 1
 
 -- an outcome is that of derivation d, and leaves at most so many words
 pub record Tells (d : Derivation) (limit : ℕ) (r : Effect) : Type 0 where
-  pub label : (r .label) ≡ d .label
+  pub label : r .label ≡ d .label
   pub size : r .size ≡ length (words (d .leaving))
   pub bound : r .size ≤ limit

@@ -124,12 +124,12 @@ module _ {t : Table} {scratch was : List ℕ} {x size : ℕ} {ws : List ℕ} (po
         agent-14 e = judges-14 t was x c (posed .confirmed) (posed .propagated) (takes .few) (takes .choice) (sym (asked (chosen t was x c .guards) guards) ∙ e) out
 
         pub agent-last : held ≡ true → {limit : ℕ} (o : Effect) → Tells (derivationAt (process t (residualTerm size ws)) c) limit o
-            → (r : Judgement) → r ≡ ended t was x ((o .label)) (o .size) → Judges t was x c out r
+            → (r : Judgement) → r ≡ ended t was x (o .label) (o .size) → Judges t was x c out r
         agent-last e {limit} o tells =
             judges-last t was x c (posed .confirmed) (posed .propagated) (takes .few) (takes .choice) (sym (asked (chosen t was x c .guards) guards) ∙ e) out guards o
             (subst (λ (d : Derivation). Tells d limit o) taken-is tells)
 
-    pub agent-doing : {limit : ℕ} (o : Effect) → Tells (derivationAt (process t (residualTerm size ws)) c) limit o → Doing t was x ((o .label))
+    pub agent-doing : {limit : ℕ} (o : Effect) → Tells (derivationAt (process t (residualTerm size ws)) c) limit o → Doing t was x (o .label)
     agent-doing o tells =
         record {
           situated = situated;

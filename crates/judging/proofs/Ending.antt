@@ -9,7 +9,7 @@ use Rattle.term.specs.declared.Label.{Label}
 use Rattle.term.specs.declared.Label.the-variants.{Ticking, Acting}
 use Rattle.value.specs.declared.Value.the-variants.{Absent, Present}
 use Rattle.table.proofs.Checks.{first-refuses, first-later, none-passes}
-use Rattle.table.specs.Checks.{Check, refuseIf, firstOf}
+use Rattle.table.specs.Checks.{Refusal, refuseIf, firstOf}
 use Rattle.table.specs.Tables.{Table}
 use Rattle.state.specs.Layout.{clockOf, residualWords}
 use Rattle.steps.specs.Acts.{valueFor, isAbsent, wordIn, lacksValue, writesEntry, lastChecks}
@@ -22,7 +22,7 @@ module _ (t : Table) (was : List ℕ) (x : ℕ) (label : Label) (size : ℕ) whe
   ends-absent e r f = f ∙ sym (ap (found t was x label) (first-refuses (refuseIf 15 (lacksValue t was x label)) _ e))
 
   module _ (present : lacksValue t was x label ≡ false) where
-    abbrev long : List Check
+    abbrev long : List Refusal
     long = refuseIf 17 (ltb residualWords size) ∷ []
 
     abbrev full : Bool

@@ -8,8 +8,8 @@ use native.Mathlib.Omega.{arith}
 use lib.Dec.{eqb, leb, ltb}
 use lib.ListN.{length}
 use borrow.Author.Tests.{ne-eqb, le-leb, lt-leb}
-use Rattle.table.proofs.Checks.{first-refuses, first-later}
-use Rattle.table.specs.Checks.{Check, passes, refuses, refuseIf, firstOf, numberOf, refusalCheck}
+use Rattle.table.proofs.Checks.{first-refuses, first-later, refusal-refuses}
+use Rattle.table.specs.Checks.{Check, passes, refuses, Refusal, refuseIf, firstOf, numberOf, refusalCheck}
 use Rattle.table.specs.Tables.{Table}
 use Rattle.term.specs.declared.Label.{Label}
 use Rattle.term.specs.Terms.{words}
@@ -30,16 +30,16 @@ module _ (t : Table) (was : List ℕ) (x c : ℕ) where
   held = allHold t was x (chosen t was x c .guards)
 
   -- the checks from 15, 14, 13 and 12 on
-  abbrev from15 : List Check
+  abbrev from15 : List Refusal
   from15 = lastChecks t was x (chosen t was x c .label) (length (words (chosen t was x c .leaving)))
 
-  abbrev from14 : List Check
+  abbrev from14 : List Refusal
   from14 = refuseIf 14 (not held) ∷ from15
 
-  abbrev from13 : List Check
+  abbrev from13 : List Refusal
   from13 = refuseIf 13 (leb (length (choices t was x)) c) ∷ from14
 
-  abbrev from12 : List Check
+  abbrev from12 : List Refusal
   from12 = refuseIf 12 (not (allFew t (termIn was x))) ∷ from13
 
   judges-refused : (number : ℕ) → firstOf (actChecks t was x c) ≡ refuses number 0 → (marks : List ℕ) (r : Judgement) → r ≡ refusedBy number → Judges t was x c marks r
@@ -76,7 +76,7 @@ module _ (t : Table) (was : List ℕ) (x c : ℕ) where
 
         -- 15 to 17, or nothing
         pub judges-last : allHold t was x (chosen t was x c .guards) ≡ true → (marks : List ℕ) → GuardsMarked t (chosen t was x c .guards) marks
-            → {limit : ℕ} (o : Effect) → Tells (chosen t was x c) limit o → (r : Judgement) → r ≡ ended t was x ((o .label)) (o .size) → Judges t was x c marks r
+            → {limit : ℕ} (o : Effect) → Tells (chosen t was x c) limit o → (r : Judgement) → r ≡ ended t was x (o .label) (o .size) → Judges t was x c marks r
         unfolding judged
         judges-last e marks guards o tells r ends =
             record {
@@ -86,16 +86,16 @@ module _ (t : Table) (was : List ℕ) (x c : ℕ) where
             }
 
 -- BY ITS NUMBER: in a list of tests the number tells what the checks come to
-abbrev Told : List Check → Type 0
+abbrev Told : List Refusal → Type 0
 Told cs = refusalCheck (numberOf (firstOf cs)) ≡ firstOf cs
 
 told-none : Told []
 unfolding firstOf
 told-none = refl
 
-told-test : (number : ℕ) → 0 < number → (test : Bool) (cs : List Check) → Told cs → Told (refuseIf number test ∷ cs)
+told-test : (number : ℕ) → 0 < number → (test : Bool) (cs : List Refusal) → Told cs → Told (refuseIf number test ∷ cs)
 unfolding firstOf
-told-test number pos true cs h = refuseIf-true number (not (eqb number 0)) (ap not (ne-eqb number 0 (λ e. omega arith)))
+told-test number pos true cs h = refusal-refuses number (λ e. omega arith)
 told-test number pos false cs h = h
 
 module _ (t : Table) (was : List ℕ) (x c : ℕ) where

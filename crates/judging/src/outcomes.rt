@@ -56,7 +56,7 @@ fn judge_action(
     match value {
         Value::Absent => refused(15),
         Value::Present(word) => {
-            if (kinds[n] == 3) & (65535 <= state[CLOCK]) {
+            if (kinds[n] == basis::kinds::SET_STIGMERGY) & (state::CLOCK_LIMIT <= state[CLOCK]) {
                 return refused(16);
             }
             sized(Label::Acting(n), word, size)
@@ -73,8 +73,8 @@ pub fn judge_outcome(
     agent: usize,
     o: Effect,
 ) -> Judgement
-    requires { ⌜ Doing (table sizes (now kinds) (now operands)) (now state) agent ((o .label)) ⌝ }
-    ensures { λ r. ⌜ r ≡ ended (table sizes (now (kinds .entry)) (now (operands .entry))) (now (state .entry)) agent ((o .label)) (o .size) ⌝ }
+    requires { ⌜ Doing (table sizes (now kinds) (now operands)) (now state) agent (o .label) ⌝ }
+    ensures { λ r. ⌜ r ≡ ended (table sizes (now (kinds .entry)) (now (operands .entry))) (now (state .entry)) agent (o .label) (o .size) ⌝ }
 {
     let label = o.label;
     let size = o.size;

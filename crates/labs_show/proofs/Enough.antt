@@ -81,13 +81,13 @@ module _ (table : List ℕ) (h : 12 ≤ length table) (many : 4096 < u16At table
 
   size-refuses : firstOf (sizeChecks table) ≡ refuses 2 0
   size-refuses =
-      first-later (refuseIf 1 (ltb (length table) 12)) _ ((le-ltb (length table) 12 h))
-      ∙ first-refuses (refuseIf 2 (not (withinLimits (sizesOf table)))) _ ((ap not (outside (withinLimits (sizesOf table)) refl)))
+      first-later (refuseIf 1 (ltb (length table) headerBytes)) _ (le-ltb (length table) headerBytes h)
+      ∙ first-refuses (refuseIf 2 (not (withinLimits (sizesOf table)))) _ (ap not (outside (withinLimits (sizesOf table)) refl))
 
   load-refuses-2 : (was : List ℕ) (scratch : ℕ) → loadOf table was scratch .check ≡ refuses 2 0
   load-refuses-2 was scratch =
       outcome-check was 0 (loaded (tableOf table)) (firstOf (tableChecks table (length was) scratch))
-      ∙ append-refuses (lengthChecks table (length was) scratch) (contentChecks (tableOf table)) (append-refuses (sizeChecks table) _ size-refuses)
+      ∙ append-refuses (sizeChecks table) _ size-refuses
 
 -- THE INPUT. The sizes are read from its first bytes
 same-nodes : (n : ℕ) (input : List ℕ) → 2 ≤ n → u16At (take n input) 0 ≡ u16At input 0

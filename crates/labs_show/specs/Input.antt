@@ -6,16 +6,18 @@ use mathlib.Core.List.{List}
 use lib.Dec.{ltb}
 use lib.ListN.{length}
 use Rattle.basis.specs.Bytes.{u16At}
+use Rattle.table.specs.Tables.{headerBytes}
+use Rattle.steps.specs.Runs.{stepLimit}
 
 -- the first 12 + 5N bytes, or all if fewer; where there is no whole header, all
 abbrev pub tableEnd : List ℕ → ℕ
 tableEnd input =
-    cond (ltb (length input) 12) (length input)
-    (cond (ltb (12 + 5 * u16At input 0) (length input)) (12 + 5 * u16At input 0) (length input))
+    cond (ltb (length input) headerBytes) (length input)
+    (cond (ltb (headerBytes + 5 * u16At input 0) (length input)) (headerBytes + 5 * u16At input 0) (length input))
 
 -- one byte more than the longest input that can be done: a table of 4,096 nodes and a schedule of 8,192 steps
 abbrev pub inputBytes : ℕ
-inputBytes = 12 + 5 * 4096 + 2 + 5 * 8192 + 1
+inputBytes = headerBytes + 5 * 4096 + 2 + 5 * stepLimit + 1
 
 pub record TableEnd (input : List ℕ) (r : ℕ) : Type 0 where
   pub is : r ≡ tableEnd input

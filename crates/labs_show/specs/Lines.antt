@@ -5,6 +5,7 @@ use mathlib.Core.Path.{_≡_}
 use mathlib.Core.List.{List}
 use lib.IntN.{ℤ, pos, negsuc}
 use lib.ListN.{length, getD}
+use Rattle.table.specs.Tables.{agentLimit}
 use Rattle.term.specs.Acceptance.{stateWords}
 use Rattle.state.specs.Layout.{agentsAt}
 use Rattle.labs_show.specs.declared.lines.Decimal.{Decimal}
@@ -12,7 +13,7 @@ use Rattle.labs_show.specs.declared.lines.Decimal.{Decimal}
 -- words of a state, with a number of agents that they have room for
 pub record Fleet (state : List ℕ) : Type 0 where
   pub whole : length state ≡ stateWords
-  pub agents : getD state agentsAt 0 ≤ 32
+  pub agents : getD state agentsAt 0 ≤ agentLimit
 
 -- `negsuc n` is -(n + 1)
 abbrev pub decimalOf : ℤ → Decimal

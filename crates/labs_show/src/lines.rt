@@ -12,6 +12,7 @@ use value::Value;
 ghost use mathlib.Core.Path.{_≡_};
 ghost use Prim.Native.Nat.{_<_, _≤_};
 ghost use lib.ListN.{length};
+ghost use Rattle.table.specs.Tables.{agentLimit};
 ghost use Rattle.term.specs.Acceptance.{stateWords};
 ghost use Rattle.value.specs.Values.{signedOf};
 ghost use Rattle.state.specs.Standing.{Pair, storeAgent};
@@ -127,7 +128,7 @@ fn print_pair(state: &[u32], store: Store, key: usize)
 }
 
 fn print_store(state: &[u32], store: Store)
-    requires { ⌜ (length (now state) ≡ stateWords) × (storeAgent store < 32) ⌝ }
+    requires { ⌜ (length (now state) ≡ stateWords) × (storeAgent store < agentLimit) ⌝ }
 {
     let mut key = 0;
     while key < KEYS {
@@ -151,7 +152,7 @@ fn print_keys(name: &[u8], agent: usize, keys: u32) {
 }
 
 fn print_agent(state: &[u32], agent: usize)
-    requires { ⌜ (length (now state) ≡ stateWords) × (agent < 32) ⌝ }
+    requires { ⌜ (length (now state) ≡ stateWords) × (agent < agentLimit) ⌝ }
 {
     print_store(state, Store::Attributes(agent));
     print_store(state, Store::Entries(agent));
@@ -160,7 +161,7 @@ fn print_agent(state: &[u32], agent: usize)
 }
 
 fn print_agents(state: &[u32], agents: usize)
-    requires { ⌜ (length (now state) ≡ stateWords) × (agents ≤ 32) ⌝ }
+    requires { ⌜ (length (now state) ≡ stateWords) × (agents ≤ agentLimit) ⌝ }
 {
     let mut agent = 0;
     while agent < agents {

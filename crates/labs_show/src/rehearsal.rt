@@ -9,10 +9,10 @@ ghost use Rattle.labs_show.specs.Rehearsal.{Rehearses, rehearsed, rehear
 fn table_end(input: &[u8]) -> usize
     ensures { λ r. ⌜ TableEnd (now (input .entry)) r ⌝ }
 {
-    if input.len() < 12 {
+    if input.len() < table::HEADER_BYTES {
         return input.len();
     }
-    let size = 12 + 5 * basis::u16_at(input, 0);
+    let size = table::HEADER_BYTES + 5 * basis::u16_at(input, 0);
     if size < input.len() {
         size
     } else {

@@ -13,11 +13,11 @@ use Rattle.table.specs.Tables.{Table, table, sizesOf, tableOf}
 use Rattle.table.specs.Sound.{Limits, Shaped}
 use Rattle.table.proofs.Limits.{kinds-part, length-kinds, length-operands}
 use Rattle.table.proofs.Checks.{append-refuses, append-later, first-refuses}
-use Rattle.term.specs.Accepted.{Acceptable as AcceptedTable}
+use Rattle.term.specs.Accepted.{Acceptable}
 use Rattle.term.specs.Acceptance.{stateWords, tableChecks}
 use Rattle.term.proofs.Acceptance.{accepted-passes}
 use Rattle.accept.specs.declared.Acceptance.{Acceptance}
-use Rattle.accept.specs.declared.Acceptance.the-variants.{Acceptable, Refused}
+use Rattle.accept.specs.declared.Acceptance.the-variants.{Accepted, Refused}
 use Rattle.accept.specs.Answers.{acceptanceCheck, Accepts}
 use Rattle.accept.proofs.Answering.{accepted-table, lent-table}
 use Rattle.state.specs.WellFormed.{wellFormed, loaded}
@@ -38,8 +38,8 @@ module _ (was : List ℕ) {bytes before after : List ℕ} {r : Acceptance} (a : 
   accepts-is : (x : Acceptance) → r ≡ x → firstOf (tableChecks bytes (length was) (length before)) ≡ acceptanceCheck x
   accepts-is x e = sym (a .check) ∙ ap (λ (y : Acceptance). acceptanceCheck y) e
 
-  module _ {n : Sizes} (e : r ≡ Acceptable n) where
-    pub accepted-is : AcceptedTable bytes (length was) (length before)
+  module _ {n : Sizes} (e : r ≡ Accepted n) where
+    pub accepted-is : Acceptable bytes (length was) (length before)
     accepted-is = accepted-table a e
 
     pub accepted-limits : Limits n
@@ -74,16 +74,16 @@ module _ (was : List ℕ) {bytes before after : List ℕ} {r : Acceptance} (a : 
     pub open-broken : (wellFormed (tableOf bytes) was ≡ false) → Opens bytes was before after (Refused 9 0)
     open-broken f =
         record {
-          check = sym (append-later (tableChecks bytes (length was) (length before)) (refuseIf 9 (not (wellFormed (tableOf bytes) was)) ∷ []) (accepts-is (Acceptable n) e)
+          check = sym (append-later (tableChecks bytes (length was) (length before)) (refuseIf 9 (not (wellFormed (tableOf bytes) was)) ∷ []) (accepts-is (Accepted n) e)
               ∙ first-refuses (refuseIf 9 (not (wellFormed (tableOf bytes) was))) [] (ap not f));
           opened = λ m g. absurd (let z : _≡_ {A = ℕ} 0 1 = cc in omega arith);
         }
 
-    pub open-formed : Small was → (wellFormed (tableOf bytes) was ≡ true) → Opens bytes was before after (Acceptable n)
+    pub open-formed : Small was → (wellFormed (tableOf bytes) was ≡ true) → Opens bytes was before after (Accepted n)
     unfolding firstOf
     open-formed small f =
         record {
-          check = sym (append-later (tableChecks bytes (length was) (length before)) (refuseIf 9 (not (wellFormed (tableOf bytes) was)) ∷ []) (accepts-is (Acceptable n) e)
+          check = sym (append-later (tableChecks bytes (length was) (length before)) (refuseIf 9 (not (wellFormed (tableOf bytes) was)) ∷ []) (accepts-is (Accepted n) e)
               ∙ rw f);
           opened = λ m g. let h : m ≡ n = cc in record {
             sizes = h ∙ a .sizes n e;

@@ -15,7 +15,7 @@ use Rattle.state.specs.WellFormed.{Proper}
 use Rattle.state.proofs.Formed.{proper-facts, facts-proper}
 use Rattle.steps.specs.Offers.{takes}
 use Rattle.steps.specs.Steps.{Outcome, outcome, outOfRange, ownChecks, takenBy, after, stepIn}
-use Rattle.steps.specs.Runs.{Progress, begun, ran, kindOf, agentOf, numberIn, tallied as addedTo}
+use Rattle.steps.specs.Runs.{Progress, begun, ran, kindOf, agentOf, numberIn, added}
 use Rattle.steps.proofs.Proper.{step-proper}
 use Rattle.machine.specs.declared.Stepped.{Stepped}
 use Rattle.machine.specs.declared.Totals.{Totals}
@@ -62,9 +62,9 @@ module _ (t : Table) (schedule was bytes : List ℕ) where
     abbrev stepped : List ℕ → Outcome
     stepped u = stepIn t u (kindOf schedule i) (agentOf schedule i) (numberIn schedule i)
 
-    one-more : ran t schedule (i + 1) (begun was bytes) ≡ addedTo i p (stepped (p .state))
+    one-more : ran t schedule (i + 1) (begun was bytes) ≡ added i p (stepped (p .state))
     unfolding ran
-    one-more = forEach-more (λ (j : ℕ) (q : Progress). addedTo j q (stepIn t (q .state) (kindOf schedule j) (agentOf schedule j) (numberIn schedule j))) i (begun was bytes)
+    one-more = forEach-more (λ (j : ℕ) (q : Progress). added j q (stepIn t (q .state) (kindOf schedule j) (agentOf schedule j) (numberIn schedule j))) i (begun was bytes)
 
     same-step : stepped s ≡ stepped (p .state)
     same-step = ap (λ (u : List ℕ). stepped u) (h .goes .state)
@@ -79,7 +79,7 @@ module _ (t : Table) (schedule was bytes : List ℕ) where
       taken-is : stepTaken r ≡ stepped (p .state) .taken
       taken-is = e .taken ∙ ap (λ (o : Outcome). o .taken) same-step
 
-      totals-is : tallied c r ≡ totals (addedTo i p (stepped (p .state)) .done) (addedTo i p (stepped (p .state)) .refused) (addedTo i p (stepped (p .state)) .taken)
+      totals-is : tallied c r ≡ totals (added i p (stepped (p .state)) .done) (added i p (stepped (p .state)) .refused) (added i p (stepped (p .state)) .taken)
       totals-is =
           ap (λ (d : Totals). tallied d r) (h .goes .totals)
           ∙ (λ j. totals (p .done + cond (passed (check-is j)) 1 0) (p .refused + cond (passed (check-is j)) 0 1) (p .taken + taken-is j))

@@ -9,7 +9,7 @@ use borrow.Author.Tests.{ne-eqb}
 use Rattle.table.specs.declared.Sizes.{Sizes}
 use Rattle.table.specs.Checks.{Check, passes, refuses, firstOf, refusalCheck}
 use Rattle.table.specs.Tables.{Table, table, tableOf}
-use Rattle.table.proofs.Checks.{append-refuses, append-later}
+use Rattle.table.proofs.Checks.{append-refuses, append-later, refusal-refuses}
 use Rattle.accept.specs.declared.Acceptance.{Acceptance}
 use Rattle.accept.specs.declared.Acceptance.the-variants.{Accepted, Refused}
 use Rattle.accept.specs.Answers.{acceptanceCheck}
@@ -81,7 +81,7 @@ module _ {bytes was before after : List ℕ} {r : Acceptance} (a : Opens bytes w
 
       pub run-unscheduled : {refusal : ℕ} → refusalCheck refusal ≡ firstOf (scheduleChecks schedule answers) → (refusal ≡ 0 → ⊥)
           → Runs (runOf bytes was (length before) schedule answers) (RunRefused refusal 0) was answers
-      run-unscheduled {refusal} f d = refused-run (later ∙ sym f ∙ refuseIf-true refusal _ (ap not (ne-eqb refusal 0 d)))
+      run-unscheduled {refusal} f d = refused-run (later ∙ sym f ∙ refusal-refuses refusal d)
 
       pub run-opened : {c : Totals} {left out : List ℕ} → firstOf (scheduleChecks schedule answers) ≡ passes
           → Reports (ran (parts bytes n) schedule (stepsOf schedule) (begun was answers)) c left out → Runs (runOf bytes was (length before) schedule answers) (RunDone c) left out

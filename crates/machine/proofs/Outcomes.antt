@@ -9,7 +9,7 @@ use borrow.Author.Tests.{ne-eqb}
 use Rattle.basis.specs.KeySets.{has}
 use Rattle.table.specs.Checks.{passes, refuses, refuseIf, firstOf, refusalCheck}
 use Rattle.table.specs.Tables.{Table}
-use Rattle.table.proofs.Checks.{first-refuses, first-later}
+use Rattle.table.proofs.Checks.{first-refuses, first-later, refusal-refuses}
 use Rattle.state.specs.Layout.{zcOf, zpOf}
 use Rattle.steps.specs.Acts.{actChecks, chosen, acted}
 use Rattle.steps.specs.Offers.{takers, propagated, confirmed}
@@ -42,7 +42,7 @@ module _ (t : Table) (was : List ℕ) where
 
     pub act-refused : {r : ℕ} → Acts t was x c r now → (r ≡ 0 → ⊥) → Steps (ownStep t was 0 x c) (Refused r 0) now
     act-refused {r} a d =
-        let p : firstOf (actChecks t was x c) ≡ refuses r 0 = sym (a .check) ∙ refuseIf-true r _ (ap not (ne-eqb r 0 d)) in
+        let p : firstOf (actChecks t was x c) ≡ refuses r 0 = sym (a .check) ∙ refusal-refuses r d in
         let f = outcome-refused was 0 (acted t was x (chosen t was x c)) (firstOf (actChecks t was x c)) p in
         record {
           check = sym (ap (λ (o : Outcome). o .check) f);

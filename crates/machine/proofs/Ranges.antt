@@ -3,7 +3,6 @@
 use Prim.Native.Nat.{ℕ, zero, suc, _<_, _≤_}
 use mathlib.Core.Bool.{Bool, true, false, not, _&&_, _||_}
 use mathlib.Core.Path.{_≡_, refl, ap}
-use mathlib.Core.List.{List}
 use native.Mathlib.Omega.{arith}
 use lib.Dec.{ltb, leb, eqb}
 use borrow.Author.Tests.{lt-ltb, le-ltb}
@@ -12,7 +11,7 @@ use Rattle.table.specs.Tables.{Table}
 use Rattle.steps.specs.Steps.{outOfRange}
 use Rattle.machine.specs.Stepping.{offerKind}
 
-module _ (t : Table) (was : List ℕ) (kind x number : ℕ) where
+module _ (t : Table) (kind x number : ℕ) where
   abbrev A : ℕ
   A = t .sizes .agents
 

@@ -5,7 +5,7 @@ use mathlib.Core.List.{List}
 use lib.ListN.{length}
 use Rattle.table.specs.declared.Sizes.{Sizes}
 use Rattle.table.specs.Checks.{firstOf}
-use Rattle.table.specs.Tables.{sizesOf, tableOf}
+use Rattle.table.specs.Tables.{sizesOf, tableOf, headerBytes}
 use Rattle.accept.specs.declared.Acceptance.{Acceptance}
 use Rattle.accept.specs.declared.Acceptance.the-variants.{Accepted}
 use Rattle.accept.specs.Answers.{acceptanceCheck}
@@ -16,7 +16,7 @@ use Rattle.steps.specs.Steps.{stateChecks}
 -- a table, a state, and the words that hold the counts of its nodes
 pub record Open (bytes was scratch : List ℕ) (n : Sizes) : Type 0 where
   pub sizes : n ≡ sizesOf bytes
-  pub size : length bytes ≡ 12 + 5 * n .nodes
+  pub size : length bytes ≡ headerBytes + 5 * n .nodes
   pub ready : Prepared (tableOf bytes) scratch
   pub proper : Proper (tableOf bytes) was
 

@@ -5,7 +5,8 @@ use mathlib.Core.Path.{_≡_}
 use mathlib.Core.List.{List}
 use lib.ListN.{length}
 use Rattle.table.specs.Checks.{Check, passed}
-use Rattle.steps.specs.Runs.{stepsOf}
+use Rattle.table.specs.Tables.{agentLimit}
+use Rattle.steps.specs.Runs.{stepsOf, stepLimit}
 use Rattle.machine.specs.declared.Stepped.{Stepped}
 use Rattle.machine.specs.declared.Totals.{Totals}
 use Rattle.machine.specs.Answers.{stepCheck, stepTaken, totals}
@@ -13,7 +14,7 @@ use Rattle.machine.specs.Answers.{stepCheck, stepTaken, totals}
 -- 19 and 20 have passed
 pub record Runnable (schedule answers : List ℕ) : Type 0 where
   pub size : length schedule ≡ 2 + 5 * stepsOf schedule
-  pub steps : stepsOf schedule ≤ 8192
+  pub steps : stepsOf schedule ≤ stepLimit
   pub room : stepsOf schedule ≤ length answers
 
 -- the totals with one more step
@@ -25,4 +26,4 @@ tallied c r =
 pub record TotalsWithin (n : ℕ) (c : Totals) : Type 0 where
   pub done : c .done ≤ n
   pub refused : c .refused ≤ n
-  pub taken : c .taken ≤ 32 * n
+  pub taken : c .taken ≤ agentLimit * n

@@ -46,7 +46,7 @@ pub fn load(table: &[u8], state: &mut [u32], scratch: &mut [u32]) -> Loaded
     let answer = accept::accept(table, state.len(), scratch);
     match answer {
         Acceptance::Accepted(sizes) => {
-            let operands = 12 + sizes.nodes;
+            let operands = table::HEADER_BYTES + sizes.nodes;
             write_loaded(sizes, &table[operands..], state);
             Loaded::Done
         }
@@ -68,10 +68,10 @@ pub fn step(
     let opened = open(table, state, scratch);
     match opened {
         Acceptance::Accepted(sizes) => {
-            let operands = 12 + sizes.nodes;
+            let operands = table::HEADER_BYTES + sizes.nodes;
             step_in(
                 sizes,
-                &table[12..operands],
+                &table[table::HEADER_BYTES..operands],
                 &table[operands..],
                 scratch,
                 state,
@@ -101,10 +101,10 @@ pub fn run(
             if refusal != 0 {
                 return Ran::Refused(refusal, 0);
             }
-            let operands = 12 + sizes.nodes;
+            let operands = table::HEADER_BYTES + sizes.nodes;
             let totals = run_steps(
                 sizes,
-                &table[12..operands],
+                &table[table::HEADER_BYTES..operands],
                 &table[operands..],
                 scratch,
                 state,

@@ -9,8 +9,8 @@ pub fn open(table: &[u8], state: &[u32], scratch: &mut [u32]) -> Acceptance
     let answer = accept::accept(table, state.len(), scratch);
     match answer {
         Acceptance::Accepted(sizes) => {
-            let operands = 12 + sizes.nodes;
-            if well_formed(sizes, &table[12..operands], state) {
+            let operands = table::HEADER_BYTES + sizes.nodes;
+            if well_formed(sizes, &table[table::HEADER_BYTES..operands], state) {
                 Acceptance::Accepted(sizes)
             } else {
                 Acceptance::Refused(9, 0)

@@ -8,13 +8,16 @@ ghost use mathlib.Core.Path.{_≡_};
 ghost use Prim.Native.Nat.{_+_, _*_, _<_, _≤_};
 ghost use lib.ListN.{length};
 ghost use Rattle.table.specs.Checks.{firstOf, numberOf, refusalCheck};
-ghost use Rattle.table.specs.Tables.{table};
+ghost use Rattle.table.specs.Tables.{table, agentLimit};
 ghost use Rattle.choice.specs.Turns.{Prepared};
 ghost use Rattle.state.specs.WellFormed.{Proper};
 ghost use Rattle.steps.specs.Steps.{stepIn};
-ghost use Rattle.steps.specs.Runs.{stepsOf, kindOf, agentOf, numberIn, scheduleChecks, begun, ran};
+ghost use Rattle.steps.specs.Runs.{stepsOf, kindOf, agentOf, numberIn, scheduleChecks, begun, ran, stepLimit};
 ghost use Rattle.machine.specs.Answers.{stepCheck, stepTaken, Steps, Reports};
 ghost use Rattle.machine.specs.Running.{Runnable, TotalsWithin, tallied};
+
+// Steps that a schedule has at most.
+const STEPS: usize = 8192;
 
 // The refusal of a schedule, or 0.
 pub fn judge_schedule(schedule: &[u8], answers: &[u8]) -> u8
@@ -27,7 +30,7 @@ pub fn judge_schedule(schedule: &[u8], answers: &[u8]) -> u8
     if schedule.len() != 2 + 5 * n {
         return 19;
     }
-    if 8192 < n {
+    if STEPS < n {
         return 19;
     }
     if answers.len() < n {
@@ -71,7 +74,7 @@ fn answer_byte(answer: Stepped) -> u8
 
 // The totals with one more step.
 fn add(totals: Totals, answer: Stepped) -> Totals
-    requires { ⌜ (TotalsWithin 8192 totals) × (stepTaken answer ≤ 32) ⌝ }
+    requires { ⌜ (TotalsWithin stepLimit totals) × (stepTaken answer ≤ agentLimit) ⌝ }
     ensures { λ r. ⌜ r ≡ tallied totals answer ⌝ }
 {
     match answer {

@@ -11,7 +11,7 @@ ghost use mathlib.Core.Bool.{cond};
 ghost use mathlib.Core.List.{List};
 ghost use Prim.Native.Nat.{ℕ, _<_};
 ghost use lib.ListN.{length};
-ghost use Rattle.table.specs.Tables.{table};
+ghost use Rattle.table.specs.Tables.{table, agentLimit};
 ghost use Rattle.term.specs.Acceptance.{stateWords};
 ghost use Rattle.choice.specs.Turns.{Prepared};
 ghost use Rattle.state.specs.Layout.{zcOf, zpOf};
@@ -23,7 +23,7 @@ ghost use Rattle.machine.specs.Stepping.{ownStep, offerKind};
 
 // 10: the kind, the agent or the key is out of range.
 fn out_of_range(sizes: Sizes, kind: u8, agent: usize, number: usize) -> bool
-    ensures { λ r. ⌜ ((kinds operands was : List ℕ) → r ≡ outOfRange (table sizes kinds operands) kind agent number) ⌝ }
+    ensures { λ r. ⌜ ((kinds operands : List ℕ) → r ≡ outOfRange (table sizes kinds operands) kind agent number) ⌝ }
 {
     if 3 <= kind {
         return true;
@@ -60,7 +60,7 @@ fn act_step(
 
 // The set that an offer takes its key from: Zc where it asks, else Zp.
 fn pending(state: &[u32], agent: usize, confirming: bool) -> u32
-    requires { ⌜ (length (now state) ≡ stateWords) × (agent < 32) ⌝ }
+    requires { ⌜ (length (now state) ≡ stateWords) × (agent < agentLimit) ⌝ }
     ensures { λ r. ⌜ r ≡ cond confirming (zcOf (now (state .entry)) agent) (zpOf (now (state .entry)) agent) ⌝ }
 {
     if confirming {

@@ -3,6 +3,7 @@ use machine::Totals;
 ghost use mathlib.Core.Path.{_≡_};
 ghost use Prim.Native.Nat.{_≤_};
 ghost use Rattle.table.specs.Checks.{refuses};
+ghost use Rattle.steps.specs.Runs.{stepLimit};
 ghost use Rattle.machine.specs.Running.{TotalsWithin};
 ghost use Rattle.rehearsal.specs.Packing.{packed, packedTotals};
 
@@ -19,7 +20,7 @@ pub fn pack_refusal(number: u8, place: usize) -> u64
 
 // The totals of a run.
 pub fn pack_totals(totals: Totals) -> u64
-    requires { ⌜ TotalsWithin 8192 totals ⌝ }
+    requires { ⌜ TotalsWithin stepLimit totals ⌝ }
     ensures { λ r. ⌜ r ≡ packedTotals (totals .done) (totals .refused) (totals .taken) ⌝ }
 {
     totals.done as u64 + 65536 * totals.refused as u64 + 4294967296 * totals.taken as u64

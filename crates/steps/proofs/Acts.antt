@@ -33,6 +33,17 @@ use Rattle.state.proofs.Frames.{wordAt, SameAt, set-other, set-here, set-word, 
 use Rattle.steps.specs.Acts.{nextStamp, entered, wordIn, choices, chosen, valueFor, toConfirm, storeOf, setKey, acted}
 use Rattle.steps.proofs.Leave.{leave-length, leave-other, leave-term}
 
+-- THE STORE that an action sets
+module _ (t : Table) (x : ℕ) where
+  pub store-attribute : (n : ℕ) → kindAt t n ≡ 2 → storeOf t x n ≡ Attributes x
+  store-attribute n e = rw e
+
+  pub store-entry : (n : ℕ) → kindAt t n ≡ 3 → storeOf t x n ≡ Entries x
+  store-entry n e = rw e
+
+  pub store-environment : (n : ℕ) → kindAt t n ≡ 4 → storeOf t x n ≡ Environment
+  store-environment n e = rw e
+
 module _ (t : Table) (was : List ℕ) (x : ℕ) where
   -- what a choice does, asks and leaves is of the table's nodes
   pub chosen-inside : Sound t → Over t (termIn was x) → (c : ℕ) → c < length (choices t was x) → InsideTable t (chosen t was x c)
@@ -51,16 +62,6 @@ module _ (t : Table) (was : List ℕ) (x : ℕ) where
       by (suc (suc (suc (suc zero)))) e l m = let p = environment-set-operands t sound n e .0 in omega arith
       by (suc (suc (suc (suc (suc k))))) e l m = absurd (omega arith)
 
-  -- its store, by the action's kind
-  pub store-attribute : (n : ℕ) → kindAt t n ≡ 2 → storeOf t x n ≡ Attributes x
-  store-attribute n e = rw e
-
-  pub store-entry : (n : ℕ) → kindAt t n ≡ 3 → storeOf t x n ≡ Entries x
-  store-entry n e = rw e
-
-  pub store-environment : (n : ℕ) → kindAt t n ≡ 4 → storeOf t x n ≡ Environment
-  store-environment n e = rw e
-
   -- a stigmergy key is an entry only
   pub store-other : (n : ℕ) → ActionNode t n → (kindAt t n ≡ 3 → ⊥) → storeKind (storeOf t x n) ≡ 2 → ⊥
   store-other n a d f = by (kindAt t n) refl (a .1) (a .2)
@@ -68,9 +69,9 @@ module _ (t : Table) (was : List ℕ) (x : ℕ) where
       by : (k : ℕ) → kindAt t n ≡ k → 2 ≤ k → k ≤ 4 → ⊥
       by zero e l m = omega arith
       by (suc zero) e l m = omega arith
-      by (suc (suc zero)) e l m = omega (arith, ap storeKind (store-attribute n e))
+      by (suc (suc zero)) e l m = omega (arith, ap storeKind (store-attribute t x n e))
       by (suc (suc (suc zero))) e l m = d e
-      by (suc (suc (suc (suc zero)))) e l m = omega (arith, ap storeKind (store-environment n e))
+      by (suc (suc (suc (suc zero)))) e l m = omega (arith, ap storeKind (store-environment t x n e))
       by (suc (suc (suc (suc (suc k))))) e l m = omega arith
 
   -- SETTING A KEY
@@ -133,7 +134,7 @@ module _ (t : Table) (was : List ℕ) (x : ℕ) where
     unfolding setKey
     set-key-other key q h c z m w =
         cond-cases (λ (u : List ℕ). SameAt u was q) (eqb (kindAt t n) 3)
-        (λ e. let f = store-entry n (eqb-true (kindAt t n) 3 e) in
+        (λ e. let f = store-entry t x n (eqb-true (kindAt t n) 3 e) in
         set-other queued Clock (nextStamp was) tt q h c ∙ add-other Zp x k put-in q h z
         ∙ put-other (Entries x) k v (nextStamp was) was key q h (subst (λ (s : Store). same q (Mark s k) ≡ false) f m) (subst (λ (s : Store). same q (Word s k) ≡ false) f w))
         (λ e. put-other store k v 1 was key q h m w)

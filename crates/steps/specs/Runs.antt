@@ -10,6 +10,9 @@ use Rattle.table.specs.Checks.{Check, passes, refuses, Refusal, refuseIf, first
 use Rattle.table.specs.Tables.{Table, tableOf}
 use Rattle.steps.specs.Steps.{Outcome, stateChecks, stepIn}
 
+abbrev pub stepLimit : ℕ
+stepLimit = 8192
+
 -- a schedule: its size n, n kinds of a byte, n operands (agent, number)
 abbrev pub stepsOf : List ℕ → ℕ
 stepsOf schedule = u16At schedule 0
@@ -27,7 +30,7 @@ numberIn schedule i = u16At schedule (2 + stepsOf schedule + 4 * i + 2)
 abbrev pub scheduleChecks : List ℕ → List ℕ → List Refusal
 scheduleChecks schedule answers =
     refuseIf 19
-    (ltb (length schedule) 2 || (not (eqb (length schedule) (2 + 5 * stepsOf schedule)) || ltb 8192 (stepsOf schedule)))
+    (ltb (length schedule) 2 || (not (eqb (length schedule) (2 + 5 * stepsOf schedule)) || ltb stepLimit (stepsOf schedule)))
     ∷ refuseIf 20 (ltb (length answers) (stepsOf schedule))
     ∷ []
 

@@ -249,7 +249,7 @@ module _ (t : Table) (ok : Checked t) (s : List ℕ) (whole : length s ≡ state
 
     done-attribute : kindAt t n ≡ 2 → Done
     done-attribute k =
-        finish (put (Attributes x) p v 1 s) (set-value t s x n (λ h. omega arith) ∙ ap (λ (store : Store). put store p v 1 s) (store-attribute t s x n k))
+        finish (put (Attributes x) p v 1 s) (set-value t s x n (λ h. omega arith) ∙ ap (λ (store : Store). put store p v 1 s) (store-attribute t x n k))
         (systemOf s .E) (clockOf s) ⟨ me .I ⟦ p ≔ Present v ⟧ ⸴ me .L ⸴ me .P ⸴ me .Zc ⸴ me .Zp ⟩
         (put-attribute p v s key whole x there)
         (λ y o. put-agents (Attributes x) p v 1 s key y (λ l f. o (sym f)))
@@ -259,7 +259,7 @@ module _ (t : Table) (ok : Checked t) (s : List ℕ) (whole : length s ≡ state
 
     done-environment : kindAt t n ≡ 4 → Done
     done-environment k =
-        finish (put Environment p v 1 s) (set-value t s x n (λ h. omega arith) ∙ ap (λ (store : Store). put store p v 1 s) (store-environment t s x n k))
+        finish (put Environment p v 1 s) (set-value t s x n (λ h. omega arith) ∙ ap (λ (store : Store). put store p v 1 s) (store-environment t x n k))
         (systemOf s .E ⟦ p ≔ Present v ⟧) (clockOf s) me
         (put-agents Environment p v 1 s key x (λ l f. omega arith))
         (λ y o. put-agents Environment p v 1 s key y (λ l f. omega arith))

@@ -25,7 +25,7 @@ returns c =
     let a = c .before .before .before .before .before .before .before in
     λ d e f. c .with-entry .ensures
     ∙ gains (tb a) (now (a .args .state)) (a .args .agent) (now (a .args .marks)) (a .args .label) (c .before .before .guard-keys .result) (c .before .label-keys .result) (c .before .before .guard-keys .ensures)
-    (c .before .label-keys .ensures (now (a .args .state)) (a .args .agent)) d e f
+    (c .before .label-keys .ensures) d e f
 
 pub gained-spec : {M : Type 1} → statement M
 gained-spec =

@@ -16,8 +16,8 @@ tb a = table (a .args .sizes) (now (a .args .kinds)) (now (a .args .operands))
 enum-told : tie.Need-enum-told
 enum-told c = search needs
 
-enum-known-does : tie.Need-enum-known-does
-enum-known-does c = search needs
+enum-known-label : tie.Need-enum-known-label
+enum-known-label c = search needs
 
 q-at-requires : tie.Need-q-at-requires
 q-at-requires c κs =
@@ -30,14 +30,14 @@ keys-read-requires c κs = search needs
 returns : tie.Need-returns
 returns c =
     let a = c .before .before .before .before in
-    λ was x. label-none (tb a) was x (a .args .label) (c .enum-told .given .1) (a .args .keys)
+    label-none (tb a) (a .args .label) (c .enum-told .given .1) (a .args .keys)
 
 returns-2 : tie.Need-returns-2
 returns-2 c =
     let a = c .before .before .before .before .before .before .before in
-    λ was x. label-expression (tb a) was x (a .args .label) (c .before .before .before .label .given .1) (c .before .q-at .result) (c .before .q-at .ensures .is) (a .args .keys) (a .pre .2) (c .keys-read .result) (c .keys-read .ensures)
+    label-expression (tb a) (a .args .label) (c .before .before .before .label .given .1) (c .before .q-at .result) (c .before .q-at .ensures .is) (a .args .keys) (a .pre .2) (c .keys-read .result) (c .keys-read .ensures)
 
 pub label-keys-spec : {M : Type 1} → statement M
 label-keys-spec =
     tie.close
-    (tie.spec enum-told enum-known-does q-at-requires keys-read-requires returns returns-2)
+    (tie.spec enum-told enum-known-label q-at-requires keys-read-requires returns returns-2)

@@ -12,8 +12,8 @@ tb a = table (a .args .sizes) (now (a .args .kinds)) (now (a .args .operands))
 enum-told : tie.Need-enum-told
 enum-told c = search needs
 
-enum-known-does : tie.Need-enum-known-does
-enum-known-does c = search needs
+enum-known-label : tie.Need-enum-known-label
+enum-known-label c = search needs
 
 set-key-requires : tie.Need-set-key-requires
 set-key-requires c κs = c .before .before .before .before .before .before .before .pre _ (c .before .before .label .given .1)
@@ -33,4 +33,4 @@ returns-2 c =
 
 pub set-label-spec : {M : Type 1} → statement M
 set-label-spec =
-    tie.close (tie.spec enum-told enum-known-does set-key-requires returns same-length returns-2)
+    tie.close (tie.spec enum-told enum-known-label set-key-requires returns same-length returns-2)

@@ -19,8 +19,8 @@ enum-told c = search needs
 sized-requires : tie.Need-sized-requires
 sized-requires c κs = search needs
 
-enum-known-does : tie.Need-enum-known-does
-enum-known-does c = search needs
+enum-known-label : tie.Need-enum-known-label
+enum-known-label c = search needs
 
 judge-action-requires : tie.Need-judge-action-requires
 judge-action-requires c κs =
@@ -41,4 +41,4 @@ returns-2 c =
 pub judge-outcome-spec : {M : Type 1} → statement M
 judge-outcome-spec =
     tie.close
-    (tie.spec enum-told sized-requires enum-known-does judge-action-requires returns returns-2)
+    (tie.spec enum-told sized-requires enum-known-label judge-action-requires returns returns-2)

@@ -25,8 +25,8 @@ abbrev was : tie.Start → List ℕ
 was a = now (a .args .state)
 
 -- the key is in the set
-waits : (a : tie.Start) {keys : ℕ} {h : Bool} → keys ≡ cond (a .args .asks) (zcOf (was a) (a .args .agent)) (zpOf (was a) (a .args .agent)) → h ≡ has keys (a .args .key)
-    → has (cond (a .args .asks) (zcOf (was a) (a .args .agent)) (zpOf (was a) (a .args .agent))) (a .args .key) ≡ h
+waits : (a : tie.Start) {keys : ℕ} {h : Bool} → keys ≡ cond (a .args .confirming) (zcOf (was a) (a .args .agent)) (zpOf (was a) (a .args .agent)) → h ≡ has keys (a .args .key)
+    → has (cond (a .args .confirming) (zcOf (was a) (a .args .agent)) (zpOf (was a) (a .args .agent))) (a .args .key) ≡ h
 waits a e f = ap (λ (w : ℕ). has w (a .args .key)) (sym e) ∙ sym f
 
 -- an offer that asks, or does not
@@ -45,7 +45,7 @@ same-length c = search needs
 returns : tie.Need-returns
 returns c =
     let a = c .before .before .before .before .before .before .before in
-    offer-refused (T a) (was a) (a .args .agent) (a .args .key) (a .args .asks) (waits a (c .before .before .pending .ensures) (c .before .has .ensures) ∙ not-true (c .before .has .result) (c .if1 .taken))
+    offer-refused (T a) (was a) (a .args .agent) (a .args .key) (a .args .confirming) (waits a (c .before .before .pending .ensures) (c .before .has .ensures) ∙ not-true (c .before .has .result) (c .if1 .taken))
 
 confirm-requires : tie.Need-confirm-requires
 confirm-requires c κs = search needs

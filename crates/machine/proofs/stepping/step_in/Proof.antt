@@ -26,10 +26,10 @@ abbrev was : tie.Start → List ℕ
 was a = now (a .args .state)
 
 abbrev Judged : tie.Start → Bool → Type 0
-Judged a out = (kinds operands s : List ℕ) → out ≡ outOfRange (table (a .args .sizes) kinds operands) (a .args .kind) (a .args .agent) (a .args .number)
+Judged a out = (kinds operands : List ℕ) → out ≡ outOfRange (table (a .args .sizes) kinds operands) (a .args .kind) (a .args .agent) (a .args .number)
 
 within : (a : tie.Start) (out : Bool) → Judged a out → out ≡ false → outOfRange (T a) (a .args .kind) (a .args .agent) (a .args .number) ≡ false
-within a out judged e = sym (judged (now (a .args .kinds)) (now (a .args .operands)) (was a)) ∙ e
+within a out judged e = sym (judged (now (a .args .kinds)) (now (a .args .operands))) ∙ e
 
 range : (a : tie.Start) (out : Bool) → Judged a out → out ≡ false → InRange (T a) (a .args .kind) (a .args .agent) (a .args .number)
 range a out judged e = in-range (T a) (was a) (a .args .kind) (a .args .agent) (a .args .number) .0 (within a out judged e)
@@ -46,7 +46,7 @@ out-of-range-requires c κs = search needs
 returns : tie.Need-returns
 returns c =
     let a = c .before .before .before .before .before .before in
-    step-out (T a) (was a) (a .args .kind) (a .args .agent) (a .args .number) (sym (c .before .out-of-range .ensures (now (a .args .kinds)) (now (a .args .operands)) (was a)) ∙ c .if1 .taken)
+    step-out (T a) (was a) (a .args .kind) (a .args .agent) (a .args .number) (sym (c .before .out-of-range .ensures (now (a .args .kinds)) (now (a .args .operands))) ∙ c .if1 .taken)
 
 act-step-requires : tie.Need-act-step-requires
 act-step-requires c κs =
