@@ -1,17 +1,17 @@
 -- Expressions and guards: Table 2's syntax, read off a table's nodes, and Tables 4 to 6.
-use Prim.Native.Nat.{ℕ}
+use Prim.Native.Nat.{ℕ, _^_, _<_}
 use mathlib.Core.Path.{_≡_}
-use mathlib.Core.Bool.{true, false, cond}
+use mathlib.Core.Bool.{false, cond}
 use mathlib.Core.Logic.{_⊎_}
 use mathlib.Core.Option.{Option, none, some}
 use lib.Dec.{ltb, eqb}
 use Rattle.basis.specs.Below.{below}
 use Rattle.value.specs.declared.Value.{Value}
 use Rattle.value.specs.declared.Value.the-variants.{Absent, Present}
-use Rattle.value.specs.Values.{operate}
-use Rattle.value.specs.Truths.{testOf}
-use Rattle.table.specs.Tables.{Table, kindAt, pAt, qAt, constantAt, linkAt}
+use Rattle.table.specs.Tables.{Table, kindAt, pAt, qAt, constantAt}
+use Rattle.labs.specs.Numbers.{number, Operates, Compares}
 use Rattle.labs.specs.Agents.{Entry, Interface, Keys, Agent, _∪_}
+use Rattle.labs.specs.Roots.{linkOf}
 
 -- e ::= v | x | e ⋄ e. A value is given by its word, an operator and a comparison by its node kind;
 -- an attribute and a stigmergy key have a party: 0 in a process, 1 for x_s and 2 for x_r in a link predicate
@@ -42,13 +42,15 @@ valueIn (some e) = Present (e .value)
 abbrev pub party : Knowledge → ℕ → Agent
 party k q = cond (eqb q 2) (k .receiver) (k .sender)
 
--- TABLE 4 with section 4.1's environment; H⟦·⟧ of links is the same with two agents
-abbrev pub E⟦_⟧ : Expr → Knowledge → Value
-E⟦_⟧ (value v) k = Present v
-E⟦_⟧ (attribute x q) k = party k q .I x
-E⟦_⟧ (stigmergy x q) k = valueIn (party k q .L x)
-E⟦_⟧ (environment x) k = k .E x
-E⟦_⟧ (operation o e f) k = operate o (E⟦_⟧ e k) (E⟦_⟧ f k)
+infix 15 E⟦_⟧_⇓_
+-- TABLE 4 with section 4.1's environment: `E⟦ e ⟧ k ⇓ v`, e has the value v, given by its word; e is absent where it has none.
+-- H⟦·⟧ of links is the same with two agents
+abbrev pub E⟦_⟧_⇓_ : Expr → Knowledge → ℕ → Type 0
+E⟦ value w ⟧ k ⇓ v = w ≡ v
+E⟦ attribute x q ⟧ k ⇓ v = party k q .I x ≡ Present v
+E⟦ stigmergy x q ⟧ k ⇓ v = valueIn (party k q .L x) ≡ Present v
+E⟦ environment x ⟧ k ⇓ v = k .E x ≡ Present v
+E⟦ operation o e f ⟧ k ⇓ v = (u w : ℕ) × (E⟦ e ⟧ k ⇓ u) × (E⟦ f ⟧ k ⇓ w) × (v < 2 ^ 32) × Operates o (number u) (number w) (number v)
 
 abbrev pub K⟦_⟧ : Expr → Keys
 K⟦_⟧ (value v) = λ y. false
@@ -69,7 +71,7 @@ infix 15 _⊨_
 -- TABLE 6. The paper: an expression is well defined when not absent (the table looks at its names alone)
 abbrev pub _⊢_ : Knowledge → Guard → Type 0
 k ⊢ truly = Unit {0}
-k ⊢ comparison o e f = (E⟦ e ⟧ k ≡ Absent → ⊥) × (E⟦ f ⟧ k ≡ Absent → ⊥)
+k ⊢ comparison o e f = (v w : ℕ) × (E⟦ e ⟧ k ⇓ v) × (E⟦ f ⟧ k ⇓ w)
 k ⊢ negation b = k ⊢ b
 k ⊢ conjunction b c = (k ⊢ b) × (k ⊢ c)
 k ⊢ disjunction b c = (k ⊢ b) × (k ⊢ c)
@@ -77,12 +79,13 @@ k ⊢ disjunction b c = (k ⊢ b) × (k ⊢ c)
 -- TABLE 5. A comparison holds only of two present values, so ⊥ = ⊥ doesn't hold (the table, over the remark in 2.1)
 abbrev pub _⊨_ : Knowledge → Guard → Type 0
 k ⊨ truly = Unit {0}
-k ⊨ comparison o e f = (v w : ℕ) × (E⟦ e ⟧ k ≡ Present v) × (E⟦ f ⟧ k ≡ Present w) × (testOf o v w ≡ true)
+k ⊨ comparison o e f = (v w : ℕ) × (E⟦ e ⟧ k ⇓ v) × (E⟦ f ⟧ k ⇓ w) × Compares o (number v) (number w)
 k ⊨ negation b = (k ⊢ negation b) × (k ⊨ b → ⊥)
 k ⊨ conjunction b c = (k ⊨ b) × (k ⊨ c)
 k ⊨ disjunction b c = (k ⊨ b) ⊎ (k ⊨ c)
 
--- THE NODES of a table. No expression, and no guard, is one that is never well defined
+-- THE NODES of a table. A node of another kind reads as an operation without a result, or as a comparison that never holds;
+-- an accepted table names none as an expression or a guard
 abbrev pub noExpr : Expr
 noExpr = operation 0 (value 0) (value 0)
 
@@ -112,4 +115,4 @@ module _ (t : Table) where
 
   -- the link predicate of key x
   abbrev pub φ : ℕ → Guard
-  φ x = guardOf (linkAt t x)
+  φ x = guardOf (linkOf t x)

@@ -1,4 +1,6 @@
+pub mod Numbers
 pub mod Agents
+pub mod Roots
 pub mod Expressions
 pub mod Processes
 pub mod Systems

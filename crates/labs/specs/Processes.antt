@@ -1,13 +1,15 @@
 -- Processes: Table 2's syntax, read off a residual one level at a time, and Table 3.
+-- SEQ₂ and PAR₂ are printed with λ at both premises; by the prose of 2.1 and the paper the first is a √: P terminates, and Q goes on.
 use Prim.Native.Nat.{ℕ, _-_}
 use mathlib.Core.Path.{_≡_}
 use mathlib.Core.List.{List, [], _∷_, _++_}
 use lib.ListN.{getD}
-use Rattle.table.specs.Tables.{Table, kindAt, pAt, qAt, bodyAt}
+use Rattle.table.specs.Tables.{Table, kindAt, pAt, qAt}
 use Rattle.term.specs.declared.Label.{Label}
 use Rattle.term.specs.declared.Label.the-variants.{Ticking, Acting}
 use Rattle.term.specs.Terms.{Term, Seq, Par, Tick, Idle, Node}
 use Rattle.labs.specs.Expressions.{Expr, exprOf}
+use Rattle.labs.specs.Roots.{bodyOf}
 
 infixr 30 _⨾_
 infixr 25 _∣_
@@ -33,6 +35,14 @@ form t Tick = √
 form t Idle = 𝟎
 form t (Node n) = getD (forms n (pAt t n) (qAt t n)) (kindAt t n) 𝟎
 
+-- P is R, or a part of it
+pub data Subterm (P : Term) : Term → Type 0 where
+  whole : Subterm P P
+  seq-left : {Q R : Term} → Subterm P Q → Subterm P (Seq Q R)
+  seq-right : {Q R : Term} → Subterm P R → Subterm P (Seq Q R)
+  par-left : {Q R : Term} → Subterm P Q → Subterm P (Par Q R)
+  par-right : {Q R : Term} → Subterm P R → Subterm P (Par Q R)
+
 -- TABLE 14. An action assigns an expression to an attribute, a stigmergy key or an environment key: kinds 2, 3, 4
 pub data Variable : Type 0 where
   attribute stigmergy environment : ℕ → Variable
@@ -53,7 +63,7 @@ pub data Moves (t : Table) : Term → Label → List ℕ → Term → Type 0 whe
   CHOICE-R : {P Q R Q′ : Term} {l : Label} {g : List ℕ} → form t R ≡ (P ⊹ Q) → Moves t Q l g Q′ → Moves t R l g Q′
   SEQ₁ : {P Q R P′ : Term} {n : ℕ} {g : List ℕ} → form t R ≡ (P ⨾ Q) → Moves t P (Acting n) g P′ → Moves t R (Acting n) g (Seq P′ Q)
   SEQ₂ : {P Q R P′ Q′ : Term} {l : Label} {g h : List ℕ} → form t R ≡ (P ⨾ Q) → Moves t P Ticking g P′ → Moves t Q l h Q′ → Moves t R l (g ++ h) Q′
-  CON : {R P′ : Term} {l : Label} {d : ℕ} {g : List ℕ} → form t R ≡ K d → Moves t (Node (bodyAt t d)) l g P′ → Moves t R l g P′
+  CON : {R P′ : Term} {l : Label} {d : ℕ} {g : List ℕ} → form t R ≡ K d → Moves t (Node (bodyOf t d)) l g P′ → Moves t R l g P′
   PAR₁ : {P Q R P′ : Term} {n : ℕ} {g : List ℕ} → form t R ≡ (P ∣ Q) → Moves t P (Acting n) g P′ → Moves t R (Acting n) g (Par P′ Q)
   PAR₂ : {P Q R P′ Q′ : Term} {l : Label} {g h : List ℕ} → form t R ≡ (P ∣ Q) → Moves t P Ticking g P′ → Moves t Q l h Q′ → Moves t R l (g ++ h) Q′
   -- PAR-COMM, of PAR₁ and of PAR₂: the document swaps the sides in what is left, the paper leaves them as they stand

@@ -1,4 +1,5 @@
 -- Agents and systems: Tables 7, 8, 15 and 16.
+-- PAR, COMM and ASSOC of Table 8 are not needed: the agents of a system are numbered, and a rule names the one that goes on.
 use Prim.Native.Nat.{ℕ, suc, _<_}
 use mathlib.Core.Bool.{Bool, true, false, _&&_}
 use mathlib.Core.Option.{Option, none, some}
@@ -10,7 +11,7 @@ use Rattle.term.specs.declared.Label.the-variants.{Ticking, Acting}
 use Rattle.term.specs.Terms.{Term}
 use Rattle.term.specs.Processes.{Derivation, derivation}
 use Rattle.labs.specs.Agents.{⟨_⸴_⸴_⸴_⸴_⟩, Agent, Entry, Interface, Stigmergy, Keys, System, _⟦_≔_⟧, _∪｛_｝, _∖｛_｝, _∪_, Inserted}
-use Rattle.labs.specs.Expressions.{Expr, Knowledge, E⟦_⟧, K⟦_⟧, K⟦_⟧ᵇ, _⊨_, guardOf, φ}
+use Rattle.labs.specs.Expressions.{Expr, Knowledge, E⟦_⟧_⇓_, K⟦_⟧, K⟦_⟧ᵇ, _⊨_, guardOf, φ}
 use Rattle.labs.specs.Processes.{Variable, attribute, stigmergy, environment, assign, actionOf, Moves}
 
 infix 30 _▹_
@@ -60,19 +61,21 @@ guardKeys t (b ∷ g) = K⟦ guardOf t b ⟧ᵇ ∪ guardKeys t g
 abbrev pub awaited : Table → Agent → List ℕ → Agent → Agent
 awaited t a g a′ = ⟨ a′ .I ⸴ a′ .L ⸴ a′ .P ⸴ a′ .Zc ∪ known a (guardKeys t g) ⸴ a′ .Zp ⟩
 
--- one agent in its environment E at clock T; tod() is the clock's next number
+-- one agent in its environment E at clock T; tod() is the clock's next number. The clock rises at a stigmergy write only, by the paper;
+-- section 2.5 would raise it at every transition
 pub data Acts (t : Table) (E : Interface) (T : ℕ) (a : Agent) (d : Derivation) : Interface → ℕ → Agent → Type 0 where
   -- SKIP's ε in an environment, for which Table 16 prints no rule
   EPSILON : {a′ : Agent} → Wills t a d ε a′ → Await t E a (d .guards) → Acts t E T a d E T (awaited t a (d .guards) a′)
-  EVAL-I : {e : Expr} {x v : ℕ} {a′ : Agent} → Wills t a d (e ▹ attribute x) a′ → Await t E a (d .guards) → E⟦ e ⟧ (alone E a) ≡ Present v →
+  EVAL-I : {e : Expr} {x : ℕ} {a′ : Agent} (v : ℕ) → Wills t a d (e ▹ attribute x) a′ → Await t E a (d .guards) → E⟦ e ⟧ alone E a ⇓ v →
       Acts t E T a d E T (awaited t a (d .guards) ⟨ a′ .I ⟦ x ≔ Present v ⟧ ⸴ a′ .L ⸴ a′ .P ⸴ a′ .Zc ⸴ a′ .Zp ⟩)
-  EVAL-L : {e : Expr} {x v : ℕ} {a′ : Agent} {L′ : Stigmergy} → Wills t a d (e ▹ stigmergy x) a′ → Await t E a (d .guards) → E⟦ e ⟧ (alone E a) ≡ Present v →
+  EVAL-L : {e : Expr} {x : ℕ} {a′ : Agent} {L′ : Stigmergy} (v : ℕ) → Wills t a d (e ▹ stigmergy x) a′ → Await t E a (d .guards) → E⟦ e ⟧ alone E a ⇓ v →
       Inserted (a′ .L) x (record { value = v; time = suc T }) L′ →
       Acts t E T a d E (suc T) (awaited t a (d .guards) ⟨ a′ .I ⸴ L′ ⸴ a′ .P ⸴ a′ .Zc ⸴ a′ .Zp ∪｛ x ｝ ⟩)
-  EVAL-E : {e : Expr} {x v : ℕ} {a′ : Agent} → Wills t a d (e ▹ environment x) a′ → Await t E a (d .guards) → E⟦ e ⟧ (alone E a) ≡ Present v →
+  EVAL-E : {e : Expr} {x : ℕ} {a′ : Agent} (v : ℕ) → Wills t a d (e ▹ environment x) a′ → Await t E a (d .guards) → E⟦ e ⟧ alone E a ⇓ v →
       Acts t E T a d (E ⟦ x ≔ Present v ⟧) T (awaited t a (d .guards) a′)
 
--- PAR-E: agent x acts, and the others stay
+-- PAR-E: agent x acts, and the others stay. It is not applied to messages: as printed it would let any part of a system receive nothing,
+-- and so a propagate reach nobody. By 2.3 (PUT is applied until all neighbours have it) and by the paper every other agent receives
 pub record Acted (t : Table) (agents x : ℕ) (d : Derivation) (S S′ : System) : Type 0 where
   pub there : x < agents
   pub acts : Acts t (S .E) (S .clock) (S .agent x) d (S′ .E) (S′ .clock) (S′ .agent x)
@@ -107,28 +110,33 @@ abbrev pub Newer : Option Entry → ℕ → Type 0
 Newer none t = ⊥
 Newer (some f) t = t < f .time
 
--- a is linked to the message's sender; a link looks at no environment key (refusal 5)
+-- what a link predicate is evaluated against, from sender x to receiver y; it looks at no environment key (refusal 5)
+abbrev pub between : System → ℕ → ℕ → Knowledge
+between S x y = record { E = S .E; sender = S .agent x; receiver = S .agent y }
+
+-- the link predicate of the message's key holds from its sender to a
 abbrev pub Linked : Table → Interface → Message → Agent → Type 0
 Linked t E m a = record { E = E; sender = m .sender; receiver = a } ⊨ φ t (m .x)
 
--- `Hears t E m a took a′`: message m makes another agent a into a′, which took the entry or did not
-pub data Hears (t : Table) (E : Interface) (m : Message) (a : Agent) : Bool → Agent → Type 0 where
+-- `Receives t E m a took a′`: message m makes another agent a into a′, which took the entry or did not. Table 8 as printed has neither that a
+-- is linked nor that its entry is older or newer, nor what QRY₂ leaves: these are from 2.3's prose and from the paper
+pub data Receives (t : Table) (E : Interface) (m : Message) (a : Agent) : Bool → Agent → Type 0 where
   PUT : {L′ : Stigmergy} → m .kind ≡ put → Linked t E m a → Older (a .L (m .x)) (m .entry .time) → Inserted (a .L) (m .x) (m .entry) L′ →
-      Hears t E m a true ⟨ a .I ⸴ L′ ⸴ a .P ⸴ a .Zc ∖｛ m .x ｝ ⸴ a .Zp ∪｛ m .x ｝ ⟩
+      Receives t E m a true ⟨ a .I ⸴ L′ ⸴ a .P ⸴ a .Zc ∖｛ m .x ｝ ⸴ a .Zp ∪｛ m .x ｝ ⟩
   QRY₁ : {L′ : Stigmergy} → m .kind ≡ qry → Linked t E m a → Older (a .L (m .x)) (m .entry .time) → Inserted (a .L) (m .x) (m .entry) L′ →
-      Hears t E m a true ⟨ a .I ⸴ L′ ⸴ a .P ⸴ a .Zc ∖｛ m .x ｝ ⸴ a .Zp ∪｛ m .x ｝ ⟩
+      Receives t E m a true ⟨ a .I ⸴ L′ ⸴ a .P ⸴ a .Zc ∖｛ m .x ｝ ⸴ a .Zp ∪｛ m .x ｝ ⟩
   QRY₂ : m .kind ≡ qry → Linked t E m a → Newer (a .L (m .x)) (m .entry .time) →
-      Hears t E m a false ⟨ a .I ⸴ a .L ⸴ a .P ⸴ a .Zc ⸴ a .Zp ∪｛ m .x ｝ ⟩
+      Receives t E m a false ⟨ a .I ⸴ a .L ⸴ a .P ⸴ a .Zc ⸴ a .Zp ∪｛ m .x ｝ ⟩
   -- Table 8 prints no rule for an agent that none above reaches: it stays as it is
   STAY : (Linked t E m a → Older (a .L (m .x)) (m .entry .time) → ⊥) →
-      (m .kind ≡ qry → Linked t E m a → Newer (a .L (m .x)) (m .entry .time) → ⊥) → Hears t E m a false a
+      (m .kind ≡ qry → Linked t E m a → Newer (a .L (m .x)) (m .entry .time) → ⊥) → Receives t E m a false a
 
--- MSG: agent x sends a message on key k, every other agent hears it, and the environment and the clock stay; `took` tells who took the entry
+-- MSG: agent x sends a message on key k, every other agent receives it, and the environment and the clock stay; `took` tells who took the entry
 pub record Passed (t : Table) (agents x : ℕ) (kind : Kind) (k : ℕ) (took : ℕ → Bool) (S S′ : System) : Type 0 where
   pub there : x < agents
   pub entry : Entry
   pub sends : Sends (S .agent x) (message kind (S .agent x) k entry) (S′ .agent x)
   pub itself : took x ≡ false
-  pub hears : (y : ℕ) → y < agents → (y ≡ x → ⊥) → Hears t (S .E) (message kind (S .agent x) k entry) (S .agent y) (took y) (S′ .agent y)
+  pub receives : (y : ℕ) → y < agents → (y ≡ x → ⊥) → Receives t (S .E) (message kind (S .agent x) k entry) (S .agent y) (took y) (S′ .agent y)
   pub environment-stays : S′ .E ≡ S .E
   pub clock-stays : S′ .clock ≡ S .clock

@@ -3,17 +3,17 @@
 use Prim.Native.Nat.{ℕ, zero, suc, _<_, _≤_}
 use mathlib.Core.Bool.{Bool, true, false, cond, _&&_, _||_, and-false}
 use mathlib.Core.Logic.{⊎-elim, _↔_}
-use mathlib.Core.Option.{none, some}
+use mathlib.Core.Option.{some}
 use mathlib.Core.Path.{_≡_, refl, sym, ap, subst, _∙_, fun-ext}
 use mathlib.Core.List.{List, []}
 use native.Mathlib.Omega.{arith}
 use native.Mathlib.Numerals.{add-one}
 use lib.Dec.{eqb}
-use lib.ListN.{length, getD, getElem?, set, length-set}
+use lib.ListN.{length, getElem?, set, length-set}
 use borrow.Author.Tests.{eqb-true, eq-eqb}
 use Rattle.basis.specs.KeySets.{has, plusAll}
 use Rattle.basis.proofs.KeySets.{has-plusAll, has-nothing, nothing-zero}
-use Rattle.basis.proofs.Tests.{not-both, same-test, and-left, and-both, lt-or-le, same-or-other}
+use Rattle.basis.proofs.Tests.{not-both, same-test, and-left, and-both, same-or-other}
 use Rattle.basis.proofs.Lists.{nth-in, nth-is}
 use Rattle.value.specs.declared.Value.{Value}
 use Rattle.value.specs.declared.Value.the-variants.{Absent, Present}
@@ -39,13 +39,13 @@ use Rattle.steps.proofs.Leave.{leave-term, leave-other}
 use Rattle.steps.proofs.Steps.{Able}
 use Rattle.steps.proofs.Acts.{action-key, store-attribute, store-environment, set-tick, set-value, set-entry, set-length, acted-length, acted-other}
 use Rattle.labs.specs.Agents.{⟨_⸴_⸴_⸴_⸴_⟩, Agent, Interface, Keys, System, _⟦_≔_⟧, _∪｛_｝, _∪_}
-use Rattle.labs.specs.Expressions.{Expr, E⟦_⟧, exprOf}
+use Rattle.labs.specs.Expressions.{Expr, E⟦_⟧_⇓_, exprOf}
 use Rattle.labs.specs.Processes.{Variable, attribute, stigmergy, environment}
 use Rattle.labs.specs.Systems.{Settled, known, Will, ε, _▹_, Wills, SKIP, ATTR, LSTIG, ENV, alone, Await, guardKeys, Acts, EPSILON, EVAL-I, EVAL-L, EVAL-E, Acted}
 use Rattle.labs.specs.Reading.{agentOf, systemOf}
 use Rattle.theorems.specs.Demand2.{Same}
 use Rattle.theorems.proofs.Moves.{Does, moves-complete, moves-chosen}
-use Rattle.theorems.proofs.Expressions.{expression-value}
+use Rattle.theorems.proofs.Expressions.{Narrow, expression-value}
 use Rattle.theorems.proofs.Actions.{attribute-action, stigmergy-action, environment-action, guards-await, labelKeys, to-confirm}
 use Rattle.theorems.proofs.Reading.{tuple, I-same, L-same, Zc-same, Zp-same, agent-same, entry, timeIn, entry-stamp, put-agent, add-zp-agent}
 use Rattle.theorems.proofs.Passing.{inserted}
@@ -197,7 +197,7 @@ present-value (Present v) e = refl
 clock-agents : (s : List ℕ) (m y : ℕ) → agentOf (set s clockAt m) y ≡ agentOf s y
 clock-agents s m y = agent-same (set s clockAt m) s y (length-set s clockAt m) (λ p h k o. set-other s Clock m tt p h (apart p Clock y k o (λ l f. omega arith)))
 
-module _ (t : Table) (ok : Checked t) (s : List ℕ) (whole : length s ≡ stateWords) (formed : WellFormed t s) (x : ℕ) (is : x < t .sizes .agents) where
+module _ (t : Table) (ok : Checked t) (s : List ℕ) (narrow : Narrow t s) (whole : length s ≡ stateWords) (formed : WellFormed t s) (x : ℕ) (is : x < t .sizes .agents) where
   there : x < 32
   there = omega (arith, ok .sound .shaped .limits .agents)
 
@@ -226,11 +226,11 @@ module _ (t : Table) (ok : Checked t) (s : List ℕ) (whole : length s ≡ state
     key : p < keyLimit
     key = action-key t s x (ok .sound) n node
 
-    value-is : E⟦ exprOf t (qAt t n) ⟧ (alone (systemOf s .E) me) ≡ Present v
-    value-is = expression-value t s x x (qAt t n) ∙ present-value (valueFor t s x n) (r .present)
+    value-is : E⟦ exprOf t (qAt t n) ⟧ alone (systemOf s .E) me ⇓ v
+    value-is = expression-value t s narrow x x (qAt t n) v .0 (present-value (valueFor t s x n) (r .present))
 
     await : Await t (systemOf s .E) me g
-    await = guards-await t s x g .0 (r .guards)
+    await = guards-await t s narrow x g .0 (r .guards)
 
     is-settled : Settled me
     is-settled = settled (r .confirmed) (r .propagated)
@@ -255,7 +255,7 @@ module _ (t : Table) (ok : Checked t) (s : List ℕ) (whole : length s ≡ state
         (λ y o. put-agents (Attributes x) p v 1 s key y (λ l f. o (sym f)))
         (fun-ext λ j. put-valueIn (Attributes x) p v 1 s key whole there (omega arith) Environment j ∙ rw and-false)
         (put-other (Attributes x) p v 1 s key Clock tt refl refl)
-        (EVAL-I (ATTR (r .moves) (attribute-action t n k) is-settled) await value-is)
+        (EVAL-I v (ATTR (r .moves) (attribute-action t n k) is-settled) await value-is)
 
     done-environment : kindAt t n ≡ 4 → Done
     done-environment k =
@@ -265,7 +265,7 @@ module _ (t : Table) (ok : Checked t) (s : List ℕ) (whole : length s ≡ state
         (λ y o. put-agents Environment p v 1 s key y (λ l f. omega arith))
         (put-environment p v s key whole)
         (put-other Environment p v 1 s key Clock tt refl refl)
-        (EVAL-E (ENV (r .moves) (environment-action t n k) is-settled) await value-is)
+        (EVAL-E v (ENV (r .moves) (environment-action t n k) is-settled) await value-is)
 
     done-stigmergy : kindAt t n ≡ 3 → Done
     done-stigmergy k =
@@ -279,7 +279,7 @@ module _ (t : Table) (ok : Checked t) (s : List ℕ) (whole : length s ≡ state
         ∙ put-agents (Entries x) p v m s key y (λ l f. o (sym f)))
         (fun-ext λ j. value-same (set queued clockAt m) s Environment j (λ l. stays (Mark Environment j) l refl refl (rw and-false) refl) (λ l. stays (Word Environment j) l refl refl refl (rw and-false)))
         (set-here queued Clock m tt (add-length Zp x p entered ∙ entered-whole) (omega arith) ∙ add-one (clockOf s))
-        (EVAL-L (LSTIG (r .moves) (stigmergy-action t n k) is-settled) await value-is
+        (EVAL-L v (LSTIG (r .moves) (stigmergy-action t n k) is-settled) await value-is
         (inserted (me .L) p (entry v (suc (clockOf s))) (λ f i. omega (arith, sym (ap timeIn i) ∙ entry-stamp s x p key, formed .formed .pairs (Entries x) is p key .bound))))
       where
         m : ℕ
@@ -306,7 +306,7 @@ module _ (t : Table) (ok : Checked t) (s : List ℕ) (whole : length s ≡ state
       let e = set-tick t s x in
       finished t s x d whole there ok (inside d (r .moves)) short (t .sizes .agents) is (systemOf s .E) (clockOf s) me (ap (λ (u : List ℕ). agentOf u x) e)
       (λ y o. ap (λ (u : List ℕ). agentOf u y) e) (ap (λ (u : List ℕ). systemOf u .E) e) (ap (λ (u : List ℕ). clockOf u) e)
-      (EPSILON (SKIP (r .moves) (settled (r .confirmed) (r .propagated))) (guards-await t s x g .0 (r .guards)))
+      (EPSILON (SKIP (r .moves) (settled (r .confirmed) (r .propagated))) (guards-await t s narrow x g .0 (r .guards)))
   act-by (Acting n) g T r short = let w = node n g T r short in by (kindAt t n) refl (w .1) (w .2)
     where
       by : (k : ℕ) → kindAt t n ≡ k → 2 ≤ k → k ≤ 4 → Done n g T r short
@@ -326,11 +326,11 @@ module _ (t : Table) (ok : Checked t) (s : List ℕ) (whole : length s ≡ state
   still Ticking w = refl
   still (Acting n) w = let z : _≡_ {A = ℕ} 0 1 = cc in absurd (omega arith)
 
-  valued : (l : Label) (e : Expr) (y : Variable) (v : ℕ) → (e ▹ y) ≡ willOf t l → E⟦ e ⟧ (alone (systemOf s .E) me) ≡ Present v → lacksValue t s x l ≡ false
+  valued : (l : Label) (e : Expr) (y : Variable) (v : ℕ) → (e ▹ y) ≡ willOf t l → E⟦ e ⟧ alone (systemOf s .E) me ⇓ v → lacksValue t s x l ≡ false
   valued Ticking e y v w h = refl
   valued (Acting n) e y v w h =
       let i : e ≡ exprOf t (qAt t n) = cc in
-      ap (λ (o : Value). isAbsent o) (sym (expression-value t s x x (qAt t n)) ∙ ap (λ (f : Expr). E⟦ f ⟧ (alone (systemOf s .E) me)) (sym i) ∙ h)
+      ap (λ (o : Value). isAbsent o) (expression-value t s narrow x x (qAt t n) v .1 (subst (λ (f : Expr). E⟦ f ⟧ alone (systemOf s .E) me ⇓ v) i h))
 
   enabled : {d : Derivation} {w : Will} {a′ : Agent} → Wills t me d w a′ → Await t (systemOf s .E) me (d .guards) → lacksValue t s x (d .label) ≡ false → Enabled t s x d
   enabled {d} m g v =
@@ -338,15 +338,15 @@ module _ (t : Table) (ok : Checked t) (s : List ℕ) (whole : length s ≡ state
         moves = wills-does m;
         confirmed = nothing-zero keyLimit (zcOf s x) (formed .formed .sets Zc x is .narrow) (λ k l. wills-settled m k .0);
         propagated = nothing-zero keyLimit (zpOf s x) (formed .formed .sets Zp x is .narrow) (λ k l. wills-settled m k .1);
-        guards = guards-await t s x (d .guards) .1 g;
+        guards = guards-await t s narrow x (d .guards) .1 g;
         present = v;
       }
 
   acts-enabled : {d : Derivation} {E₁ : Interface} {T₁ : ℕ} {b : Agent} → Acts t (systemOf s .E) (clockOf s) me d E₁ T₁ b → Enabled t s x d
   acts-enabled {d} (EPSILON m g) = enabled m g (still (d .label) (wills-will m))
-  acts-enabled {d} (EVAL-I {e = e} {x = k} {v = v} m g h) = enabled m g (valued (d .label) e (attribute k) v (wills-will m) h)
-  acts-enabled {d} (EVAL-L {e = e} {x = k} {v = v} m g h i) = enabled m g (valued (d .label) e (stigmergy k) v (wills-will m) h)
-  acts-enabled {d} (EVAL-E {e = e} {x = k} {v = v} m g h) = enabled m g (valued (d .label) e (environment k) v (wills-will m) h)
+  acts-enabled {d} (EVAL-I {e = e} {x = k} v m g h) = enabled m g (valued (d .label) e (attribute k) v (wills-will m) h)
+  acts-enabled {d} (EVAL-L {e = e} {x = k} v m g h i) = enabled m g (valued (d .label) e (stigmergy k) v (wills-will m) h)
+  acts-enabled {d} (EVAL-E {e = e} {x = k} v m g h) = enabled m g (valued (d .label) e (environment k) v (wills-will m) h)
 
   pub act-enabled : {d : Derivation} {S′ : System} → Acted t (t .sizes .agents) x d (systemOf s) S′ → Enabled t s x d
   act-enabled p = acts-enabled (p .acts)

@@ -29,7 +29,7 @@ use Rattle.labs.specs.Expressions.{exprOf, K⟦_⟧}
 use Rattle.labs.specs.Processes.{Variable, attribute, stigmergy, environment, assign, actionOf}
 use Rattle.labs.specs.Systems.{present, known, Await, guardKeys}
 use Rattle.labs.specs.Reading.{entryOf, agentOf, systemOf}
-use Rattle.theorems.proofs.Expressions.{and-says, guard-holds}
+use Rattle.theorems.proofs.Expressions.{and-says, Narrow, guard-holds}
 use Rattle.theorems.proofs.Keys.{expression-keys, guard-keys}
 
 -- TABLE 14, by kind
@@ -62,9 +62,9 @@ action-expression t sound n h = by (kindAt t n) refl (h .1) (h .2)
     by (suc (suc (suc (suc (suc k))))) e a b = absurd (omega arith)
 
 -- AWAIT: all guards of a derivation hold
-pub guards-await : (t : Table) (s : List ℕ) (x : ℕ) (g : List ℕ) → (allHold t s x g ≡ true) ↔ Await t (systemOf s .E) (agentOf s x) g
-guards-await t s x [] = (λ e. tt, λ h. refl)
-guards-await t s x (b ∷ g) = and-says (holds t s x x b) (allHold t s x g) (guard-holds t s x x b) (guards-await t s x g)
+pub guards-await : (t : Table) (s : List ℕ) → Narrow t s → (x : ℕ) (g : List ℕ) → (allHold t s x g ≡ true) ↔ Await t (systemOf s .E) (agentOf s x) g
+guards-await t s narrow x [] = (λ e. tt, λ h. refl)
+guards-await t s narrow x (b ∷ g) = and-says (holds t s x x b) (allHold t s x g) (guard-holds t s narrow x x b) (guards-await t s narrow x g)
 
 -- the keys of an action's expression; a tick has none
 abbrev pub labelKeys : Table → Label → Keys

@@ -1,27 +1,30 @@
 -- DEMAND 2: a step is done exactly when the rules and the limits allow it, and leaves what they give.
 -- Assumes nothing.
-use Prim.Native.Nat.{ℕ, zero, suc, _<_}
-use mathlib.Core.Bool.{true}
+use Prim.Native.Nat.{ℕ, zero, suc, _<_, _≤_}
+use mathlib.Core.Bool.{Bool, true, _&&_}
 use mathlib.Core.Logic.{_↔_}
 use mathlib.Core.Path.{_≡_, refl, sym, ap, subst, _∙_}
 use mathlib.Core.List.{List, []}
 use native.Mathlib.Omega.{arith}
 use lib.ListN.{length}
+use borrow.Author.Tests.{le-leb, leb-true}
 use Rattle.basis.specs.KeySets.{has}
 use Rattle.basis.proofs.Lists.{nth-in, nth-is}
+use Rattle.basis.proofs.Tests.{and-left, and-right, and-both}
 use Rattle.table.specs.Checks.{passes, firstOf}
 use Rattle.table.specs.Tables.{Table, tableOf}
 use Rattle.table.specs.Sound.{Limits}
 use Rattle.term.specs.declared.Label.the-variants.{Ticking}
 use Rattle.term.specs.Accepted.{Acceptable, Checked}
-use Rattle.term.specs.Processes.{Derivation, derivation}
-use Rattle.term.specs.Terms.{Idle}
+use Rattle.term.specs.Processes.{Derivation, derivation, derivations, few, process, allFew}
+use Rattle.term.specs.Terms.{Term, Seq, Par, Tick, Idle, Node}
 use Rattle.state.specs.declared.Store.{Store}
 use Rattle.state.specs.declared.Store.the-variants.{Environment, Attributes, Entries}
-use Rattle.state.specs.Layout.{keyLimit, stampOf, valueIn}
+use Rattle.state.specs.Layout.{keyLimit, stampOf, termIn, valueIn}
+use Rattle.state.specs.WellFormed.{Proper}
 use Rattle.state.proofs.Places.{KeySet, Zc, Zp, Waits}
 use Rattle.state.proofs.Frames.{wordAt}
-use Rattle.state.proofs.Formed.{WellFormed, ProperFacts, There}
+use Rattle.state.proofs.Formed.{WellFormed, ProperFacts, There, proper-facts, facts-proper}
 use Rattle.state.proofs.Exact.{show-exact}
 use Rattle.steps.specs.Acts.{choices, chosen, acted}
 use Rattle.steps.specs.Steps.{Outcome, done, takenBy, after, ownChecks, stepOf}
@@ -30,17 +33,53 @@ use Rattle.steps.proofs.Proper.{step-checked}
 use Rattle.steps.proofs.Steps.{propagates as may-propagate, confirms as may-confirm}
 use Rattle.labs.specs.Agents.{Agent, Interface, System}
 use Rattle.labs.specs.Expressions.{valueIn as valueOfEntry}
+use Rattle.labs.specs.Processes.{Subterm, whole, seq-left, seq-right, par-left, par-right}
 use Rattle.labs.specs.Reading.{agentOf, systemOf}
-use Rattle.theorems.specs.Demand2.{Allowed, act, propagate, confirm, State, Same, Ready, Demand-2}
+use Rattle.theorems.specs.Demand2.{Allowed, act, propagate, confirm, Same, Ready, Demand-2}
 use Rattle.theorems.proofs.Moves.{moves-listed}
-use Rattle.theorems.proofs.Expressions.{entry-value}
+use Rattle.theorems.proofs.Expressions.{Narrow, entry-value, link-holds}
 use Rattle.theorems.proofs.Reading.{timeIn, entry-stamp}
-use Rattle.theorems.proofs.Ready.{state-proper, done-ready, load-ready}
+use Rattle.theorems.proofs.Ready.{ready-narrow, done-ready, load-ready, load-initial}
 use Rattle.theorems.proofs.Acting.{act-exactly}
 use Rattle.theorems.proofs.Offers.{propagated-passed, confirmed-passed, passed-propagated, passed-confirmed}
 
 same-refl : {agents : ℕ} {S : System} → Same agents S S
 same-refl = record { environment-same = refl; clock-same = refl; agents-same = λ a l. refl }
+
+-- THE LIMIT OF DERIVATIONS: the machine's test looks at every subterm
+module _ (t : Table) where
+  abbrev Few : Term → Type 0
+  Few P = length (derivations (process t P)) ≤ 65535
+
+  few-whole : (P : Term) → allFew t P ≡ true → Few P
+  unfolding allFew process derivations
+  few-whole (Seq P Q) e = leb-true _ 65535 (and-left (few (process t (Seq P Q))) (allFew t P && allFew t Q) e)
+  few-whole (Par P Q) e = leb-true _ 65535 (and-left (few (process t (Par P Q))) (allFew t P && allFew t Q) e)
+  few-whole Tick e = omega arith
+  few-whole Idle e = omega arith
+  few-whole (Node n) e = leb-true _ 65535 e
+
+  parts : (a b c : Bool) → (a && (b && c)) ≡ true → (b ≡ true) × (c ≡ true)
+  parts a b c e = (and-left b c (and-right a (b && c) e), and-right b c (and-right a (b && c) e))
+
+  joined : (T Q R : Term) → Few T → allFew t Q ≡ true → allFew t R ≡ true → (few (process t T) && (allFew t Q && allFew t R)) ≡ true
+  joined T Q R h p q = and-both (few (process t T)) (allFew t Q && allFew t R) (le-leb _ 65535 h) (and-both (allFew t Q) (allFew t R) p q)
+
+  few-part : {P R : Term} → Subterm P R → allFew t R ≡ true → Few P
+  unfolding allFew
+  few-part {P} whole e = few-whole P e
+  few-part (seq-left {Q = Q} {R = R} m) e = few-part m (parts (few (process t (Seq Q R))) (allFew t Q) (allFew t R) e .0)
+  few-part (seq-right {Q = Q} {R = R} m) e = few-part m (parts (few (process t (Seq Q R))) (allFew t Q) (allFew t R) e .1)
+  few-part (par-left {Q = Q} {R = R} m) e = few-part m (parts (few (process t (Par Q R))) (allFew t Q) (allFew t R) e .0)
+  few-part (par-right {Q = Q} {R = R} m) e = few-part m (parts (few (process t (Par Q R))) (allFew t Q) (allFew t R) e .1)
+
+  few-all : (R : Term) → ((P : Term) → Subterm P R → Few P) → allFew t R ≡ true
+  unfolding allFew process
+  few-all (Seq Q R) h = joined (Seq Q R) Q R (h (Seq Q R) whole) (few-all Q (λ P m. h P (seq-left m))) (few-all R (λ P m. h P (seq-right m)))
+  few-all (Par Q R) h = joined (Par Q R) Q R (h (Par Q R) whole) (few-all Q (λ P m. h P (par-left m))) (few-all R (λ P m. h P (par-right m)))
+  few-all Tick h = refl
+  few-all Idle h = refl
+  few-all (Node n) h = le-leb _ 65535 (h (Node n) whole)
 
 module _ (bytes s : List ℕ) (scratch : ℕ) (ready : Ready bytes s scratch) where
   abbrev t : Table
@@ -59,7 +98,10 @@ module _ (bytes s : List ℕ) (scratch : ℕ) (ready : Ready bytes s scratch) wh
   limits = checked .sound .shaped .limits
 
   formed : WellFormed t s
-  formed = state-proper t s limits .0 (ready .state) .formed
+  formed = proper-facts t limits s (ready .state) .formed
+
+  narrow : Narrow t s
+  narrow = ready-narrow bytes s (ready .small) (ready .state .small)
 
   key : (k : ℕ) → k < t .sizes .stigmergy → k < keyLimit
   key k l = omega (arith, limits .stigmergy)
@@ -73,16 +115,16 @@ module _ (bytes s : List ℕ) (scratch : ℕ) (ready : Ready bytes s scratch) wh
   after-allowed zero x c d =
       let a = act-able t s x c .0 (d .own) in
       let e = nth-in (choices t s x) c (derivation Ticking [] Idle) (a .there) in
-      let p = act-exactly t checked s (ready .state .whole) formed x (d .range .agent-below) c (chosen t s x c) e (systemOf (after t s zero x c)) .1 (a, same-refl) in
-      act (p .0) e (p .1) (p .2) (p .3)
+      let p = act-exactly t checked s narrow (ready .state .whole) formed x (d .range .agent-below) c (chosen t s x c) e (systemOf (after t s zero x c)) .1 (a, same-refl) in
+      act (p .0) e (λ P m. few-part t m (p .1)) (p .2) (p .3)
   after-allowed (suc zero) x k d =
       let l = d .range .key-below (omega arith) in
       let h = may-propagate t s x k .0 (d .own) in
-      propagate l (propagated-passed t s x k A (ready .state .whole) (limits .agents) (d .range .agent-below) (key k l) (pending Zp x k (d .range .agent-below) l h) h)
+      propagate l (propagated-passed t limits s narrow x k A (ready .state .whole) (limits .agents) (d .range .agent-below) (key k l) (pending Zp x k (d .range .agent-below) l h) h)
   after-allowed (suc (suc zero)) x k d =
       let l = d .range .key-below (omega arith) in
       let h = may-confirm t s x k .0 (d .own) in
-      confirm l (confirmed-passed t s x k A (ready .state .whole) (limits .agents) (d .range .agent-below) (key k l) (pending Zc x k (d .range .agent-below) l h) h)
+      confirm l (confirmed-passed t limits s narrow x k A (ready .state .whole) (limits .agents) (d .range .agent-below) (key k l) (pending Zc x k (d .range .agent-below) l h) h)
   after-allowed (suc (suc (suc kind))) x k d = absurd (omega (arith, d .range .kind-below))
 
   allowed : (s′ : List ℕ) (kind x number taken : ℕ) → stepOf bytes s scratch kind x number ≡ done taken s′ → Allowed t (systemOf s) (systemOf s′) kind x number taken
@@ -108,20 +150,20 @@ module _ (bytes s : List ℕ) (scratch : ℕ) (ready : Ready bytes s scratch) wh
   in-range kind x k l h i = record { kind-below = l; agent-below = h; key-below = λ p. i }
 
   every : (kind x number taken : ℕ) (S′ : System) → Allowed t (systemOf s) S′ kind x number taken → Made kind x number taken S′
-  every kind x number taken S′ (act {d = d} a e few clock short) =
-      let w = act-exactly t checked s (ready .state .whole) formed x (a .there) number d e S′ .0 (a, few, clock, short) in
+  every kind x number taken S′ (act {d = d} a e all-few clock short) =
+      let w = act-exactly t checked s narrow (ready .state .whole) formed x (a .there) number d e S′ .0 (a, few-all t (termIn s x) all-few, clock, short) in
       let i : d ≡ chosen t s x number = sym (nth-is (choices t s x) number (derivation Ticking [] Idle) d e .1) in
       made 0 x number taken S′ (record { kind-below = omega arith; agent-below = a .there; key-below = λ h. absurd (omega arith) }) (act-able t s x number .1 (w .0)) refl
       (subst (λ (o : Derivation). Same A S′ (systemOf (acted t s x o))) i (w .1))
   every kind x k taken S′ (propagate l p) =
-      let w = passed-propagated t s x k A (ready .state .whole) (limits .agents) (key k l) (pending Zp x k (p .there) l) p in
+      let w = passed-propagated t limits s narrow x k A (ready .state .whole) (limits .agents) (key k l) (pending Zp x k (p .there) l) p in
       made 1 x k taken S′ (in-range 1 x k (omega arith) (p .there) l) (may-propagate t s x k .1 (w .0)) (w .1) (w .2)
   every kind x k taken S′ (confirm l p) =
-      let w = passed-confirmed t s x k A (ready .state .whole) (limits .agents) (key k l) (pending Zc x k (p .there) l) p in
+      let w = passed-confirmed t limits s narrow x k A (ready .state .whole) (limits .agents) (key k l) (pending Zc x k (p .there) l) p in
       made 2 x k taken S′ (in-range 2 x k (omega arith) (p .there) l) (may-confirm t s x k .1 (w .0)) (w .1) (w .2)
 
   -- ONE STATE FOR A SYSTEM
-  module _ (u v : List ℕ) (first : State t u) (second : State t v) (same : Same A (systemOf u) (systemOf v)) where
+  module _ (u v : List ℕ) (first : Proper t u) (second : Proper t v) (same : Same A (systemOf u) (systemOf v)) where
     agent : (a : ℕ) → a < A → agentOf u a ≡ agentOf v a
     agent a l = same .agents-same a l
 
@@ -135,7 +177,7 @@ module _ (bytes s : List ℕ) (scratch : ℕ) (ready : Ready bytes s scratch) wh
     sets Zp a l k = ap (λ (b : Agent). b .Zp k) (agent a l)
 
     one : u ≡ v
-    one = show-exact t u v (state-proper t u limits .0 first .formed) (state-proper t v limits .0 second .formed)
+    one = show-exact t u v (proper-facts t limits u first .formed) (proper-facts t limits v second .formed)
         (record {
           clock = same .clock-same;
           values = λ store h k l. values store h k;
@@ -145,13 +187,13 @@ module _ (bytes s : List ℕ) (scratch : ℕ) (ready : Ready bytes s scratch) wh
         }) (first .whole) (second .whole)
 
   -- A DONE STEP LEAVES A WELL-FORMED STATE
-  kept : (s′ : List ℕ) (kind x number taken : ℕ) → stepOf bytes s scratch kind x number ≡ done taken s′ → State t s′
+  kept : (s′ : List ℕ) (kind x number taken : ℕ) → stepOf bytes s scratch kind x number ≡ done taken s′ → Proper t s′
   kept s′ kind x number taken e =
       let f = ap (λ (o : Outcome). o .state) (sym (step-in bytes s scratch kind x number (ready .passed)) ∙ e) in
-      state-proper t s′ limits .1 (subst (ProperFacts t) f (step-checked bytes (ready .small) s (ready .state .narrow) scratch (ready .passed) kind x number))
+      facts-proper t limits s′ (subst (ProperFacts t) f (step-checked bytes (ready .small) s (ready .state .small) scratch (ready .passed) kind x number))
 
   exactly : (s′ : List ℕ) (kind x number taken : ℕ) →
-      (stepOf bytes s scratch kind x number ≡ done taken s′) ↔ (State t s′ × Allowed t (systemOf s) (systemOf s′) kind x number taken)
+      (stepOf bytes s scratch kind x number ≡ done taken s′) ↔ (Proper t s′ × Allowed t (systemOf s) (systemOf s′) kind x number taken)
   exactly s′ kind x number taken = (
     λ e. (kept s′ kind x number taken e, allowed s′ kind x number taken e),
     λ h. let w = every kind x number taken (systemOf s′) (h .1) in
@@ -161,9 +203,11 @@ module _ (bytes s : List ℕ) (scratch : ℕ) (ready : Ready bytes s scratch) wh
 pub demand-2 : Demand-2
 demand-2 = record {
   ready = done-ready;
-  loads = load-ready;
+  loads = λ bytes lent scratch small e. load-ready bytes lent scratch small e;
+  begins = λ bytes lent scratch small e. load-initial bytes lent scratch small e;
   exactly = λ bytes s s′ scratch kind x number taken r. exactly bytes s scratch r s′ kind x number taken;
   every = λ bytes s scratch kind x number taken r S′ h. every bytes s scratch r kind x number taken S′ h;
   one = λ bytes s s′ scratch r state same. one bytes s scratch r s s′ (r .state) state same;
+  link = λ bytes s scratch k x y r hk hx hy. link-holds (tableOf bytes) s (narrow bytes s scratch r) x y (limits bytes s scratch r) k;
   transitions = λ bytes s scratch x r l d. moves-listed (tableOf bytes) (checked bytes s scratch r) (agentOf s x .P) d;
 }

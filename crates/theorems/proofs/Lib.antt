@@ -1,5 +1,6 @@
 pub mod Cases
 pub mod Moves
+pub mod Numbers
 pub mod Expressions
 pub mod Keys
 pub mod Actions

@@ -1,4 +1,4 @@
--- TABLE 8 on a state's words: propagate and confirm stand for the message that every other agent hears, and for no other system;
+-- TABLE 8 on a state's words: propagate and confirm stand for the message that every other agent receives, and for no other system;
 -- the machine's takers are the agents that take the entry.
 -- Assumes nothing.
 use Prim.Native.Nat.{ℕ, _<_, _≤_}
@@ -14,6 +14,7 @@ use Rattle.basis.specs.Numbers.{howMany}
 use Rattle.basis.specs.KeySets.{has}
 use Rattle.basis.proofs.Tests.{not-both, and-left, and-right, and-both}
 use Rattle.table.specs.Tables.{Table}
+use Rattle.table.specs.Sound.{Limits}
 use Rattle.term.specs.Acceptance.{stateWords}
 use Rattle.state.specs.declared.Store.the-variants.{Environment, Entries}
 use Rattle.state.specs.Layout.{keyLimit, clockOf, zcAt, zpAt, wordOf, stampOf, zcOf, zpOf, addKey, dropKey}
@@ -24,10 +25,10 @@ use Rattle.state.proofs.Frames.{SameAt, put-length, drop-length, drop-other, va
 use Rattle.steps.specs.Offers.{takeEntry, linked, takes, holdsNewer, offer, offered, takers, propagated, confirmed}
 use Rattle.steps.proofs.Offers.{offer-length, offered-length, offered-other, offered-turn}
 use Rattle.labs.specs.Agents.{⟨_⸴_⸴_⸴_⸴_⟩, Agent, Entry, System, _⟦_≔_⟧, _∪｛_｝, _∖｛_｝, Inserted}
-use Rattle.labs.specs.Systems.{Kind, put, qry, Message, message, Sends, PROPAGATE, CONFIRM, Older, Newer, Linked, Hears, PUT, QRY₁, QRY₂, STAY, Passed}
+use Rattle.labs.specs.Systems.{Kind, put, qry, Message, message, Sends, PROPAGATE, CONFIRM, Older, Newer, Linked, Receives, PUT, QRY₁, QRY₂, STAY, Passed}
 use Rattle.labs.specs.Reading.{agentOf, systemOf}
 use Rattle.theorems.specs.Demand2.{Same}
-use Rattle.theorems.proofs.Expressions.{link-holds}
+use Rattle.theorems.proofs.Expressions.{Narrow, link-holds}
 use Rattle.theorems.proofs.Reading.{entry, timeIn, entry-present, entry-stamp, agent-same, put-agent, with, add-zp-agent, drop-zp-agent, drop-zc-agent}
 use Rattle.theorems.proofs.Passing.{inserted, sends-zp, sends-zc, passed-unique, passed-count}
 
@@ -60,7 +61,7 @@ took-agent k v m y s key whole there pos =
     (drop-zc-agent y k (putPair (Entries y) k v m s) p there
     ∙ ap (λ (a : Agent). with Zc a (a .Zc ∖｛ k ｝)) (put-agent y k v m s key whole there pos))
 
-module _ (t : Table) (was : List ℕ) (x k agents : ℕ) (whole : length was ≡ stateWords) (few : agents ≤ 32) (there : x < agents) (key : k < keyLimit) (entered : 0 < stampOf was x k) where
+module _ (t : Table) (limits : Limits (t .sizes)) (was : List ℕ) (narrow : Narrow t was) (x k agents : ℕ) (whole : length was ≡ stateWords) (few : agents ≤ 32) (there : x < agents) (key : k < keyLimit) (entered : 0 < stampOf was x k) where
   abbrev mine : Entry
   mine = entry (wordOf was (Entries x) k) (stampOf was x k)
 
@@ -81,7 +82,7 @@ module _ (t : Table) (was : List ℕ) (x k agents : ℕ) (whole : length was ≡
     sender-same : agentOf spread x ≡ agentOf was x
     sender-same = agent-same spread was x (offered-length t was x k confirming agents) (λ p i pos e. offered-other t was x k confirming key agents p i (λ y l d o. absurd (d (sym o ∙ e))))
 
-    -- AN AGENT THAT HEARS
+    -- AN AGENT THAT RECEIVES
     module _ (y : ℕ) (below : y < agents) (other : y ≡ x → ⊥) where
       abbrev now : List ℕ
       now = offered t was x k confirming y
@@ -97,17 +98,17 @@ module _ (t : Table) (was : List ℕ) (x k agents : ℕ) (whole : length was ≡
           (λ p i pos e. offered-turn t was x k confirming key agents y below p i e)
 
       abbrev Result : Bool → Agent → Type 0
-      Result b a = Hears t (systemOf was .E) (said (sentKind confirming)) (agentOf was y) b a
+      Result b a = Receives t (systemOf was .E) (said (sentKind confirming)) (agentOf was y) b a
 
       heard : linked t was x k y ≡ linkHolds t was k x y
       unfolding linked
       heard = rw (ne-eqb x y (λ (e : x ≡ y). other (sym e)))
 
       linked : linked t was x k y ≡ true → Linked t (systemOf was .E) (said (sentKind confirming)) (agentOf was y)
-      linked e = link-holds t was x y k .0 (sym heard ∙ e)
+      linked e = link-holds t was narrow x y limits k .0 (sym heard ∙ e)
 
       of-linked : Linked t (systemOf was .E) (said (sentKind confirming)) (agentOf was y) → linked t was x k y ≡ true
-      of-linked h = heard ∙ link-holds t was x y k .1 h
+      of-linked h = heard ∙ link-holds t was narrow x y limits k .1 h
 
       held : timeIn (agentOf was y .L k) ≡ stampOf was y k
       held = entry-stamp was y k key
@@ -118,13 +119,13 @@ module _ (t : Table) (was : List ℕ) (x k agents : ℕ) (whole : length was ≡
       newer : Newer (agentOf was y .L k) (stampOf was x k) ↔ (stampOf was x k < timeIn (agentOf was y .L k))
       newer = newer-time (agentOf was y .L k) (stampOf was x k)
 
-      taking : (b : Bool) → stampOf was y k < stampOf was x k → linked t was x k y ≡ true → Hears t (systemOf was .E) (said (sentKind b)) (agentOf was y) true (took k mine (agentOf was y))
+      taking : (b : Bool) → stampOf was y k < stampOf was x k → linked t was x k y ≡ true → Receives t (systemOf was .E) (said (sentKind b)) (agentOf was y) true (took k mine (agentOf was y))
       taking b l e = by b
         where
           is-inserted : Inserted (agentOf was y .L) k mine (agentOf was y .L ⟦ k ≔ some mine ⟧)
           is-inserted = inserted (agentOf was y .L) k mine (λ f i. omega (arith, sym (ap timeIn i) ∙ held))
 
-          by : (b : Bool) → Hears t (systemOf was .E) (said (sentKind b)) (agentOf was y) true (took k mine (agentOf was y))
+          by : (b : Bool) → Receives t (systemOf was .E) (said (sentKind b)) (agentOf was y) true (took k mine (agentOf was y))
           by true = QRY₁ refl (linked e) (older .1 (omega (arith, held))) is-inserted
           by false = PUT refl (linked e) (older .1 (omega (arith, held))) is-inserted
 
@@ -175,7 +176,7 @@ module _ (t : Table) (was : List ℕ) (x k agents : ℕ) (whole : length was ≡
         (sym (drop-zp-agent x k (spread false) (spread-whole false) (omega arith) ∙ ap (λ (a : Agent). with Zp a (a .Zp ∖｛ k ｝)) (sender-same false)))
         (PROPAGATE h (entry-present was x k key entered));
     itself = takes-self;
-    linked = λ y l d. heard-by false y l d Zp;
+    receives = λ y l d. heard-by false y l d Zp;
     environment-stays = environment-stays Zp false;
     clock-stays = clock-stays Zp false;
   }
@@ -188,23 +189,23 @@ module _ (t : Table) (was : List ℕ) (x k agents : ℕ) (whole : length was ≡
         (sym (drop-zc-agent x k (spread true) (spread-whole true) (omega arith) ∙ ap (λ (a : Agent). with Zc a (a .Zc ∖｛ k ｝)) (sender-same true)))
         (CONFIRM h (entry-present was x k key entered));
     itself = takes-self;
-    linked = λ y l d. heard-by true y l d Zc;
+    receives = λ y l d. heard-by true y l d Zc;
     environment-stays = environment-stays Zc true;
     clock-stays = clock-stays Zc true;
   }
 
 -- THE THEOREMS: the rules give the step on words and no other, and the same number of takers. `pending` is what a well-formed state has
-module _ (t : Table) (was : List ℕ) (x k agents : ℕ) (whole : length was ≡ stateWords) (few : agents ≤ 32) (key : k < keyLimit) {taking : ℕ → Bool} {S′ : System} where
+module _ (t : Table) (limits : Limits (t .sizes)) (was : List ℕ) (narrow : Narrow t was) (x k agents : ℕ) (whole : length was ≡ stateWords) (few : agents ≤ 32) (key : k < keyLimit) {taking : ℕ → Bool} {S′ : System} where
   pub passed-propagated : (pending : has (zpOf was x) k ≡ true → 0 < stampOf was x k) → Passed t agents x put k taking (systemOf was) S′ →
       (has (zpOf was x) k ≡ true) × (howMany taking agents ≡ takers t was x k agents) × Same agents S′ (systemOf (propagated t was x k agents))
   passed-propagated pending p =
       let h = sends-zp (p .sends) refl in
-      let q = propagated-passed t was x k agents whole few (p .there) key (pending h) h in
+      let q = propagated-passed t limits was narrow x k agents whole few (p .there) key (pending h) h in
       (h, passed-count p q, passed-unique p q)
 
   pub passed-confirmed : (pending : has (zcOf was x) k ≡ true → 0 < stampOf was x k) → Passed t agents x qry k taking (systemOf was) S′ →
       (has (zcOf was x) k ≡ true) × (howMany taking agents ≡ takers t was x k agents) × Same agents S′ (systemOf (confirmed t was x k agents))
   passed-confirmed pending p =
       let h = sends-zc (p .sends) refl in
-      let q = confirmed-passed t was x k agents whole few (p .there) key (pending h) h in
+      let q = confirmed-passed t limits was narrow x k agents whole few (p .there) key (pending h) h in
       (h, passed-count p q, passed-unique p q)

@@ -11,7 +11,7 @@ use Rattle.basis.proofs.Numbers.{howMany-ext}
 use Rattle.basis.proofs.Tests.{same-or-other}
 use Rattle.table.specs.Tables.{Table}
 use Rattle.labs.specs.Agents.{⟨_⸴_⸴_⸴_⸴_⟩, Agent, Entry, Interface, Stigmergy, System, _⟦_≔_⟧, _∪｛_｝, _∖｛_｝, Inserted, add, update, discard}
-use Rattle.labs.specs.Systems.{Kind, put, qry, Message, message, Sends, PROPAGATE, CONFIRM, Older, Newer, Linked, Hears, PUT, QRY₁, QRY₂, STAY, Passed}
+use Rattle.labs.specs.Systems.{Kind, put, qry, Message, message, Sends, PROPAGATE, CONFIRM, Older, Newer, Linked, Receives, PUT, QRY₁, QRY₂, STAY, Passed}
 use Rattle.theorems.specs.Demand2.{Same}
 
 -- TABLE 1
@@ -54,31 +54,31 @@ answered m a = ⟨ a .I ⸴ a .L ⸴ a .P ⸴ a .Zc ⸴ a .Zp ∪｛ m .x ｝ �
 
 module _ {t : Table} {E : Interface} {m : Message} {a : Agent} where
   when-older : {L′ : Stigmergy} {took : Bool} {b : Agent} → Linked t E m a → Older (a .L (m .x)) (m .entry .time) → Inserted (a .L) (m .x) (m .entry) L′ →
-      Hears t E m a took b → (true ≡ took) × (taken m a L′ ≡ b)
+      Receives t E m a took b → (true ≡ took) × (taken m a L′ ≡ b)
   when-older l o i (PUT _ _ _ j) = (refl, ap (taken m a) (inserted-unique i j))
   when-older l o i (QRY₁ _ _ _ j) = (refl, ap (taken m a) (inserted-unique i j))
   when-older l o i (QRY₂ _ _ n) = absurd (older-or-newer (a .L (m .x)) (m .entry .time) o n)
   when-older l o i (STAY u _) = absurd (u l o)
 
   when-newer : {took : Bool} {b : Agent} → m .kind ≡ qry → Linked t E m a → Newer (a .L (m .x)) (m .entry .time) →
-      Hears t E m a took b → (false ≡ took) × (answered m a ≡ b)
+      Receives t E m a took b → (false ≡ took) × (answered m a ≡ b)
   when-newer k l n (PUT _ _ o _) = absurd (older-or-newer (a .L (m .x)) (m .entry .time) o n)
   when-newer k l n (QRY₁ _ _ o _) = absurd (older-or-newer (a .L (m .x)) (m .entry .time) o n)
   when-newer k l n (QRY₂ _ _ _) = (refl, refl)
   when-newer k l n (STAY _ v) = absurd (v k l n)
 
   when-neither : {took : Bool} {b : Agent} → (Linked t E m a → Older (a .L (m .x)) (m .entry .time) → ⊥) →
-      (m .kind ≡ qry → Linked t E m a → Newer (a .L (m .x)) (m .entry .time) → ⊥) → Hears t E m a took b → (false ≡ took) × (a ≡ b)
+      (m .kind ≡ qry → Linked t E m a → Newer (a .L (m .x)) (m .entry .time) → ⊥) → Receives t E m a took b → (false ≡ took) × (a ≡ b)
   when-neither u v (PUT _ l o _) = absurd (u l o)
   when-neither u v (QRY₁ _ l o _) = absurd (u l o)
   when-neither u v (QRY₂ k l n) = absurd (v k l n)
   when-neither u v (STAY _ _) = (refl, refl)
 
-  pub hears-unique : {p q : Bool} {b c : Agent} → Hears t E m a p b → Hears t E m a q c → (p ≡ q) × (b ≡ c)
-  hears-unique (PUT k l o i) h = when-older l o i h
-  hears-unique (QRY₁ k l o i) h = when-older l o i h
-  hears-unique (QRY₂ k l n) h = when-newer k l n h
-  hears-unique (STAY u v) h = when-neither u v h
+  pub receives-unique : {p q : Bool} {b c : Agent} → Receives t E m a p b → Receives t E m a q c → (p ≡ q) × (b ≡ c)
+  receives-unique (PUT k l o i) h = when-older l o i h
+  receives-unique (QRY₁ k l o i) h = when-older l o i h
+  receives-unique (QRY₂ k l n) h = when-newer k l n h
+  receives-unique (STAY u v) h = when-neither u v h
 
 put-or-qry : put ≡ qry → ⊥
 put-or-qry e = let z : _≡_ {A = ℕ} 0 1 = cc in omega arith
@@ -106,8 +106,8 @@ module _ {t : Table} {agents x : ℕ} {kind : Kind} {k : ℕ} {took took′ : �
   agent-alike : (y : ℕ) → y < agents → (took y ≡ took′ y) × (S′ .agent y ≡ S″ .agent y)
   agent-alike y l =
       ⊎-elim (λ (e : y ≡ x). rw e (p .itself ∙ sym (q .itself), sent .1))
-      (λ (d : y ≡ x → ⊥). hears-unique (p .hears y l d)
-      (subst (λ (e : Entry). Hears t (S .E) (message kind (S .agent x) k e) (S .agent y) (took′ y) (S″ .agent y)) (sym (sent .0)) (q .hears y l d)))
+      (λ (d : y ≡ x → ⊥). receives-unique (p .receives y l d)
+      (subst (λ (e : Entry). Receives t (S .E) (message kind (S .agent x) k e) (S .agent y) (took′ y) (S″ .agent y)) (sym (sent .0)) (q .receives y l d)))
       (same-or-other y x)
 
   pub passed-unique : Same agents S′ S″

@@ -1,21 +1,20 @@
--- READY: what load leaves of an accepted table is ready, and stands for agents at their starting processes that know nothing;
+-- READY: what load leaves of an accepted table is ready, and stands for the initial system;
 -- and no other state has a step that is done.
 -- Assumes nothing.
-use Prim.Native.Nat.{ℕ, _^_, _<_}
-use mathlib.Core.Bool.{false}
-use mathlib.Core.Logic.{_↔_}
+use Prim.Native.Nat.{ℕ, _+_, _*_, _<_}
 use mathlib.Core.Option.{Option, none}
 use mathlib.Core.Path.{_≡_, refl, sym, ap, subst, _∙_, fun-ext}
 use mathlib.Core.List.{List}
+use native.Mathlib.Omega.{arith}
 use lib.Dec.{ltb}
 use lib.ListN.{getD}
+use lib.Seq.{getD-drop}
 use borrow.Author.Tests.{ltb-true}
 use Rattle.basis.specs.KeySets.{has}
 use Rattle.basis.proofs.KeySets.{has-nothing}
 use Rattle.basis.proofs.Tests.{cond-cases}
-use Rattle.value.specs.declared.Value.the-variants.{Absent}
 use Rattle.table.specs.Checks.{passes, firstOf}
-use Rattle.table.specs.Tables.{Table, tableOf, startAt}
+use Rattle.table.specs.Tables.{Table, sizesOf, tableOf, pAt, startAt}
 use Rattle.table.specs.Sound.{Limits}
 use Rattle.table.proofs.Promises.{start-process}
 use Rattle.term.specs.Acceptance.{stateWords, tableChecks}
@@ -24,24 +23,29 @@ use Rattle.term.proofs.Acceptance.{passes-accepted, accepted-passes}
 use Rattle.term.specs.Terms.{Node}
 use Rattle.state.specs.declared.Store.the-variants.{Environment, Attributes, Entries}
 use Rattle.state.specs.Layout.{keyLimit}
-use Rattle.state.specs.WellFormed.{loaded}
+use Rattle.state.specs.WellFormed.{Proper, loaded}
 use Rattle.state.proofs.Places.{Zc, Zp}
-use Rattle.state.proofs.Formed.{ProperFacts, well-formed-read, well-formed-test}
+use Rattle.state.proofs.Formed.{proper-facts, facts-proper}
 use Rattle.state.proofs.Load.{loaded-clock, loaded-mark, loaded-value, loaded-set, loaded-term}
 use Rattle.steps.specs.Steps.{Outcome, loadOf, stepOf}
 use Rattle.steps.proofs.Proper.{load-proper, proper-passes}
 use Rattle.steps.proofs.Steps.{state-checks, done-step, load-accepted, accepted-load}
-use Rattle.labs.specs.Agents.{⟨_⸴_⸴_⸴_⸴_⟩, Entry, System}
-use Rattle.labs.specs.Reading.{entryOf, systemOf}
-use Rattle.theorems.specs.Demand2.{Bytes, Words, State, Same, Ready}
+use Rattle.labs.specs.Agents.{Entry}
+use Rattle.labs.specs.Roots.{startOf}
+use Rattle.labs.specs.Reading.{entryOf, systemOf, initial}
+use Rattle.theorems.specs.Demand2.{Bytes, Words, Same, Ready}
+use Rattle.theorems.proofs.Expressions.{Narrow}
 use Rattle.theorems.proofs.Reading.{tuple}
 
-module _ (t : Table) (s : List ℕ) (limits : Limits (t .sizes)) where
-  pub state-proper : State t s ↔ ProperFacts t s
-  state-proper = (
-    λ h. record { whole = h .whole; small = h .narrow; formed = well-formed-read t limits s (h .whole) (h .formed) },
-    λ p. record { whole = p .whole; narrow = p .small; formed = well-formed-test t limits s (p .whole) (p .formed) },
-  )
+-- the numbers of a ready table and state have 32 bits
+pub ready-narrow : (bytes s : List ℕ) → Bytes bytes → Words s → Narrow (tableOf bytes) s
+ready-narrow bytes s small narrow = record {
+  constants = λ n. let i = 4 * n in omega (arith, operand i, operand (i + 1), operand (i + 2), operand (i + 2 + 1));
+  words = narrow;
+}
+  where
+    operand : (i : ℕ) → getD (tableOf bytes .operands) i 0 < 256
+    operand i = rw (getD-drop (12 + sizesOf bytes .nodes) bytes i 0) (small (12 + sizesOf bytes .nodes + i))
 
 module _ (bytes : List ℕ) (small : Bytes bytes) (scratch : ℕ) (pass : firstOf (tableChecks bytes stateWords scratch) ≡ passes) where
   abbrev t : Table
@@ -54,29 +58,25 @@ module _ (bytes : List ℕ) (small : Bytes bytes) (scratch : ℕ) (pass : firstO
   limits = accepted .table .sound .shaped .limits
 
   -- a well-formed state of an accepted table is ready
-  pub state-ready : (s : List ℕ) → State (tableOf bytes) s → Ready bytes s scratch
-  state-ready s h = record { small = small; state = h; passed = proper-passes bytes stateWords scratch accepted s (state-proper t s limits .0 h) }
+  pub state-ready : (s : List ℕ) → Proper (tableOf bytes) s → Ready bytes s scratch
+  state-ready s h = record { small = small; state = h; passed = proper-passes bytes stateWords scratch accepted s (proper-facts t limits s h) }
 
   pub loaded-ready : Ready bytes (loaded (tableOf bytes)) scratch
-  loaded-ready = state-ready (loaded t) (state-proper t (loaded t) limits .1 (load-proper bytes stateWords scratch pass))
-
-  -- no value, no entry, no pending key
-  abbrev pub begun : System
-  begun = record {
-    E = λ k. Absent;
-    clock = 0;
-    agent = λ a. ⟨ (λ k. Absent) ⸴ (λ k. none) ⸴ Node (startAt (tableOf bytes) a) ⸴ (λ k. false) ⸴ (λ k. false) ⟩;
-  }
+  loaded-ready = state-ready (loaded t) (facts-proper t limits (loaded t) (load-proper bytes stateWords scratch pass))
 
   no-entry : (a k : ℕ) → entryOf (loaded t) a k ≡ none
   no-entry a k = cond-cases (λ (o : Option Entry). o ≡ none) (ltb k keyLimit) (λ e. rw (loaded-mark t (Entries a) k (ltb-true k keyLimit e))) (λ e. refl)
 
-  pub loaded-begun : Same (tableOf bytes .sizes .agents) (systemOf (loaded (tableOf bytes))) begun
-  loaded-begun = record {
+  -- the paper's arithmetic of roots and the table's agree
+  start-root : (a : ℕ) → startAt t a ≡ startOf t a
+  start-root a = ap (λ (n : ℕ). pAt t n) (omega (arith, limits .roots))
+
+  pub loaded-initial : Same (tableOf bytes .sizes .agents) (systemOf (loaded (tableOf bytes))) (initial (tableOf bytes))
+  loaded-initial = record {
     environment-same = fun-ext λ k. loaded-value t Environment k;
     clock-same = loaded-clock t;
     agents-same = λ a l. tuple (fun-ext λ k. loaded-value t (Attributes a) k) (fun-ext λ k. no-entry a k)
-        (loaded-term t limits (start-process t (accepted .table .sound)) a l)
+        (loaded-term t limits (start-process t (accepted .table .sound)) a l ∙ ap Node (start-root a))
         (fun-ext λ k. ap (λ (w : ℕ). has w k) (loaded-set t Zc a) ∙ has-nothing k) (fun-ext λ k. ap (λ (w : ℕ). has w k) (loaded-set t Zp a) ∙ has-nothing k);
   }
 
@@ -87,15 +87,20 @@ done-ready bytes s scratch kind x number small narrow e =
     let d = done-step bytes s scratch kind x number e in
     record {
       small = small;
-      state = record { whole = d .accepted .state; narrow = narrow; formed = d .formed };
+      state = record { whole = d .accepted .state; small = narrow; formed = d .formed };
       passed = state-checks bytes s scratch .1 (d .accepted, d .formed);
     }
 
--- whatever words were lent, load leaves a ready state
-pub load-ready : (bytes lent : List ℕ) (scratch : ℕ) → Bytes bytes → loadOf bytes lent scratch .check ≡ passes →
-    Ready bytes (loadOf bytes lent scratch .state) scratch
-load-ready bytes lent scratch small e =
-    let a = load-accepted bytes lent scratch e in
-    let p : Acceptable bytes stateWords scratch = subst (λ (n : ℕ). Acceptable bytes n scratch) (a .state) a in
-    subst (λ (o : Outcome). Ready bytes (o .state) scratch) (sym (accepted-load bytes lent scratch a))
-    (loaded-ready bytes small scratch (accepted-passes bytes stateWords scratch p))
+-- whatever words were lent, load leaves a ready state, of the initial system
+module _ (bytes lent : List ℕ) (scratch : ℕ) (small : Bytes bytes) (e : loadOf bytes lent scratch .check ≡ passes) where
+  by-load : (P : List ℕ → Type 0) → (firstOf (tableChecks bytes stateWords scratch) ≡ passes → P (loaded (tableOf bytes))) → P (loadOf bytes lent scratch .state)
+  by-load P h =
+      let a = load-accepted bytes lent scratch e in
+      let p : Acceptable bytes stateWords scratch = subst (λ (n : ℕ). Acceptable bytes n scratch) (a .state) a in
+      subst (λ (o : Outcome). P (o .state)) (sym (accepted-load bytes lent scratch a)) (h (accepted-passes bytes stateWords scratch p))
+
+  pub load-ready : Ready bytes (loadOf bytes lent scratch .state) scratch
+  load-ready = by-load (λ s. Ready bytes s scratch) (loaded-ready bytes small scratch)
+
+  pub load-initial : Same (tableOf bytes .sizes .agents) (systemOf (loadOf bytes lent scratch .state)) (initial (tableOf bytes))
+  load-initial = by-load (λ s. Same (tableOf bytes .sizes .agents) (systemOf s) (initial (tableOf bytes))) (loaded-initial bytes small scratch)

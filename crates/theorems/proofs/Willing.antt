@@ -10,7 +10,7 @@ use Rattle.term.specs.declared.Label.{Label}
 use Rattle.term.specs.declared.Label.the-variants.{Ticking, Acting}
 use Rattle.term.specs.Processes.{Derivation}
 use Rattle.labs.specs.Agents.{⟨_⸴_⸴_⸴_⸴_⟩, Agent, Interface, Stigmergy, System, _⟦_≔_⟧, _∪｛_｝, Inserted}
-use Rattle.labs.specs.Expressions.{Expr, E⟦_⟧, K⟦_⟧}
+use Rattle.labs.specs.Expressions.{Expr, E⟦_⟧_⇓_, K⟦_⟧}
 use Rattle.labs.specs.Processes.{attribute, stigmergy, environment, Action, assign, actionOf}
 use Rattle.labs.specs.Systems.{Settled, Will, ε, _▹_, onward, Wills, SKIP, ATTR, LSTIG, ENV, alone, awaited, Acts, EPSILON, EVAL-I, EVAL-L, EVAL-E, Acted}
 use Rattle.theorems.specs.Demand2.{Same}
@@ -61,12 +61,12 @@ module _ (t : Table) (E : Interface) (T : ℕ) (a : Agent) (d : Derivation) wher
   abbrev After : Will → Agent → Interface → ℕ → Agent → Type 0
   After ε a′ E₁ T₁ b = (E₁ ≡ E) × (T₁ ≡ T) × (b ≡ awaited t a (d .guards) a′)
   After (e ▹ attribute x) a′ E₁ T₁ b =
-      (v : ℕ) × (E⟦ e ⟧ (alone E a) ≡ Present v) × (E₁ ≡ E) × (T₁ ≡ T) × (b ≡ awaited t a (d .guards) ⟨ a′ .I ⟦ x ≔ Present v ⟧ ⸴ a′ .L ⸴ a′ .P ⸴ a′ .Zc ⸴ a′ .Zp ⟩)
+      (v : ℕ) × (E⟦ e ⟧ alone E a ⇓ v) × (E₁ ≡ E) × (T₁ ≡ T) × (b ≡ awaited t a (d .guards) ⟨ a′ .I ⟦ x ≔ Present v ⟧ ⸴ a′ .L ⸴ a′ .P ⸴ a′ .Zc ⸴ a′ .Zp ⟩)
   After (e ▹ stigmergy x) a′ E₁ T₁ b =
-      (v : ℕ) × (L′ : Stigmergy) × (E⟦ e ⟧ (alone E a) ≡ Present v) × Inserted (a′ .L) x (record { value = v; time = suc T }) L′ × (E₁ ≡ E) × (T₁ ≡ suc T)
+      (v : ℕ) × (L′ : Stigmergy) × (E⟦ e ⟧ alone E a ⇓ v) × Inserted (a′ .L) x (record { value = v; time = suc T }) L′ × (E₁ ≡ E) × (T₁ ≡ suc T)
       × (b ≡ awaited t a (d .guards) ⟨ a′ .I ⸴ L′ ⸴ a′ .P ⸴ a′ .Zc ⸴ a′ .Zp ∪｛ x ｝ ⟩)
   After (e ▹ environment x) a′ E₁ T₁ b =
-      (v : ℕ) × (E⟦ e ⟧ (alone E a) ≡ Present v) × (E₁ ≡ (E ⟦ x ≔ Present v ⟧)) × (T₁ ≡ T) × (b ≡ awaited t a (d .guards) a′)
+      (v : ℕ) × (E⟦ e ⟧ alone E a ⇓ v) × (E₁ ≡ (E ⟦ x ≔ Present v ⟧)) × (T₁ ≡ T) × (b ≡ awaited t a (d .guards) a′)
 
   abbrev Ends : Interface → ℕ → Agent → Type 0
   Ends E₁ T₁ b = After (willOf t (d .label)) (onward a (d .leaving) (labelKeys t (d .label))) E₁ T₁ b
@@ -78,9 +78,9 @@ module _ (t : Table) (E : Interface) (T : ℕ) (a : Agent) (d : Derivation) wher
 
   acts-end : {E₁ : Interface} {T₁ : ℕ} {b : Agent} → Acts t E T a d E₁ T₁ b → Ends E₁ T₁ b
   acts-end (EPSILON m g) = ends m _ _ _ (refl, refl, refl)
-  acts-end (EVAL-I m g v) = ends m _ _ _ (_, v, refl, refl, refl)
-  acts-end (EVAL-L m g v i) = ends m _ _ _ (_, _, v, i, refl, refl, refl)
-  acts-end (EVAL-E m g v) = ends m _ _ _ (_, v, refl, refl, refl)
+  acts-end (EVAL-I v m g h) = ends m _ _ _ (v, h, refl, refl, refl)
+  acts-end (EVAL-L v m g h i) = ends m _ _ _ (v, _, h, i, refl, refl, refl)
+  acts-end (EVAL-E v m g h) = ends m _ _ _ (v, h, refl, refl, refl)
 
   after-unique : (w : Will) (a′ : Agent) (E₁ E₂ : Interface) (T₁ T₂ : ℕ) (b c : Agent) → After w a′ E₁ T₁ b → After w a′ E₂ T₂ c → (E₁ ≡ E₂) × (T₁ ≡ T₂) × (b ≡ c)
   after-unique ε a′ E₁ E₂ T₁ T₂ b c p q = (p .0 ∙ sym (q .0), p .1 ∙ sym (q .1), p .2 ∙ sym (q .2))

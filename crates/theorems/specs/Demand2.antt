@@ -9,22 +9,23 @@ use lib.ListN.{length, getD, getElem?}
 use Rattle.basis.specs.Numbers.{howMany}
 use Rattle.table.specs.Checks.{passes, firstOf}
 use Rattle.table.specs.Tables.{Table, tableOf}
-use Rattle.term.specs.Terms.{words}
-use Rattle.term.specs.Processes.{Derivation, derivations, process, allFew}
-use Rattle.term.specs.Acceptance.{stateWords}
-use Rattle.state.specs.Layout.{residualWords}
-use Rattle.state.specs.WellFormed.{wellFormed}
+use Rattle.term.specs.Terms.{Term, words}
+use Rattle.term.specs.Processes.{Derivation, derivations, process}
+use Rattle.state.specs.Evaluation.{linkHolds}
+use Rattle.state.specs.WellFormed.{Proper}
 use Rattle.steps.specs.Steps.{done, stateChecks, loadOf, stepOf}
 use Rattle.labs.specs.Agents.{System}
-use Rattle.labs.specs.Processes.{Moves}
-use Rattle.labs.specs.Systems.{Acted, Passed, put, qry}
-use Rattle.labs.specs.Reading.{systemOf}
+use Rattle.labs.specs.Expressions.{_⊨_, φ}
+use Rattle.labs.specs.Processes.{Subterm, Moves}
+use Rattle.labs.specs.Systems.{Acted, Passed, put, qry, between}
+use Rattle.labs.specs.Reading.{systemOf, initial}
 
 -- The step (kind, agent, number) may take S to S′, and this many agents take an entry: a rule gives it, and so do the limits,
--- 65,535 derivations of every subterm, the clock and 63 words
+-- 65,535 derivations of every subterm of the residual, the clock at most 65,535, and 63 words of what is left
 pub data Allowed (t : Table) (S S′ : System) : ℕ → ℕ → ℕ → ℕ → Type 0 where
   act : {x c : ℕ} {d : Derivation} → Acted t (t .sizes .agents) x d S S′ → getElem? (derivations (process t (S .agent x .P))) c ≡ some d →
-      allFew t (S .agent x .P) ≡ true → S′ .clock ≤ 65535 → length (words (d .leaving)) ≤ residualWords → Allowed t S S′ 0 x c 0
+      ((P : Term) → Subterm P (S .agent x .P) → length (derivations (process t P)) ≤ 65535) →
+      S′ .clock ≤ 65535 → length (words (d .leaving)) ≤ 63 → Allowed t S S′ 0 x c 0
   propagate : {x k : ℕ} {took : ℕ → Bool} → k < t .sizes .stigmergy → Passed t (t .sizes .agents) x put k took S S′ →
       Allowed t S S′ 1 x k (howMany took (t .sizes .agents))
   confirm : {x k : ℕ} {took : ℕ → Bool} → k < t .sizes .stigmergy → Passed t (t .sizes .agents) x qry k took S S′ →
@@ -37,12 +38,6 @@ Bytes l = (i : ℕ) → getD l i 0 < 256
 abbrev pub Words : List ℕ → Type 0
 Words l = (i : ℕ) → getD l i 0 < 2 ^ 32
 
--- 4,194 words of 32 bits that are well formed
-pub record State (t : Table) (s : List ℕ) : Type 0 where
-  pub whole : length s ≡ stateWords
-  pub narrow : Words s
-  pub formed : wellFormed t s ≡ true
-
 -- two systems with the same environment, clock and agents
 pub record Same (agents : ℕ) (S S′ : System) : Type 0 where
   pub environment-same : S .E ≡ S′ .E
@@ -52,7 +47,7 @@ pub record Same (agents : ℕ) (S S′ : System) : Type 0 where
 -- an accepted table (with room for the scratch) and a well-formed state
 pub record Ready (bytes s : List ℕ) (scratch : ℕ) : Type 0 where
   pub small : Bytes bytes
-  pub state : State (tableOf bytes) s
+  pub state : Proper (tableOf bytes) s
   pub passed : firstOf (stateChecks bytes s scratch) ≡ passes
 
 pub record Demand-2 : Type 0 where
@@ -61,17 +56,24 @@ pub record Demand-2 : Type 0 where
       stepOf bytes s scratch kind x number .check ≡ passes → Ready bytes s scratch
   pub loads : (bytes lent : List ℕ) (scratch : ℕ) → Bytes bytes → loadOf bytes lent scratch .check ≡ passes →
       Ready bytes (loadOf bytes lent scratch .state) scratch
+  -- that state stands for the initial system
+  pub begins : (bytes lent : List ℕ) (scratch : ℕ) → Bytes bytes → loadOf bytes lent scratch .check ≡ passes →
+      Same (tableOf bytes .sizes .agents) (systemOf (loadOf bytes lent scratch .state)) (initial (tableOf bytes))
   -- a step is done with these words exactly when they are a well-formed state, and the rules and limits allow the system that they stand for
   pub exactly : (bytes s s′ : List ℕ) (scratch kind x number taken : ℕ) → Ready bytes s scratch →
       (stepOf bytes s scratch kind x number ≡ done taken s′)
-      ↔ (State (tableOf bytes) s′ × Allowed (tableOf bytes) (systemOf s) (systemOf s′) kind x number taken)
+      ↔ (Proper (tableOf bytes) s′ × Allowed (tableOf bytes) (systemOf s) (systemOf s′) kind x number taken)
   -- whatever system the rules and limits allow, the step is done and leaves words that stand for it
   pub every : (bytes s : List ℕ) (scratch kind x number taken : ℕ) → Ready bytes s scratch → (S′ : System) →
       Allowed (tableOf bytes) (systemOf s) S′ kind x number taken →
       (s′ : List ℕ) × (stepOf bytes s scratch kind x number ≡ done taken s′) × Same (tableOf bytes .sizes .agents) S′ (systemOf s′)
   -- two well-formed states that stand for one system are the same words
-  pub one : (bytes s s′ : List ℕ) (scratch : ℕ) → Ready bytes s scratch → State (tableOf bytes) s′ →
+  pub one : (bytes s s′ : List ℕ) (scratch : ℕ) → Ready bytes s scratch → Proper (tableOf bytes) s′ →
       Same (tableOf bytes .sizes .agents) (systemOf s) (systemOf s′) → s ≡ s′
+  -- a key's link holds exactly where its link predicate does between the two agents
+  pub link : (bytes s : List ℕ) (scratch k x y : ℕ) → Ready bytes s scratch → k < tableOf bytes .sizes .stigmergy →
+      x < tableOf bytes .sizes .agents → y < tableOf bytes .sizes .agents →
+      (linkHolds (tableOf bytes) s k x y ≡ true) ↔ (between (systemOf s) x y ⊨ φ (tableOf bytes) k)
   -- an agent's derivations are the transitions that Table 3 derives
   pub transitions : (bytes s : List ℕ) (scratch x : ℕ) → Ready bytes s scratch → x < tableOf bytes .sizes .agents → (d : Derivation) →
       List·Memᴰ d (derivations (process (tableOf bytes) (systemOf s .agent x .P)))
