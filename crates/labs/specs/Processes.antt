@@ -54,20 +54,30 @@ abbrev pub actionOf : Table → ℕ → Action
 actionOf t n =
     assign (getD (attribute (pAt t n) ∷ stigmergy (pAt t n) ∷ environment (pAt t n) ∷ []) (kindAt t n - 2) (environment (pAt t n))) (exprOf t (qAt t n))
 
--- TABLE 3. `Moves t P l g P′`: P does l and leaves P′. R is the term whose form stands below a rule's line.
+-- A derivation tree of Table 3, by the rules that it applies: a term and its forms leave nothing else to choose
+pub data Tree : Type 0 where
+  by-TICK by-ACT : Tree
+  by-CHOICE-L by-CHOICE-R by-SEQ₁ by-CON by-PAR₁ by-PAR₁-COMM by-AWAIT : Tree → Tree
+  by-SEQ₂ by-PAR₂ by-PAR₂-COMM : Tree → Tree → Tree
+
+-- TABLE 3. `Moves t T P l g P′`: by the tree T, P does l and leaves P′. R is the term whose form stands below a rule's line.
 -- g are the guards on the way: the paper counts a guard wherever it occurs, the document (Table 7) only at an agent's top.
-pub data Moves (t : Table) : Term → Label → List ℕ → Term → Type 0 where
-  TICK : {R : Term} → form t R ≡ √ → Moves t R Ticking [] Idle
-  ACT : {R : Term} {n : ℕ} → form t R ≡ α n → Moves t R (Acting n) [] Tick
-  CHOICE-L : {P Q R P′ : Term} {l : Label} {g : List ℕ} → form t R ≡ (P ⊹ Q) → Moves t P l g P′ → Moves t R l g P′
-  CHOICE-R : {P Q R Q′ : Term} {l : Label} {g : List ℕ} → form t R ≡ (P ⊹ Q) → Moves t Q l g Q′ → Moves t R l g Q′
-  SEQ₁ : {P Q R P′ : Term} {n : ℕ} {g : List ℕ} → form t R ≡ (P ⨾ Q) → Moves t P (Acting n) g P′ → Moves t R (Acting n) g (Seq P′ Q)
-  SEQ₂ : {P Q R P′ Q′ : Term} {l : Label} {g h : List ℕ} → form t R ≡ (P ⨾ Q) → Moves t P Ticking g P′ → Moves t Q l h Q′ → Moves t R l (g ++ h) Q′
-  CON : {R P′ : Term} {l : Label} {d : ℕ} {g : List ℕ} → form t R ≡ K d → Moves t (Node (bodyOf t d)) l g P′ → Moves t R l g P′
-  PAR₁ : {P Q R P′ : Term} {n : ℕ} {g : List ℕ} → form t R ≡ (P ∣ Q) → Moves t P (Acting n) g P′ → Moves t R (Acting n) g (Par P′ Q)
-  PAR₂ : {P Q R P′ Q′ : Term} {l : Label} {g h : List ℕ} → form t R ≡ (P ∣ Q) → Moves t P Ticking g P′ → Moves t Q l h Q′ → Moves t R l (g ++ h) Q′
+pub data Moves (t : Table) : Tree → Term → Label → List ℕ → Term → Type 0 where
+  TICK : {R : Term} → form t R ≡ √ → Moves t by-TICK R Ticking [] Idle
+  ACT : {R : Term} {n : ℕ} → form t R ≡ α n → Moves t by-ACT R (Acting n) [] Tick
+  CHOICE-L : {T : Tree} {P Q R P′ : Term} {l : Label} {g : List ℕ} → form t R ≡ (P ⊹ Q) → Moves t T P l g P′ → Moves t (by-CHOICE-L T) R l g P′
+  CHOICE-R : {T : Tree} {P Q R Q′ : Term} {l : Label} {g : List ℕ} → form t R ≡ (P ⊹ Q) → Moves t T Q l g Q′ → Moves t (by-CHOICE-R T) R l g Q′
+  SEQ₁ : {T : Tree} {P Q R P′ : Term} {n : ℕ} {g : List ℕ} → form t R ≡ (P ⨾ Q) → Moves t T P (Acting n) g P′ → Moves t (by-SEQ₁ T) R (Acting n) g (Seq P′ Q)
+  SEQ₂ : {T U : Tree} {P Q R P′ Q′ : Term} {l : Label} {g h : List ℕ} → form t R ≡ (P ⨾ Q) → Moves t T P Ticking g P′ → Moves t U Q l h Q′ →
+      Moves t (by-SEQ₂ T U) R l (g ++ h) Q′
+  CON : {T : Tree} {R P′ : Term} {l : Label} {d : ℕ} {g : List ℕ} → form t R ≡ K d → Moves t T (Node (bodyOf t d)) l g P′ → Moves t (by-CON T) R l g P′
+  PAR₁ : {T : Tree} {P Q R P′ : Term} {n : ℕ} {g : List ℕ} → form t R ≡ (P ∣ Q) → Moves t T P (Acting n) g P′ → Moves t (by-PAR₁ T) R (Acting n) g (Par P′ Q)
+  PAR₂ : {T U : Tree} {P Q R P′ Q′ : Term} {l : Label} {g h : List ℕ} → form t R ≡ (P ∣ Q) → Moves t T P Ticking g P′ → Moves t U Q l h Q′ →
+      Moves t (by-PAR₂ T U) R l (g ++ h) Q′
   -- PAR-COMM, of PAR₁ and of PAR₂: the document swaps the sides in what is left, the paper leaves them as they stand
-  PAR₁-COMM : {P Q R Q′ : Term} {n : ℕ} {g : List ℕ} → form t R ≡ (P ∣ Q) → Moves t Q (Acting n) g Q′ → Moves t R (Acting n) g (Par P Q′)
-  PAR₂-COMM : {P Q R P′ Q′ : Term} {l : Label} {g h : List ℕ} → form t R ≡ (P ∣ Q) → Moves t Q Ticking g Q′ → Moves t P l h P′ → Moves t R l (g ++ h) P′
+  PAR₁-COMM : {T : Tree} {P Q R Q′ : Term} {n : ℕ} {g : List ℕ} → form t R ≡ (P ∣ Q) → Moves t T Q (Acting n) g Q′ →
+      Moves t (by-PAR₁-COMM T) R (Acting n) g (Par P Q′)
+  PAR₂-COMM : {T U : Tree} {P Q R P′ Q′ : Term} {l : Label} {g h : List ℕ} → form t R ≡ (P ∣ Q) → Moves t T Q Ticking g Q′ → Moves t U P l h P′ →
+      Moves t (by-PAR₂-COMM T U) R l (g ++ h) P′
   -- AWAIT's part in a process: b → P does what P does, under b besides
-  AWAIT : {P R P′ : Term} {l : Label} {b : ℕ} {g : List ℕ} → form t R ≡ (b ⇒ P) → Moves t P l g P′ → Moves t R l (b ∷ g) P′
+  AWAIT : {T : Tree} {P R P′ : Term} {l : Label} {b : ℕ} {g : List ℕ} → form t R ≡ (b ⇒ P) → Moves t T P l g P′ → Moves t (by-AWAIT T) R l (b ∷ g) P′

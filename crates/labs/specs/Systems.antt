@@ -12,7 +12,7 @@ use Rattle.term.specs.Terms.{Term}
 use Rattle.term.specs.Processes.{Derivation, derivation}
 use Rattle.labs.specs.Agents.{⟨_⸴_⸴_⸴_⸴_⟩, Agent, Entry, Interface, Stigmergy, Keys, System, _⟦_≔_⟧, _∪｛_｝, _∖｛_｝, _∪_, Inserted}
 use Rattle.labs.specs.Expressions.{Expr, Knowledge, E⟦_⟧_⇓_, K⟦_⟧, K⟦_⟧ᵇ, _⊨_, guardOf, φ}
-use Rattle.labs.specs.Processes.{Variable, attribute, stigmergy, environment, assign, actionOf, Moves}
+use Rattle.labs.specs.Processes.{Variable, attribute, stigmergy, environment, assign, actionOf, Tree, Moves}
 
 infix 30 _▹_
 -- Zc = Zp = ∅
@@ -37,13 +37,13 @@ abbrev pub onward : Agent → Term → Keys → Agent
 onward a P′ Z = ⟨ a .I ⸴ a .L ⸴ P′ ⸴ a .Zc ∪ known a Z ⸴ a .Zp ⟩
 
 pub data Wills (t : Table) (a : Agent) : Derivation → Will → Agent → Type 0 where
-  SKIP : {g : List ℕ} {P′ : Term} → Moves t (a .P) Ticking g P′ → Settled a →
+  SKIP : {T : Tree} {g : List ℕ} {P′ : Term} → Moves t T (a .P) Ticking g P′ → Settled a →
       Wills t a (derivation Ticking g P′) ε (onward a P′ (λ x. false))
-  ATTR : {n x : ℕ} {e : Expr} {g : List ℕ} {P′ : Term} → Moves t (a .P) (Acting n) g P′ → actionOf t n ≡ assign (attribute x) e → Settled a →
+  ATTR : {n x : ℕ} {e : Expr} {T : Tree} {g : List ℕ} {P′ : Term} → Moves t T (a .P) (Acting n) g P′ → actionOf t n ≡ assign (attribute x) e → Settled a →
       Wills t a (derivation (Acting n) g P′) (e ▹ attribute x) (onward a P′ K⟦ e ⟧)
-  LSTIG : {n x : ℕ} {e : Expr} {g : List ℕ} {P′ : Term} → Moves t (a .P) (Acting n) g P′ → actionOf t n ≡ assign (stigmergy x) e → Settled a →
+  LSTIG : {n x : ℕ} {e : Expr} {T : Tree} {g : List ℕ} {P′ : Term} → Moves t T (a .P) (Acting n) g P′ → actionOf t n ≡ assign (stigmergy x) e → Settled a →
       Wills t a (derivation (Acting n) g P′) (e ▹ stigmergy x) (onward a P′ K⟦ e ⟧)
-  ENV : {n x : ℕ} {e : Expr} {g : List ℕ} {P′ : Term} → Moves t (a .P) (Acting n) g P′ → actionOf t n ≡ assign (environment x) e → Settled a →
+  ENV : {n x : ℕ} {e : Expr} {T : Tree} {g : List ℕ} {P′ : Term} → Moves t T (a .P) (Acting n) g P′ → actionOf t n ≡ assign (environment x) e → Settled a →
       Wills t a (derivation (Acting n) g P′) (e ▹ environment x) (onward a P′ K⟦ e ⟧)
 
 -- TABLE 16. AWAIT: E, I, L ⊨ b for each guard b of a derivation, judged before the step; then Zc gains K⟦b⟧

@@ -1,24 +1,18 @@
 -- Where the parts of a term stand, and what a walk comes to at a node.
 -- Assumes nothing.
-use Prim.Native.Nat.{ℕ, zero, suc, _+_, _<_, _≤_}
-use mathlib.Core.Bool.{true, not, _||_}
-use mathlib.Core.Path.{_≡_, refl, sym, ap, subst, _∙_}
+use Prim.Native.Nat.{ℕ, _+_, _<_, _≤_}
+use mathlib.Core.Path.{_≡_, sym, ap, subst, _∙_}
 use mathlib.Core.List.{List, [], _∷_, _++_, append-assoc}
 use native.Mathlib.Omega.{arith}
-use lib.ListN.{length, getD, drop, length-append}
-use borrow.Author.Tests.{lt-ltb}
-use Rattle.basis.specs.Below.{below}
-use Rattle.basis.proofs.Below.{below-induct}
-use Rattle.basis.proofs.Tests.{and-both, or-right}
-use Rattle.table.specs.Tables.{Table, kindAt, pAt, qAt, firstRoot}
+use lib.ListN.{length, drop, length-append}
+use Rattle.table.specs.Tables.{Table, firstRoot}
 use Rattle.table.specs.Sound.{Sound}
-use Rattle.table.proofs.Promises.{call-operands}
 use Rattle.term.specs.declared.Label.the-variants.{Ticking}
 use Rattle.term.specs.declared.Mode.{Mode}
 use Rattle.term.specs.Terms.{Term, Tick, Idle, Node, words}
-use Rattle.term.specs.Processes.{Process, idle, derivation, byKind, nodeStep, nodeWith, defined, nodeProcess, process}
-use Rattle.term.specs.Exposure.{canTick, callsBelow}
+use Rattle.term.specs.Processes.{derivation, nodeProcess, process}
 use Rattle.term.proofs.Words.{words-some}
+use Rattle.term.proofs.Exposed.{node-calls}
 use Rattle.choice.specs.Turns.{Prepared, Reached}
 use Rattle.choice.specs.Chosen.{chosenIn}
 use Rattle.choice.proofs.Chosen.{chosen-tick}
@@ -35,38 +29,16 @@ pairs-ready t s r roots e =
       small = λ n h. let f = r .counted .few n (omega arith) in record { actions = omega arith; ticks = omega arith };
     }
 
--- a node exposes calls of the table's definitions only
 module _ (t : Table) (sound : Sound t) where
   abbrev D : ℕ
   D = t .sizes .definitions
-
-  calls-kind : (calls lower : ℕ → Process) → ((k : ℕ) → callsBelow D (lower k) ≡ true) → (n k : ℕ) → kindAt t n ≡ k → callsBelow D (getD (byKind calls lower n (pAt t n) (qAt t n)) k idle) ≡ true
-  unfolding callsBelow
-  calls-kind calls lower l n zero e = refl
-  calls-kind calls lower l n (suc zero) e = refl
-  calls-kind calls lower l n (suc (suc zero)) e = refl
-  calls-kind calls lower l n (suc (suc (suc zero))) e = refl
-  calls-kind calls lower l n (suc (suc (suc (suc zero)))) e = refl
-  calls-kind calls lower l n (suc (suc (suc (suc (suc zero))))) e =
-      and-both (callsBelow D (lower (pAt t n))) (not (canTick (lower (pAt t n))) || callsBelow D (lower (qAt t n))) (l (pAt t n)) (or-right (not (canTick (lower (pAt t n)))) (callsBelow D (lower (qAt t n))) (l (qAt t n)))
-  calls-kind calls lower l n (suc (suc (suc (suc (suc (suc zero)))))) e = and-both (callsBelow D (lower (pAt t n))) (callsBelow D (lower (qAt t n))) (l (pAt t n)) (l (qAt t n))
-  calls-kind calls lower l n (suc (suc (suc (suc (suc (suc (suc zero))))))) e = l (qAt t n)
-  calls-kind calls lower l n (suc (suc (suc (suc (suc (suc (suc (suc zero)))))))) e = and-both (callsBelow D (lower (pAt t n))) (callsBelow D (lower (qAt t n))) (l (pAt t n)) (l (qAt t n))
-  calls-kind calls lower l n (suc (suc (suc (suc (suc (suc (suc (suc (suc zero))))))))) e = lt-ltb (pAt t n) D (call-operands t sound n e .0)
-  calls-kind calls lower l n (suc (suc (suc (suc (suc (suc (suc (suc (suc (suc k)))))))))) e = refl
-
-  node-calls : (n : ℕ) → callsBelow D (nodeProcess t n) ≡ true
-  unfolding nodeProcess nodeWith nodeStep callsBelow
-  node-calls =
-      below-induct (nodeStep t (defined t D)) idle (λ (k : ℕ) (P : Process). callsBelow D P ≡ true) (firstRoot t) (λ k. refl)
-      (λ n h r. calls-kind (defined t D) (below (nodeStep t (defined t D)) idle n) r n (kindAt t n) refl)
 
   -- a term that is a node
   pub reached-node : (m : Mode) (n c : ℕ) (T : Term) → T ≡ Node n → Choosable t m T c → Reached t D m n c
   unfolding process
   reached-node m n c T e k =
       let w : Choosable t m (Node n) c = subst (λ (X : Term). Choosable t m X c) e k in
-      record { low = w .over .0; top = omega arith; choice = w .choice; calls = node-calls n }
+      record { low = w .over .0; top = omega arith; choice = w .choice; calls = node-calls t sound n }
 
 -- and one that is a tick
 pub going-tick : (t : Table) (m : Mode) (T : Term) (c : ℕ) → T ≡ Tick → Choosable t m T c → going t m T c ≡ derivation Ticking [] Idle

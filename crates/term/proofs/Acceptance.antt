@@ -1,32 +1,31 @@
 -- The checks pass exactly where the table is accepted; what may be relied on then.
 -- Assumes nothing.
-use Prim.Native.Nat.{ℕ, zero, suc, _+_, _*_, _<_, _≤_}
+use Prim.Native.Nat.{ℕ, _+_, _*_, _<_, _≤_}
 use mathlib.Core.Bool.{true, false, not, _||_}
 use mathlib.Core.Logic.{⊎-elim}
 use mathlib.Core.Path.{_≡_, refl, ap, _∙_}
 use mathlib.Core.List.{List, [], _∷_, _++_}
 use native.Mathlib.Omega.{arith}
 use lib.Dec.{ltb, eqb}
-use lib.ListN.{length, getD, List·getD-eq-default}
+use lib.ListN.{length, List·getD-eq-default}
 use borrow.Author.Tests.{ltb-false, leb-false, eqb-true, le-ltb, eq-eqb, not-false}
 use Rattle.basis.proofs.Tests.{either, or-neither, lt-or-le}
 use Rattle.table.specs.Checks.{Refusal, passes, firstOf}
-use Rattle.table.specs.Tables.{Table, headerBytes, sizesOf, withinLimits, tableOf, kindAt, pAt, qAt, firstRoot, bodyAt}
+use Rattle.table.specs.Tables.{Table, headerBytes, sizesOf, withinLimits, tableOf, kindAt, pAt, qAt, firstRoot}
 use Rattle.table.specs.Nodes.{isProcess, badNode}
 use Rattle.table.specs.Reach.{wrongKey}
 use Rattle.table.specs.Sound.{Sound}
 use Rattle.table.specs.Measuring.{sizeChecks}
 use Rattle.table.proofs.Checks.{first-passes, first-both, none-passes, lowest-passes, passes-lowest}
 use Rattle.table.proofs.Limits.{limits-within}
-use Rattle.table.proofs.Promises.{sound-table, root-kind, past-kind, call-operands}
-use Rattle.term.specs.Processes.{Process, idle, derivations, few, byKind, defined, nodeProcess}
+use Rattle.table.proofs.Promises.{sound-table}
+use Rattle.term.specs.Processes.{idle, derivations, few, byKind, defined, nodeProcess}
 use Rattle.term.specs.Exposure.{badCall}
 use Rattle.term.specs.Acceptance.{stateWords, overfull, tableChecks}
 use Rattle.term.specs.Parts.{lentCheck, contentChecks}
 use Rattle.term.specs.Accepted.{Checked, Acceptable}
 use Rattle.term.proofs.Each.{Each}
-use Rattle.term.proofs.Opened.{sound-lower, process-opened, process-out}
-use Rattle.term.proofs.Calls.{call-same}
+use Rattle.term.proofs.Opened.{process-opened, process-out}
 
 -- checks in a row pass where none refuses
 each-passes : (rs : List Refusal) → firstOf rs ≡ passes → Each (λ r. r .when ≡ false) rs
@@ -108,38 +107,3 @@ module _ (t : Table) where
 
       process : isProcess (kindAt t n) ≡ true → n < firstRoot t → few (nodeProcess t n) ≡ true
       process e l = not-false (few (nodeProcess t n)) (rw e at (c .nodes n (omega arith)))
-
-  abbrev Forms : ℕ → List Process
-  Forms n = byKind (λ d. nodeProcess t (bodyAt t d)) (nodeProcess t) n (pAt t n) (qAt t n)
-
-  -- the derivations of node n, of kind k: those of a call are its body's
-  pub node-derivations : Checked t → (n k : ℕ) → kindAt t n ≡ k
-      → derivations (nodeProcess t n) ≡ derivations (getD (byKind (λ d. nodeProcess t (bodyAt t d)) (nodeProcess t) n (pAt t n) (qAt t n)) k idle)
-  unfolding derivations
-  node-derivations c n k e =
-      ⊎-elim (λ (l : n < firstRoot t). ap derivations (process-opened t n k l (sound-lower t (c .sound) n) e) ∙ by k e)
-      (λ (l : firstRoot t ≤ n). ap derivations (process-out t n l) ∙ ⊎-elim (root l) past (lt-or-le n (t .sizes .nodes))) (lt-or-le n (firstRoot t))
-    where
-      root : firstRoot t ≤ n → n < t .sizes .nodes → derivations idle ≡ derivations (getD (Forms n) k idle)
-      root l h =
-          let f : 64 ≡ k = omega (arith, root-kind t (c .sound) n h l) in
-          ap (λ (x : ℕ). derivations (getD (Forms n) x idle)) f
-
-      past : t .sizes .nodes ≤ n → derivations idle ≡ derivations (getD (Forms n) k idle)
-      past h =
-          let f : 0 ≡ k = omega (arith, past-kind t (c .sound) n h) in
-          ap (λ (x : ℕ). derivations (getD (Forms n) x idle)) f
-
-      by : (k : ℕ) → kindAt t n ≡ k
-          → derivations (getD (byKind (defined t (t .sizes .definitions)) (nodeProcess t) n (pAt t n) (qAt t n)) k idle) ≡ derivations (getD (Forms n) k idle)
-      by zero e = refl
-      by (suc zero) e = refl
-      by (suc (suc zero)) e = refl
-      by (suc (suc (suc zero))) e = refl
-      by (suc (suc (suc (suc zero)))) e = refl
-      by (suc (suc (suc (suc (suc zero))))) e = refl
-      by (suc (suc (suc (suc (suc (suc zero)))))) e = refl
-      by (suc (suc (suc (suc (suc (suc (suc zero))))))) e = refl
-      by (suc (suc (suc (suc (suc (suc (suc (suc zero)))))))) e = refl
-      by (suc (suc (suc (suc (suc (suc (suc (suc (suc zero))))))))) e = call-same t (c .calls) (pAt t n) (call-operands t (c .sound) n e .0)
-      by (suc (suc (suc (suc (suc (suc (suc (suc (suc (suc k)))))))))) e = refl

@@ -4,6 +4,8 @@ pub mod Counting
 pub mod Words
 pub mod Opened
 pub mod Calls
+pub mod Exposed
 pub mod Members
 pub mod Inside
 pub mod Acceptance
+pub mod Examples

@@ -5,3 +5,4 @@ pub mod Acceptance
 pub mod Choices
 pub mod Accepted
 pub mod Parts
+pub mod Examples

@@ -44,7 +44,7 @@ use Rattle.labs.specs.Processes.{Variable, attribute, stigmergy, environment}
 use Rattle.labs.specs.Systems.{Settled, known, Will, ε, _▹_, Wills, SKIP, ATTR, LSTIG, ENV, alone, Await, guardKeys, Acts, EPSILON, EVAL-I, EVAL-L, EVAL-E, Acted}
 use Rattle.labs.specs.Reading.{agentOf, systemOf}
 use Rattle.theorems.specs.Demand2.{Same}
-use Rattle.theorems.proofs.Moves.{Does, moves-complete, moves-chosen}
+use Rattle.theorems.proofs.Moves.{Does, moves-in, moves-chosen}
 use Rattle.theorems.proofs.Expressions.{Narrow, expression-value}
 use Rattle.theorems.proofs.Actions.{attribute-action, stigmergy-action, environment-action, guards-await, labelKeys, to-confirm}
 use Rattle.theorems.proofs.Reading.{tuple, I-same, L-same, Zc-same, Zp-same, agent-same, entry, timeIn, entry-stamp, put-agent, add-zp-agent}
@@ -205,7 +205,7 @@ module _ (t : Table) (ok : Checked t) (s : List ℕ) (narrow : Narrow t s) (whol
   me = agentOf s x
 
   inside : (d : Derivation) → Does t (termIn s x) d → InsideTable t d
-  inside d m = derivation-inside t (ok .sound) (termIn s x) (formed .formed .residuals x is .over) (moves-complete t ok m)
+  inside d m = derivation-inside t (ok .sound) (termIn s x) (formed .formed .residuals x is .over) (moves-in t ok (termIn s x) d m)
 
   settled : zcOf s x ≡ 0 → zpOf s x ≡ 0 → Settled me
   settled c p k = (ap (λ (w : ℕ). has w k) c ∙ has-nothing k, ap (λ (w : ℕ). has w k) p ∙ has-nothing k)
@@ -255,7 +255,7 @@ module _ (t : Table) (ok : Checked t) (s : List ℕ) (narrow : Narrow t s) (whol
         (λ y o. put-agents (Attributes x) p v 1 s key y (λ l f. o (sym f)))
         (fun-ext λ j. put-valueIn (Attributes x) p v 1 s key whole there (omega arith) Environment j ∙ rw and-false)
         (put-other (Attributes x) p v 1 s key Clock tt refl refl)
-        (EVAL-I v (ATTR (r .moves) (attribute-action t n k) is-settled) await value-is)
+        (EVAL-I v (ATTR (r .moves .1) (attribute-action t n k) is-settled) await value-is)
 
     done-environment : kindAt t n ≡ 4 → Done
     done-environment k =
@@ -265,7 +265,7 @@ module _ (t : Table) (ok : Checked t) (s : List ℕ) (narrow : Narrow t s) (whol
         (λ y o. put-agents Environment p v 1 s key y (λ l f. omega arith))
         (put-environment p v s key whole)
         (put-other Environment p v 1 s key Clock tt refl refl)
-        (EVAL-E v (ENV (r .moves) (environment-action t n k) is-settled) await value-is)
+        (EVAL-E v (ENV (r .moves .1) (environment-action t n k) is-settled) await value-is)
 
     done-stigmergy : kindAt t n ≡ 3 → Done
     done-stigmergy k =
@@ -279,7 +279,7 @@ module _ (t : Table) (ok : Checked t) (s : List ℕ) (narrow : Narrow t s) (whol
         ∙ put-agents (Entries x) p v m s key y (λ l f. o (sym f)))
         (fun-ext λ j. value-same (set queued clockAt m) s Environment j (λ l. stays (Mark Environment j) l refl refl (rw and-false) refl) (λ l. stays (Word Environment j) l refl refl refl (rw and-false)))
         (set-here queued Clock m tt (add-length Zp x p entered ∙ entered-whole) (omega arith) ∙ add-one (clockOf s))
-        (EVAL-L v (LSTIG (r .moves) (stigmergy-action t n k) is-settled) await value-is
+        (EVAL-L v (LSTIG (r .moves .1) (stigmergy-action t n k) is-settled) await value-is
         (inserted (me .L) p (entry v (suc (clockOf s))) (λ f i. omega (arith, sym (ap timeIn i) ∙ entry-stamp s x p key, formed .formed .pairs (Entries x) is p key .bound))))
       where
         m : ℕ
@@ -306,7 +306,7 @@ module _ (t : Table) (ok : Checked t) (s : List ℕ) (narrow : Narrow t s) (whol
       let e = set-tick t s x in
       finished t s x d whole there ok (inside d (r .moves)) short (t .sizes .agents) is (systemOf s .E) (clockOf s) me (ap (λ (u : List ℕ). agentOf u x) e)
       (λ y o. ap (λ (u : List ℕ). agentOf u y) e) (ap (λ (u : List ℕ). systemOf u .E) e) (ap (λ (u : List ℕ). clockOf u) e)
-      (EPSILON (SKIP (r .moves) (settled (r .confirmed) (r .propagated))) (guards-await t s narrow x g .0 (r .guards)))
+      (EPSILON (SKIP (r .moves .1) (settled (r .confirmed) (r .propagated))) (guards-await t s narrow x g .0 (r .guards)))
   act-by (Acting n) g T r short = let w = node n g T r short in by (kindAt t n) refl (w .1) (w .2)
     where
       by : (k : ℕ) → kindAt t n ≡ k → 2 ≤ k → k ≤ 4 → Done n g T r short
@@ -390,7 +390,7 @@ module _ (t : Table) (ok : Checked t) (s : List ℕ) (narrow : Narrow t s) (whol
   enabled-choice c d e a =
       subst (λ (o : Derivation). Enabled t s x o) (nth-is (choices t s x) c (derivation Ticking [] Idle) d e .1)
       (record {
-        moves = moves-chosen t ok (termIn s x) (chosen t s x c) .0 (c, nth-in (choices t s x) c (derivation Ticking [] Idle) (a .there));
+        moves = moves-chosen t ok (termIn s x) c (chosen t s x c) (nth-in (choices t s x) c (derivation Ticking [] Idle) (a .there));
         confirmed = a .confirmed;
         propagated = a .propagated;
         guards = a .guards;

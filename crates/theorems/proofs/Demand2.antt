@@ -36,7 +36,7 @@ use Rattle.labs.specs.Expressions.{valueIn as valueOfEntry}
 use Rattle.labs.specs.Processes.{Subterm, whole, seq-left, seq-right, par-left, par-right}
 use Rattle.labs.specs.Reading.{agentOf, systemOf}
 use Rattle.theorems.specs.Demand2.{Allowed, act, propagate, confirm, Same, Ready, Demand-2}
-use Rattle.theorems.proofs.Moves.{moves-listed}
+use Rattle.theorems.proofs.Moves.{trees-listed}
 use Rattle.theorems.proofs.Expressions.{Narrow, entry-value, link-holds}
 use Rattle.theorems.proofs.Reading.{timeIn, entry-stamp}
 use Rattle.theorems.proofs.Ready.{ready-narrow, done-ready, load-ready, load-initial}
@@ -209,5 +209,5 @@ demand-2 = record {
   every = λ bytes s scratch kind x number taken r S′ h. every bytes s scratch r kind x number taken S′ h;
   one = λ bytes s s′ scratch r state same. one bytes s scratch r s s′ (r .state) state same;
   link = λ bytes s scratch k x y r hk hx hy. link-holds (tableOf bytes) s (narrow bytes s scratch r) x y (limits bytes s scratch r) k;
-  transitions = λ bytes s scratch x r l d. moves-listed (tableOf bytes) (checked bytes s scratch r) (agentOf s x .P) d;
+  transitions = λ bytes s scratch x r l. trees-listed (tableOf bytes) (checked bytes s scratch r) (agentOf s x .P);
 }

@@ -1,4 +1,5 @@
 pub mod Cases
+pub mod Enumerations
 pub mod Moves
 pub mod Numbers
 pub mod Expressions

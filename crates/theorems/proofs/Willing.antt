@@ -45,10 +45,10 @@ module _ {t : Table} {a : Agent} where
   wills-on (ENV {P′ = P′} m k s) = ap (λ (e : Expr). onward a P′ K⟦ e ⟧) (sym (ap expressionIn k))
 
   pub wills-does : {d : Derivation} {w : Will} {a′ : Agent} → Wills t a d w a′ → Does t (a .P) d
-  wills-does (SKIP m s) = m
-  wills-does (ATTR m k s) = m
-  wills-does (LSTIG m k s) = m
-  wills-does (ENV m k s) = m
+  wills-does (SKIP m s) = (_, m)
+  wills-does (ATTR m k s) = (_, m)
+  wills-does (LSTIG m k s) = (_, m)
+  wills-does (ENV m k s) = (_, m)
 
   pub wills-settled : {d : Derivation} {w : Will} {a′ : Agent} → Wills t a d w a′ → Settled a
   wills-settled (SKIP m s) = s

@@ -4,7 +4,7 @@ use mathlib.Core.Bool.{Bool, true}
 use mathlib.Core.Path.{_≡_}
 use mathlib.Core.Logic.{_↔_}
 use mathlib.Core.Option.{some}
-use mathlib.Core.List.{List, List·Memᴰ}
+use mathlib.Core.List.{List}
 use lib.ListN.{length, getD, getElem?}
 use Rattle.basis.specs.Numbers.{howMany}
 use Rattle.table.specs.Checks.{passes, firstOf}
@@ -16,7 +16,7 @@ use Rattle.state.specs.WellFormed.{Proper}
 use Rattle.steps.specs.Steps.{done, stateChecks, loadOf, stepOf}
 use Rattle.labs.specs.Agents.{System}
 use Rattle.labs.specs.Expressions.{_⊨_, φ}
-use Rattle.labs.specs.Processes.{Subterm, Moves}
+use Rattle.labs.specs.Processes.{Subterm, Tree, Moves}
 use Rattle.labs.specs.Systems.{Acted, Passed, put, qry, between}
 use Rattle.labs.specs.Reading.{systemOf, initial}
 
@@ -50,6 +50,15 @@ pub record Ready (bytes s : List ℕ) (scratch : ℕ) : Type 0 where
   pub state : Proper (tableOf bytes) s
   pub passed : firstOf (stateChecks bytes s scratch) ≡ passes
 
+-- The derivations of P, and the derivation trees of its transitions by Table 3, correspond one to one: the trees stand in a list, one for each derivation
+-- and no tree twice, and a tree derives d exactly where d is the derivation at the tree's place. So equal derivations are counted by their trees
+pub record Transitions (t : Table) (P : Term) : Type 0 where
+  pub trees : List Tree
+  pub as-many : length trees ≡ length (derivations (process t P))
+  pub once : (c e : ℕ) (T : Tree) → getElem? trees c ≡ some T → getElem? trees e ≡ some T → c ≡ e
+  pub derive : (T : Tree) (d : Derivation) →
+      Moves t T P (d .label) (d .guards) (d .leaving) ↔ ((c : ℕ) × (getElem? trees c ≡ some T) × (getElem? (derivations (process t P)) c ≡ some d))
+
 pub record Demand-2 : Type 0 where
   -- a step is done only of an accepted table and a well-formed state, and load leaves such a state
   pub ready : (bytes s : List ℕ) (scratch kind x number : ℕ) → Bytes bytes → Words s →
@@ -74,7 +83,6 @@ pub record Demand-2 : Type 0 where
   pub link : (bytes s : List ℕ) (scratch k x y : ℕ) → Ready bytes s scratch → k < tableOf bytes .sizes .stigmergy →
       x < tableOf bytes .sizes .agents → y < tableOf bytes .sizes .agents →
       (linkHolds (tableOf bytes) s k x y ≡ true) ↔ (between (systemOf s) x y ⊨ φ (tableOf bytes) k)
-  -- an agent's derivations are the transitions that Table 3 derives
-  pub transitions : (bytes s : List ℕ) (scratch x : ℕ) → Ready bytes s scratch → x < tableOf bytes .sizes .agents → (d : Derivation) →
-      List·Memᴰ d (derivations (process (tableOf bytes) (systemOf s .agent x .P)))
-      ↔ Moves (tableOf bytes) (systemOf s .agent x .P) (d .label) (d .guards) (d .leaving)
+  -- an agent's derivations are the transitions that Table 3 derives, one for each derivation tree
+  pub transitions : (bytes s : List ℕ) (scratch x : ℕ) → Ready bytes s scratch → x < tableOf bytes .sizes .agents →
+      Transitions (tableOf bytes) (systemOf s .agent x .P)
