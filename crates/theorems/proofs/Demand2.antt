@@ -42,6 +42,7 @@ use Rattle.theorems.proofs.Reading.{timeIn, entry-stamp}
 use Rattle.theorems.proofs.Ready.{ready-narrow, done-ready, load-ready, load-initial}
 use Rattle.theorems.proofs.Acting.{act-exactly}
 use Rattle.theorems.proofs.Offers.{propagated-passed, confirmed-passed, passed-propagated, passed-confirmed}
+use Rattle.theorems.proofs.Run.{run-is}
 
 same-refl : {agents : ℕ} {S : System} → Same agents S S
 same-refl = record { environment-same = refl; clock-same = refl; agents-same = λ a l. refl }
@@ -210,4 +211,5 @@ demand-2 = record {
   one = λ bytes s s′ scratch r state same. one bytes s scratch r s s′ (r .state) state same;
   link = λ bytes s scratch k x y r hk hx hy. link-holds (tableOf bytes) s (narrow bytes s scratch r) x y (limits bytes s scratch r) k;
   transitions = λ bytes s scratch x r l. trees-listed (tableOf bytes) (checked bytes s scratch r) (agentOf s x .P);
+  runs = run-is;
 }

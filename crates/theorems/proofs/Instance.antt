@@ -1,19 +1,12 @@
 -- DEMAND 2 IS ABOUT SOMETHING: a table that is accepted, its loaded state, steps of each kind that are done and allowed, and one that is neither.
 -- Assumes nothing.
-use Prim.Native.Nat.{ℕ, _<_, _≤_}
-use mathlib.Core.Bool.{true}
-use mathlib.Core.Logic.{⊎-elim}
+use Prim.Native.Nat.{ℕ}
 use mathlib.Core.Path.{_≡_, refl, sym, ap, _∙_}
 use mathlib.Core.List.{List, [], _∷_}
 use native.Mathlib.Omega.{arith}
-use lib.Dec.{ltb}
-use lib.ListN.{length, getD, List·getD-eq-default}
-use borrow.Author.Tests.{ltb-true}
 use Rattle.basis.specs.Below.{below}
 use Rattle.basis.specs.Numbers.{someBelow, every, lowest, howMany, forEach}
 use Rattle.basis.specs.KeySets.{has, plus, minus, plusAll}
-use Rattle.basis.proofs.Numbers.{every-at}
-use Rattle.basis.proofs.Tests.{lt-or-le}
 use Rattle.table.specs.Checks.{firstOf, passes, refuses}
 use Rattle.table.specs.Tables.{tableOf, withinLimits}
 use Rattle.table.specs.Nodes.{processRows, guardRows, expressionRows, rowOf, fieldsHere, fits, fitting, named, namesAgain, badNode}
@@ -31,8 +24,9 @@ use Rattle.steps.specs.Steps.{Outcome, done, outcome, stepIn, stepOf}
 use Rattle.labs.specs.Agents.{System}
 use Rattle.labs.specs.Reading.{systemOf}
 use Rattle.theorems.specs.Demand2.{Allowed, Bytes, Ready}
-use Rattle.theorems.proofs.Ready.{state-ready, loaded-ready}
+use Rattle.theorems.proofs.Ready.{loaded-ready}
 use Rattle.theorems.proofs.Demand2.{demand-2}
+use Rattle.theorems.proofs.DoneSteps.{small-bytes, done-allowed}
 
 -- the table that the paper gives for labs_show: sizes 8, 0, 2, 1, 1, 0; kinds; operands
 abbrev pub fleet : List ℕ
@@ -74,21 +68,9 @@ steps-come : (stepped s₀ 0 0 0 ≡ done 0 s₁) × (stepped s₁ 1 0 0 ≡ don
 unfolding below someBelow every lowest howMany forEach has plus minus plusAll firstOf withinLimits processRows guardRows expressionRows rowOf fieldsHere fits fitting named namesAgain badNode reachStep reachedFrom wrongKey words termsOf areTerms keep joins derivations nodeStep nodeWith defined nodeProcess process allFew canTick callsBelow valueIn put addKey dropKey valueStep truthStep readsStep allZero pairFormed pendingFormed residualFormed agentFormed wellFormed loaded leave setKey acted takeEntry linked takes holdsNewer offer outcome stepIn stepOf
 steps-come = (refl, refl, refl, refl, refl, refl)
 
-small-bytes : (l : List ℕ) → every (λ (i : ℕ). ltb (getD l i 0) 256) (length l) ≡ true → Bytes l
-small-bytes l e i =
-    ⊎-elim (λ (h : i < length l). ltb-true (getD l i 0) 256 (every-at (λ (i : ℕ). ltb (getD l i 0) 256) (length l) e i h))
-    (λ (h : length l ≤ i). rw (List·getD-eq-default l 0 h) (omega arith)) (lt-or-le i (length l))
-
 fleet-small : Bytes fleet
 unfolding every
 fleet-small = small-bytes fleet refl
-
--- a done step is allowed, and leaves a state that is ready again
-goes : (s s′ : List ℕ) (kind x number taken : ℕ) → Ready fleet s 16 → stepped s kind x number ≡ done taken s′ →
-    Ready fleet s′ 16 × Allowed (tableOf fleet) (systemOf s) (systemOf s′) kind x number taken
-goes s s′ kind x number taken r e =
-    let w = demand-2 .exactly fleet s s′ 16 kind x number taken r .0 e in
-    (state-ready fleet fleet-small 16 table-passes s′ (w .0), w .1)
 
 pub fleet-ready : Ready fleet s₀ 16
 fleet-ready = loaded-ready fleet fleet-small 16 table-passes
@@ -97,11 +79,11 @@ pub fleet-steps : Allowed (tableOf fleet) (systemOf s₀) (systemOf s₁) 0 0 0 
     × Allowed (tableOf fleet) (systemOf s₂) (systemOf s₃) 1 1 0 0 × Allowed (tableOf fleet) (systemOf s₃) (systemOf s₄) 0 1 0 0
     × Allowed (tableOf fleet) (systemOf s₄) (systemOf s₅) 2 1 0 0
 fleet-steps =
-    let g₁ = goes s₀ s₁ 0 0 0 0 fleet-ready (steps-come .0) in
-    let g₂ = goes s₁ s₂ 1 0 0 1 (g₁ .0) (steps-come .1) in
-    let g₃ = goes s₂ s₃ 1 1 0 0 (g₂ .0) (steps-come .2) in
-    let g₄ = goes s₃ s₄ 0 1 0 0 (g₃ .0) (steps-come .3) in
-    let g₅ = goes s₄ s₅ 2 1 0 0 (g₄ .0) (steps-come .4) in
+    let g₁ = done-allowed fleet s₀ s₁ 16 0 0 0 0 fleet-ready (steps-come .0) in
+    let g₂ = done-allowed fleet s₁ s₂ 16 1 0 0 1 (g₁ .0) (steps-come .1) in
+    let g₃ = done-allowed fleet s₂ s₃ 16 1 1 0 0 (g₂ .0) (steps-come .2) in
+    let g₄ = done-allowed fleet s₃ s₄ 16 0 1 0 0 (g₃ .0) (steps-come .3) in
+    let g₅ = done-allowed fleet s₄ s₅ 16 2 1 0 0 (g₄ .0) (steps-come .4) in
     (g₁ .1, g₂ .1, g₃ .1, g₄ .1, g₅ .1)
 
 -- agent 1 has nothing to copy yet: no rule allows its act, whatever system it would leave

@@ -11,8 +11,11 @@ pub mod Willing
 pub mod Acting
 pub mod Offers
 pub mod Ready
+pub mod Run
 pub mod Demand2
+pub mod DoneSteps
 pub mod Instance
+pub mod Instances
 pub mod Views
 pub mod ActViews
 pub mod OfferViews

@@ -19,6 +19,7 @@ use Rattle.labs.specs.Expressions.{_⊨_, φ}
 use Rattle.labs.specs.Processes.{Subterm, Tree, Moves}
 use Rattle.labs.specs.Systems.{Acted, Passed, put, qry, between}
 use Rattle.labs.specs.Reading.{systemOf, initial}
+use Rattle.theorems.specs.Run.{Run}
 
 -- The step (kind, agent, number) may take S to S′, and this many agents take an entry: a rule gives it, and so do the limits,
 -- 65,535 derivations of every subterm of the residual, the clock at most 65,535, and 63 words of what is left
@@ -86,3 +87,5 @@ pub record Demand-2 : Type 0 where
   -- an agent's derivations are the transitions that Table 3 derives, one for each derivation tree
   pub transitions : (bytes s : List ℕ) (scratch x : ℕ) → Ready bytes s scratch → x < tableOf bytes .sizes .agents →
       Transitions (tableOf bytes) (systemOf s .agent x .P)
+  -- a run comes to what the single calls of its steps come to
+  pub runs : (bytes s : List ℕ) (scratch : ℕ) (schedule answers : List ℕ) → Bytes bytes → Words s → Run bytes s scratch schedule answers

@@ -1,0 +1,63 @@
+-- DONE STEPS: each is allowed and leaves a ready state, and so is every step of a list whose steps are all done.
+-- Assumes nothing.
+use Prim.Native.Nat.{ℕ, _<_, _≤_}
+use mathlib.Core.Bool.{true}
+use mathlib.Core.Logic.{⊎-elim}
+use mathlib.Core.Path.{_≡_, ap}
+use mathlib.Core.List.{List, [], _∷_}
+use native.Mathlib.Omega.{arith}
+use lib.Dec.{ltb}
+use lib.ListN.{length, getD, List·getD-eq-default}
+use borrow.Author.Tests.{ltb-true}
+use Rattle.basis.specs.Numbers.{every}
+use Rattle.basis.proofs.Numbers.{every-at}
+use Rattle.basis.proofs.Tests.{lt-or-le}
+use Rattle.agreement.specs.Machine.{Before}
+use Rattle.table.specs.Checks.{Check, passes, firstOf}
+use Rattle.table.specs.Tables.{tableOf}
+use Rattle.table.proofs.Checks.{first-passes}
+use Rattle.steps.specs.Steps.{done, stepOf}
+use Rattle.steps.proofs.Steps.{state-checks}
+use Rattle.steps.proofs.Proper.{proper-passes}
+use Rattle.labs.specs.Reading.{systemOf}
+use Rattle.theorems.specs.Demand2.{Allowed, Bytes, Words, Ready}
+use Rattle.theorems.specs.Demand3.{Step, outcomeOf, next}
+use Rattle.theorems.proofs.Ready.{state-proper, done-ready}
+use Rattle.theorems.proofs.Demand2.{demand-2}
+
+-- the bytes of a list, tested
+pub small-bytes : (l : List ℕ) → every (λ (i : ℕ). ltb (getD l i 0) 256) (length l) ≡ true → Bytes l
+small-bytes l e i =
+    ⊎-elim (λ (h : i < length l). ltb-true (getD l i 0) 256 (every-at (λ (i : ℕ). ltb (getD l i 0) 256) (length l) e i h))
+    (λ (h : length l ≤ i). rw (List·getD-eq-default l 0 h) (omega arith)) (lt-or-le i (length l))
+
+module _ (bytes : List ℕ) where
+  pub done-allowed : (s s′ : List ℕ) (scratch kind x number taken : ℕ) → Ready bytes s scratch → stepOf bytes s scratch kind x number ≡ done taken s′ →
+      Ready bytes s′ scratch × Allowed (tableOf bytes) (systemOf s) (systemOf s′) kind x number taken
+  done-allowed s s′ scratch kind x number taken r e =
+      let w = demand-2 .exactly bytes s s′ scratch kind x number taken r .0 e in
+      let a = state-checks bytes s scratch .0 (r .passed) .0 in
+      let p = state-proper (tableOf bytes) s′ (a .table .sound .shaped .limits) .0 (w .0) in
+      (record { small = r .small; state = w .0; passed = proper-passes bytes (length s) scratch a s′ p }, w .1)
+
+  -- what the checks of a list of steps come to, each step in the state that the one before left
+  abbrev pub checksOf : List ℕ → List Step → List Check
+  checksOf s [] = []
+  checksOf s (x ∷ xs) = outcomeOf bytes s x .check ∷ checksOf (next bytes s x) xs
+
+  -- a step that is done, and allowed
+  abbrev pub DoneAllowed : List ℕ → Step → Type 0
+  DoneAllowed s x =
+      (outcomeOf bytes s x .check ≡ passes)
+      × Allowed (tableOf bytes) (systemOf s) (systemOf (next bytes s x)) (x .kind) (x .agent) (x .number) (outcomeOf bytes s x .taken)
+
+  pub all-allowed : Bytes bytes → (s : List ℕ) → Words s → (xs : List Step) → firstOf (checksOf s xs) ≡ passes → Before (next bytes) DoneAllowed s xs
+  all-allowed small s narrow [] e = tt
+  all-allowed small s narrow (x ∷ xs) e =
+      let f = first-passes (outcomeOf bytes s x .check) (checksOf (next bytes s x) xs) e in
+      let r = done-ready bytes s (x .scratch) (x .kind) (x .agent) (x .number) small narrow (f .0) in
+      let w = done-allowed s (next bytes s x) (x .scratch) (x .kind) (x .agent) (x .number) (outcomeOf bytes s x .taken) r (is-done s x (f .0)) in
+      ((f .0, w .1), all-allowed small (next bytes s x) (w .0 .state .narrow) xs (f .1))
+    where
+      is-done : (s : List ℕ) (x : Step) → outcomeOf bytes s x .check ≡ passes → outcomeOf bytes s x ≡ done (outcomeOf bytes s x .taken) (next bytes s x)
+      is-done s x f = ap (λ (c : Check). record { check = c; taken = outcomeOf bytes s x .taken; state = next bytes s x }) f

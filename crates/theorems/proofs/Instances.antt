@@ -1,0 +1,99 @@
+-- DONE STEPS OF MANY KINDS: a small fleet whose steps use SEQ, PAR, a call, a guard, an environment write, QRY1 and QRY2, each done and allowed.
+-- Assumes nothing.
+use Prim.Native.Nat.{ℕ}
+use mathlib.Core.Bool.{true}
+use mathlib.Core.Path.{_≡_, refl}
+use mathlib.Core.List.{List, [], _∷_}
+use lib.Dec.{ltb}
+use lib.ListN.{length, getD, take, drop}
+use Rattle.basis.specs.Below.{below}
+use Rattle.basis.specs.Numbers.{someBelow, every, lowest, howMany, forEach}
+use Rattle.basis.specs.KeySets.{has, plus, minus, plusAll}
+use Rattle.agreement.specs.Machine.{Before}
+use Rattle.table.specs.Checks.{firstOf, passes}
+use Rattle.table.specs.Tables.{tableOf, withinLimits}
+use Rattle.table.specs.Nodes.{processRows, guardRows, expressionRows, rowOf, fieldsHere, fits, fitting, named, namesAgain, badNode}
+use Rattle.table.specs.Reach.{reachStep, reachedFrom, wrongKey}
+use Rattle.term.specs.Terms.{words, termsOf, areTerms}
+use Rattle.term.specs.Processes.{keep, joins, derivations, nodeStep, nodeWith, defined, nodeProcess, process, allFew}
+use Rattle.term.specs.Exposure.{canTick, callsBelow}
+use Rattle.term.specs.Acceptance.{stateWords, tableChecks}
+use Rattle.state.specs.declared.Store.the-variants.{Environment, Attributes, Entries}
+use Rattle.state.specs.Layout.{lengthAt, residualAt, clockOf, wordOf, stampOf, zcOf, zpOf, valueIn, put, addKey, dropKey}
+use Rattle.state.specs.Evaluation.{valueStep, truthStep, readsStep}
+use Rattle.state.specs.WellFormed.{allZero, pairFormed, pendingFormed, residualFormed, agentFormed, wellFormed, loaded}
+use Rattle.steps.specs.Acts.{leave, setKey, acted}
+use Rattle.steps.specs.Offers.{takeEntry, linked, takes, holdsNewer, offer}
+use Rattle.steps.specs.Steps.{Outcome, outcome, stepIn, stepOf}
+use Rattle.theorems.specs.Demand3.{Step, outcomeOf, next}
+use Rattle.theorems.proofs.Ready.{loaded-ready}
+use Rattle.theorems.proofs.DoneSteps.{small-bytes, checksOf, DoneAllowed, all-allowed}
+
+-- Sizes 27, 1, 2, 1, 1, 1: one definition, two agents, attribute a, stigmergy key x, environment key e.
+-- Agent 0, node 9: x := 7; e := x; e := x + 1 (nodes 1, 3, 7). Agent 1, node 22, calls definition 0, node 18: a := 1 | (e = 7 → x := 9) (nodes 11, 17).
+-- The link of x, node 21: the receiver's a = 1
+abbrev pub smallFleet : List ℕ
+smallFleet =
+    27 ∷ 0 ∷ 1 ∷ 0 ∷ 2 ∷ 0 ∷ 1 ∷ 0 ∷ 1 ∷ 0 ∷ 1 ∷ 0
+    ∷ 32 ∷ 3 ∷ 34 ∷ 4 ∷ 34 ∷ 32 ∷ 36 ∷ 4 ∷ 5 ∷ 5 ∷ 32 ∷ 2 ∷ 35 ∷ 32 ∷ 17 ∷ 32 ∷ 3 ∷ 7 ∷ 8 ∷ 33 ∷ 32 ∷ 17 ∷ 9 ∷ 64 ∷ 64 ∷ 64 ∷ 64
+    ∷ 7 ∷ 0 ∷ 0 ∷ 0 ∷ 0 ∷ 0 ∷ 0 ∷ 0 ∷ 0 ∷ 0 ∷ 0 ∷ 0 ∷ 0 ∷ 0 ∷ 2 ∷ 0 ∷ 0 ∷ 0 ∷ 0 ∷ 0 ∷ 1 ∷ 0 ∷ 0 ∷ 0 ∷ 4 ∷ 0 ∷ 5 ∷ 0
+    ∷ 0 ∷ 0 ∷ 6 ∷ 0 ∷ 3 ∷ 0 ∷ 7 ∷ 0 ∷ 1 ∷ 0 ∷ 8 ∷ 0 ∷ 1 ∷ 0 ∷ 0 ∷ 0 ∷ 0 ∷ 0 ∷ 10 ∷ 0 ∷ 0 ∷ 0 ∷ 0 ∷ 0 ∷ 7 ∷ 0 ∷ 0 ∷ 0
+    ∷ 12 ∷ 0 ∷ 13 ∷ 0 ∷ 9 ∷ 0 ∷ 0 ∷ 0 ∷ 0 ∷ 0 ∷ 15 ∷ 0 ∷ 14 ∷ 0 ∷ 16 ∷ 0 ∷ 11 ∷ 0 ∷ 17 ∷ 0 ∷ 0 ∷ 0 ∷ 2 ∷ 0 ∷ 1 ∷ 0 ∷ 0 ∷ 0
+    ∷ 19 ∷ 0 ∷ 20 ∷ 0 ∷ 0 ∷ 0 ∷ 0 ∷ 0 ∷ 18 ∷ 0 ∷ 0 ∷ 0 ∷ 21 ∷ 0 ∷ 0 ∷ 0 ∷ 9 ∷ 0 ∷ 0 ∷ 0 ∷ 22 ∷ 0 ∷ 0 ∷ 0 ∷ []
+
+-- kind, agent, number; 54 words of scratch
+abbrev step : ℕ → ℕ → ℕ → Step
+step kind agent number = record { kind = kind; agent = agent; number = number; scratch = 54 }
+
+abbrev pub steps : List Step
+steps =
+    step 0 0 0 ∷ step 1 0 0 ∷ step 0 1 0 ∷ step 0 0 0 ∷ step 2 0 0 ∷ step 1 1 0 ∷ step 0 1 0 ∷ step 1 1 0 ∷ step 0 0 0 ∷ step 2 0 0 ∷ step 0 0 0 ∷ []
+
+-- what a step comes to: how many took the entry, the clock, e; of agent 0 value and stamp of x, Zc, Zp; of agent 1 a, value and stamp of x, Zc, Zp;
+-- and the words of what is left of the stepping agent's process
+abbrev shown : ℕ → Outcome → List ℕ
+shown x o =
+    o .taken ∷ clockOf (o .state) ∷ wordOf (o .state) Environment 0
+    ∷ wordOf (o .state) (Entries 0) 0 ∷ stampOf (o .state) 0 0 ∷ zcOf (o .state) 0 ∷ zpOf (o .state) 0
+    ∷ wordOf (o .state) (Attributes 1) 0 ∷ wordOf (o .state) (Entries 1) 0 ∷ stampOf (o .state) 1 0 ∷ zcOf (o .state) 1 ∷ zpOf (o .state) 1
+    ∷ take (getD (o .state) (lengthAt x) 0) (drop (residualAt x) (o .state))
+
+abbrev allShown : List ℕ → List Step → List (List ℕ)
+allShown s [] = []
+allShown s (x ∷ xs) = shown (x .agent) (outcomeOf smallFleet s x) ∷ allShown (next smallFleet s x) xs
+
+abbrev expected : List (List ℕ)
+expected =
+    (0 ∷ 1 ∷ 0 ∷ 7 ∷ 1 ∷ 0 ∷ 1 ∷ 0 ∷ 0 ∷ 0 ∷ 0 ∷ 0 ∷ 65535 ∷ 65533 ∷ 8 ∷ [])  -- SEQ: x := 7 at the left, which leaves tick
+    ∷ (0 ∷ 1 ∷ 0 ∷ 7 ∷ 1 ∷ 0 ∷ 0 ∷ 0 ∷ 0 ∷ 0 ∷ 0 ∷ 0 ∷ 65535 ∷ 65533 ∷ 8 ∷ [])  -- the link does not hold: nobody takes x
+    ∷ (0 ∷ 1 ∷ 0 ∷ 7 ∷ 1 ∷ 0 ∷ 0 ∷ 1 ∷ 0 ∷ 0 ∷ 0 ∷ 0 ∷ 65534 ∷ 65533 ∷ 17 ∷ [])  -- the call, PAR: a := 1 at the left
+    ∷ (0 ∷ 1 ∷ 7 ∷ 7 ∷ 1 ∷ 1 ∷ 0 ∷ 1 ∷ 0 ∷ 0 ∷ 0 ∷ 0 ∷ 65535 ∷ 65533 ∷ 7 ∷ [])  -- SEQ: the tick at the left joins the right; e := x sets the environment
+    ∷ (1 ∷ 1 ∷ 7 ∷ 7 ∷ 1 ∷ 0 ∷ 0 ∷ 1 ∷ 7 ∷ 1 ∷ 0 ∷ 1 ∷ 65535 ∷ 65533 ∷ 7 ∷ [])  -- QRY1: agent 1 has no entry and takes it
+    ∷ (0 ∷ 1 ∷ 7 ∷ 7 ∷ 1 ∷ 0 ∷ 0 ∷ 1 ∷ 7 ∷ 1 ∷ 0 ∷ 0 ∷ 65534 ∷ 65533 ∷ 17 ∷ [])
+    ∷ (0 ∷ 2 ∷ 7 ∷ 7 ∷ 1 ∷ 0 ∷ 0 ∷ 1 ∷ 9 ∷ 2 ∷ 0 ∷ 1 ∷ 65534 ∷ 65533 ∷ 65533 ∷ [])  -- PAR: x := 9 at the right, under the guard e = 7
+    ∷ (0 ∷ 2 ∷ 7 ∷ 7 ∷ 1 ∷ 0 ∷ 0 ∷ 1 ∷ 9 ∷ 2 ∷ 0 ∷ 0 ∷ 65534 ∷ 65533 ∷ 65533 ∷ [])
+    ∷ (0 ∷ 2 ∷ 8 ∷ 7 ∷ 1 ∷ 1 ∷ 0 ∷ 1 ∷ 9 ∷ 2 ∷ 0 ∷ 0 ∷ 65533 ∷ [])  -- the tick joins e := x + 1
+    ∷ (0 ∷ 2 ∷ 8 ∷ 7 ∷ 1 ∷ 0 ∷ 0 ∷ 1 ∷ 9 ∷ 2 ∷ 0 ∷ 1 ∷ 65533 ∷ [])  -- QRY2: agent 1 has a newer entry, and x waits in it again
+    ∷ (0 ∷ 2 ∷ 8 ∷ 7 ∷ 1 ∷ 0 ∷ 0 ∷ 1 ∷ 9 ∷ 2 ∷ 0 ∷ 1 ∷ 65532 ∷ [])  -- the last tick
+    ∷ []
+
+-- by computing
+computed : (firstOf (tableChecks smallFleet stateWords 54) ≡ passes) × (every (λ (i : ℕ). ltb (getD smallFleet i 0) 256) (length smallFleet) ≡ true)
+    × (firstOf (checksOf smallFleet (loaded (tableOf smallFleet)) steps) ≡ passes) × (allShown (loaded (tableOf smallFleet)) steps ≡ expected)
+unfolding below someBelow every lowest howMany forEach has plus minus plusAll firstOf withinLimits processRows guardRows expressionRows rowOf fieldsHere fits fitting named namesAgain badNode reachStep reachedFrom wrongKey words termsOf areTerms keep joins derivations nodeStep nodeWith defined nodeProcess process allFew canTick callsBelow valueIn put addKey dropKey valueStep truthStep readsStep allZero pairFormed pendingFormed residualFormed agentFormed wellFormed loaded leave setKey acted takeEntry linked takes holdsNewer offer outcome stepIn stepOf
+computed = (refl, refl, refl, refl)
+
+pub record Instances : Type 0 where
+  pub accepted : firstOf (tableChecks smallFleet stateWords 54) ≡ passes
+  -- from load on, every step is done and allowed
+  pub allowed : Before (next smallFleet) (DoneAllowed smallFleet) (loaded (tableOf smallFleet)) steps
+  pub comes : allShown (loaded (tableOf smallFleet)) steps ≡ expected
+
+pub instances : Instances
+instances =
+    let small = small-bytes smallFleet (computed .1) in
+    record {
+      accepted = computed .0;
+      allowed = all-allowed smallFleet small (loaded (tableOf smallFleet)) (loaded-ready smallFleet small 54 (computed .0) .state .narrow) steps (computed .2);
+      comes = computed .3;
+    }
