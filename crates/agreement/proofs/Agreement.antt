@@ -1,22 +1,22 @@
 -- The theorems on every list of steps from a start.
 use mathlib.Core.Bool.{Bool}
-use mathlib.Core.List.{List, List·Memᴰ}
+use mathlib.Core.List.{List, _++_, List·Memᴰ}
 use mathlib.Core.Logic.{⊎-elim}
 use mathlib.Core.Path.{_≡_, _∙_, ap}
 use native.Mathlib.Omega.{arith}
 use Prim.Native.Nat.{ℕ}
-use lib.Dec.{ltb→lt, lt→ltb}
+use lib.Dec.{T, ltb→lt}
 use Rattle.agreement.specs.Order.{Order, Comparable}
-use Rattle.agreement.specs.View.{blank}
-use Rattle.agreement.specs.Turns.{Turn, afterTurns, AllFresh, PropagateLinked}
+use Rattle.agreement.specs.View.{blank, NewerWaits}
+use Rattle.agreement.specs.Turns.{Turn, afterTurns, AllFresh}
 use Rattle.agreement.specs.Stamps.{byStamp}
 use Rattle.agreement.specs.History.{Numbered, writeAt, WrittenAt}
-use Rattle.agreement.specs.Machine.{afterSteps, turnsOf, Machine, Start, Writes, entryAfter, waitsAfter, historyOf, LinkHeld, allWrites}
+use Rattle.agreement.specs.Machine.{afterSteps, turnsOf, Machine, Start, Writes, InContact, viewAfter, entryAfter, historyOf, allWrites}
 use Rattle.agreement.specs.Agreement.{Agreement, StampAgreement}
-use Rattle.agreement.proofs.Turns.{neighbours-map, never-older, blank-written, blank-equal, blank-pair, blank-chain}
+use Rattle.agreement.proofs.Turns.{neighbours-map, chain-agrees, never-older, pair-turns, blank-written, blank-equal}
 use Rattle.agreement.proofs.Stamps.{stamp-order, climbing-comparable}
 use Rattle.agreement.proofs.History.{write-of-stamp, entry-write, numbered-climbing}
-use Rattle.agreement.proofs.Machine.{afterSteps-append, before-propagates, invariant-steps, view-steps, fresh-steps, start-fresh, start-view, writes-numbered, history-entries}
+use Rattle.agreement.proofs.Machine.{before-propagates, invariant-steps, view-split, fresh-steps, start-fresh, start-view, writes-numbered, history-entries}
 
 -- for any strict order of entries
 module _ {E : Type 0} {absent : E} {newer : E → E → Bool} (order : Order E newer) (M : Machine absent newer) (s : M .State) (start : Start M s) (xs : List (M .Step)) where
@@ -25,28 +25,41 @@ module _ {E : Type 0} {absent : E} {newer : E → E → Bool} (order : Order E n
   abbrev turns : ℕ → List (Turn E)
   turns k = turnsOf next turn s xs k
 
-  abbrev end : State
-  end = afterSteps next s xs
-
-  kept : M .Invariant end
-  kept = invariant-steps M s xs (start .invariant)
-
-  final : (k : ℕ) → view end k ≡ afterTurns newer (turns k) (blank absent)
+  final : (k : ℕ) → view (afterSteps next s xs) k ≡ afterTurns newer (turns k) (blank absent)
   final = start-view M s start xs
 
   fresh : (k : ℕ) → AllFresh newer (turns k) (blank absent)
   fresh = start-fresh M s start xs
 
+  module _ (before since : List Step) (split : xs ≡ before ++ since) where
+    abbrev moment : State
+    moment = afterSteps next s before
+
+    later : (k : ℕ) → view (afterSteps next s xs) k ≡ afterTurns newer (turnsOf next turn moment since k) (view moment k)
+    later = view-split M s xs before since split (start .invariant)
+
+    fresh-since : (k : ℕ) → AllFresh newer (turnsOf next turn moment since k) (view moment k)
+    fresh-since k = fresh-steps M moment since k (invariant-steps M s before (start .invariant))
+
+    pair-since : (k a b : ℕ) → InContact M s before since k a b → NewerWaits newer (viewAfter M s xs k) a b
+    pair-since k a b c = rw (later k, viewAfter)
+        (pair-turns newer order (turnsOf next turn moment since k) (view moment k) a b (fresh-since k) (before-propagates next turn k a b moment since (c .link-held)) (c .newer-waits))
+
   pub agreement : Agreement M s xs
   agreement = record {
     written = λ k a. rw (final k, entryAfter) (blank-written newer order absent (turns k) (fresh k) a);
-    equal = λ k. rw (final k, entryAfter) (blank-equal newer order absent (turns k) (fresh k));
-    never-older = λ ys k a. rw (entryAfter, afterSteps-append next s xs ys, view-steps M end ys k kept)
-        (never-older newer order (turnsOf next turn end ys k) (view end k) a (fresh-steps M end ys k kept));
-    pair = λ k a b h. rw (final k, entryAfter, waitsAfter) (blank-pair newer order absent (turns k) (fresh k) a b (before-propagates next turn k a b s xs h));
-    chain = λ k comparable l h. rw (final k) (blank-chain newer order absent (turns k) (fresh k) comparable l
-        (neighbours-map (LinkHeld M s xs k) (λ a b. PropagateLinked a b (turns k)) (λ a b. before-propagates next turn k a b s xs) l h));
+    equal = equal;
+    never-older = λ before since e k a. rw (entryAfter, later before since e k)
+        (never-older newer order (turnsOf next turn (moment before since e) since k) (view (moment before since e) k) a (fresh-since before since e k));
+    pair = pair-since;
+    chain = λ before since e k comparable l h. chain-agrees newer (viewAfter M s xs k) (equal k comparable) l
+        (neighbours-map (InContact M s before since k) (NewerWaits newer (viewAfter M s xs k)) l (λ a b m n. pair-since before since e k a b) h);
   }
+    where
+      equal : (k : ℕ) → Comparable newer (historyOf M s xs k) → (a b : ℕ)
+          → (T (newer (entryAfter M s xs k a) (entryAfter M s xs k b)) → ⊥) → (T (newer (entryAfter M s xs k b) (entryAfter M s xs k a)) → ⊥)
+          → entryAfter M s xs k a ≡ entryAfter M s xs k b
+      equal k = rw (final k, entryAfter) (blank-equal newer order absent (turns k) (fresh k))
 
 -- for stamps from one clock, which is 0 at the start; an absent entry has stamp 0
 module _ {E : Type 0} {absent : E} (stamp : E → ℕ) (absent-zero : stamp absent ≡ 0) (M : Machine absent (byStamp stamp)) (H : Writes stamp M)
@@ -58,7 +71,7 @@ module _ {E : Type 0} {absent : E} (stamp : E → ℕ) (absent-zero : stamp abse
   numbered = rw clock-zero at (writes-numbered stamp M H s xs (start .invariant))
 
   -- of two different entries written to a key one is newer
-  pub writes-comparable : (k : ℕ) → Comparable (byStamp stamp) (historyOf M s xs k)
+  writes-comparable : (k : ℕ) → Comparable (byStamp stamp) (historyOf M s xs k)
   writes-comparable k = rw (history-entries stamp M H s xs k (start .invariant))
       (climbing-comparable stamp 0 _ (numbered-climbing (H .key) (H .entry) k stamp 0 (allWrites H s xs) numbered))
 
@@ -72,10 +85,10 @@ module _ {E : Type 0} {absent : E} (stamp : E → ℕ) (absent-zero : stamp abse
 
   pub stamp-agreement : StampAgreement stamp M H s xs
   stamp-agreement = record {
+    agreement = all;
     numbered = numbered;
+    comparable = writes-comparable;
     written = λ d k a h. ⊎-elim (λ e. absurd (omega (arith, ap stamp e))) (written-at d k (entryAfter M s xs k a)) (all .written k a);
     equal = λ k a b e. all .equal k (writes-comparable k) a b (λ t. omega (arith, ltb→lt)) (λ t. omega (arith, ltb→lt));
-    never-older = λ ys k a. ⊎-elim (λ e. omega (arith, ap stamp e)) (λ t. omega (arith, ltb→lt)) (all .never-older ys k a);
-    pair = λ k a b h n. all .pair k a b h (omega (arith, lt→ltb));
-    chain = λ k. all .chain k (writes-comparable k);
+    never-fall = λ before since e k a. ⊎-elim (λ f. omega (arith, ap stamp f)) (λ t. omega (arith, ltb→lt)) (all .never-older before since e k a);
   }

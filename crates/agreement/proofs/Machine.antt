@@ -9,7 +9,7 @@ use Rattle.agreement.specs.Moves.{propagate}
 use Rattle.agreement.specs.Turns.{Turn, afterTurn, afterTurns, AllFresh, PropagateLinked}
 use Rattle.agreement.specs.Stamps.{byStamp}
 use Rattle.agreement.specs.History.{Numbered, entriesOf}
-use Rattle.agreement.specs.Machine.{afterSteps, Before, turnsOf, Machine, Start, Writes, historyOf, LinkHeld, allWrites}
+use Rattle.agreement.specs.Machine.{afterSteps, Before, turnsOf, Machine, Start, Writes, historyOf, allWrites}
 use Rattle.agreement.proofs.History.{numbered-append, entries-append}
 
 module _ {State Step : Type 0} (next : State → Step → State) where
@@ -21,6 +21,11 @@ module _ {State Step : Type 0} (next : State → Step → State) where
       → (s : State) (xs : List Step) → Before next P s xs → Before next Q s xs
   before-map P Q f s [] h = tt
   before-map P Q f s (x ∷ xs) h = (f s x (h .0), before-map P Q f (next s x) xs (h .1))
+
+  -- what holds of any step in any state
+  pub before-all : (P : State → Step → Type 0) → ((s : State) (x : Step) → P s x) → (s : State) (xs : List Step) → Before next P s xs
+  before-all P f s [] = tt
+  before-all P f s (x ∷ xs) = (f s x, before-all P f (next s x) xs)
 
   pub before-propagates : {E : Type 0} (turn : State → Step → ℕ → Turn E) (k a b : ℕ) (s : State) (xs : List Step)
       → Before next (λ s x. turn s x k .move ≡ propagate a → T (turn s x k .link a b)) s xs → PropagateLinked a b (turnsOf next turn s xs k)
@@ -46,9 +51,12 @@ module _ {E : Type 0} {absent : E} {newer : E → E → Bool} (M : Machine absen
   fresh-steps s [] k g = tt
   fresh-steps s (x ∷ xs) k g = (M .fresh-next s x k g, rw (← view-step s x k g) (fresh-steps (next s x) xs k (M .invariant-next s x g)))
 
-  -- a link that held before every step held before every propagate
-  pub link-always : (s : State) (xs : List Step) (k a b : ℕ) → Before next (λ s x. T (turn s x k .link a b)) s xs → LinkHeld M s xs k a b
-  link-always s xs k a b = before-map next _ _ (λ s x l e. l) s xs
+  -- after more steps than `before`
+  pub view-split : (s : State) (xs before since : List Step) → xs ≡ before ++ since → Invariant s → (k : ℕ)
+      → view (afterSteps next s xs) k ≡ afterTurns newer (turnsOf next turn (afterSteps next s before) since k) (view (afterSteps next s before) k)
+  view-split s xs before since e g k =
+      ap (λ (l : List Step). view (afterSteps next s l) k) e ∙ ap (λ u. view u k) (afterSteps-append next s before since)
+      ∙ view-steps (afterSteps next s before) since k (invariant-steps s before g)
 
   -- from a start
   module _ (s : State) (start : Start M s) where

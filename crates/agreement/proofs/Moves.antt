@@ -7,7 +7,7 @@ use Prim.Native.Nat.{ℕ}
 use lib.Dec.{T, eqb, eqb→eq}
 use Rattle.agreement.specs.Order.{Order}
 use Rattle.agreement.specs.View.{View}
-use Rattle.agreement.specs.Moves.{Move, quiet, write, propagate, confirm, reaches, takes, answers, moved, Fresh, wrote}
+use Rattle.agreement.specs.Moves.{Move, quiet, write, propagate, confirm, linked, takes, holdsNewer, moved, Fresh, wrote}
 
 and-right : (a b : Bool) → T (a && b) → T b
 and-right true b t = t
@@ -42,7 +42,7 @@ module _ {E : Type 0} (newer : E → E → Bool) where
 
   -- who takes an entry had an older one
   taken-newer : (link : ℕ → ℕ → Bool) (v : View E) (x y : ℕ) → T (takes newer link v x y) → T (newer (v .entry x) (v .entry y))
-  taken-newer link v x y t = and-right (reaches link x y) (newer (v .entry x) (v .entry y)) t
+  taken-newer link v x y t = and-right (linked link x y) (newer (v .entry x) (v .entry y)) t
 
   -- an agent keeps its entry, or has a newer one and the key waits in it
   pub entry-moved : (link : ℕ → ℕ → Bool) (m : Move E) (v : View E) (a : ℕ) → Fresh newer m v
@@ -64,7 +64,7 @@ module _ {E : Type 0} (newer : E → E → Bool) where
   waits-moved link (propagate x) v a w =
       ⊎-map (λ t. t) (λ t. ap propagate (eqb→eq x a t)) (waits-or-own (takes newer link v x a) (eqb x a) (v .waits a) w)
   waits-moved link (confirm x) v a w =
-      inl (or-right (takes newer link v x a) (answers newer link v x a || v .waits a) (or-right (answers newer link v x a) (v .waits a) w))
+      inl (or-right (takes newer link v x a) (holdsNewer newer link v x a || v .waits a) (or-right (holdsNewer newer link v x a) (v .waits a) w))
 
   -- after a propagates the key, no agent that a is linked to has an older entry than a
   pub propagate-reaches : Order E newer → (link : ℕ → ℕ → Bool) (v : View E) (a b : ℕ) → T (link a b)

@@ -6,20 +6,34 @@ use mathlib.Core.Path.{_≡_, refl, sym, _∙_, ap}
 use Prim.Native.Nat.{ℕ}
 use lib.Dec.{T}
 use Rattle.agreement.specs.Order.{Order, NotOlder, Comparable}
-use Rattle.agreement.specs.View.{View, blank, NoneWaits, Agree, Neighbours}
+use Rattle.agreement.specs.View.{View, blank, NewerWaits, NoneWaits, Agree, Neighbours}
 use Rattle.agreement.specs.Moves.{propagate, Fresh, wrote}
-use Rattle.agreement.specs.Turns.{Turn, afterTurn, afterTurns, AllFresh, history, Linked, PropagateLinked, Chained}
+use Rattle.agreement.specs.Turns.{Turn, afterTurn, afterTurns, AllFresh, history, PropagateLinked}
 use Rattle.agreement.proofs.Moves.{entry-moved, waits-moved, propagate-reaches, entry-from}
 
--- a link that held before every turn held before every propagate
-pub linked-propagate : {E : Type 0} (a b : ℕ) (ts : List (Turn E)) → Linked a b ts → PropagateLinked a b ts
-linked-propagate a b [] h = tt
-linked-propagate a b (t ∷ ts) h = (λ e. h .0, linked-propagate a b ts (h .1))
+-- what holds of the list's neighbours, where R does, holds of them
+pub neighbours-map : (R S : ℕ → ℕ → Type 0) (l : List ℕ) → ((a b : ℕ) → List·Memᴰ a l → List·Memᴰ b l → R a b → S a b) → Neighbours R l → Neighbours S l
+neighbours-map R S [] f h = tt
+neighbours-map R S (a ∷ []) f h = tt
+neighbours-map R S (a ∷ (b ∷ l)) f h = (
+  f a b (List·Memᴰ·head refl) (List·Memᴰ·tail (List·Memᴰ·head refl)) (h .0),
+  f b a (List·Memᴰ·tail (List·Memᴰ·head refl)) (List·Memᴰ·head refl) (h .1),
+  neighbours-map R S (b ∷ l) (λ c d m n. f c d (List·Memᴰ·tail m) (List·Memᴰ·tail n)) (h .2),
+)
 
-pub neighbours-map : (R S : ℕ → ℕ → Type 0) → ((a b : ℕ) → R a b → S a b) → (l : List ℕ) → Neighbours R l → Neighbours S l
-neighbours-map R S f [] h = tt
-neighbours-map R S f (a ∷ []) h = tt
-neighbours-map R S f (a ∷ (b ∷ l)) h = (f a b (h .0), f b a (h .1), neighbours-map R S f (b ∷ l) (h .2))
+-- in a view in which entries of which neither is newer are equal: a chain in which the key does not wait
+module _ {E : Type 0} (newer : E → E → Bool) (v : View E)
+    (equal : (a b : ℕ) → (T (newer (v .entry a) (v .entry b)) → ⊥) → (T (newer (v .entry b) (v .entry a)) → ⊥) → v .entry a ≡ v .entry b) where
+  as-first : (a : ℕ) (l : List ℕ) → Neighbours (NewerWaits newer v) (a ∷ l) → NoneWaits (a ∷ l) v → (c : ℕ) → List·Memᴰ c (a ∷ l) → v .entry c ≡ v .entry a
+  as-first a [] near none c m = rw (List·Memᴰ·eq-of-singleton m)
+  as-first a (b ∷ l) near none c m = ⊎-elim (λ e. ap (v .entry) e)
+      (λ n. as-first b l (near .2) (λ d i. none d (List·Memᴰ·tail i)) c n
+      ∙ sym (equal a b (λ t. none a (List·Memᴰ·head refl) (near .0 t)) (λ t. none b (List·Memᴰ·tail (List·Memᴰ·head refl)) (near .1 t))))
+      (List·Memᴰ·cases-cons m)
+
+  pub chain-agrees : (l : List ℕ) → Neighbours (NewerWaits newer v) l → NoneWaits l v → Agree l v
+  chain-agrees [] near none a b m n = absurd (List·Memᴰ·not-nil m)
+  chain-agrees (x ∷ l) near none a b m n = as-first x l near none a m ∙ sym (as-first x l near none b n)
 
 module _ {E : Type 0} (newer : E → E → Bool) where
   -- (i) an agent's entry was some agent's at the start, or was written
@@ -47,10 +61,9 @@ module _ {E : Type 0} (newer : E → E → Bool) (order : Order E newer) where
       not-older-trans _ _ _ (never-older ts (afterTurn newer t v) a (fresh .1))
       (⊎-elim (λ e. inl e) (λ g. inr (g .0)) (entry-moved newer (t .link) (t .move) v a (fresh .0)))
 
-  -- (iv) for one turn: if the key waited in a wherever a's entry was newer than b's, it does afterwards
+  -- (iv) for one turn
   pub pair-turn : (t : Turn E) (v : View E) (a b : ℕ) → Fresh newer (t .move) v → (t .move ≡ propagate a → T (t .link a b))
-      → (T (newer (v .entry a) (v .entry b)) → T (v .waits a))
-      → T (newer (afterTurn newer t v .entry a) (afterTurn newer t v .entry b)) → T (afterTurn newer t v .waits a)
+      → NewerWaits newer v a b → NewerWaits newer (afterTurn newer t v) a b
   pair-turn t v a b fresh linked held n = ⊎-elim kept (λ g. g .1) (entry-moved newer (t .link) (t .move) v a fresh)
     where
       w : View E
@@ -68,8 +81,7 @@ module _ {E : Type 0} (newer : E → E → Bool) (order : Order E newer) where
       kept e = waits (waits-moved newer (t .link) (t .move) v a (held (was (rw e at n))))
 
   pub pair-turns : (ts : List (Turn E)) (v : View E) (a b : ℕ) → AllFresh newer ts v → PropagateLinked a b ts
-      → (T (newer (v .entry a) (v .entry b)) → T (v .waits a))
-      → T (newer (afterTurns newer ts v .entry a) (afterTurns newer ts v .entry b)) → T (afterTurns newer ts v .waits a)
+      → NewerWaits newer v a b → NewerWaits newer (afterTurns newer ts v) a b
   pair-turns [] v a b fresh linked held = held
   pair-turns (t ∷ ts) v a b fresh linked held =
       pair-turns ts (afterTurn newer t v) a b (fresh .1) (linked .1) (pair-turn t v a b (fresh .0) (linked .0) held)
@@ -99,25 +111,3 @@ module _ {E : Type 0} (newer : E → E → Bool) (order : Order E newer) where
         by (inl e) (inr m) = e ∙ sym (both-absent b a q e)
         by (inr m) (inl f) = both-absent a b p f ∙ sym f
         by (inr m) (inr n) = ⊎-elim (λ e. e) (λ d. ⊎-elim (λ t. absurd (p t)) (λ t. absurd (q t)) d) (comparable _ _ m n)
-
-    -- (iv)
-    pub blank-pair : (a b : ℕ) → PropagateLinked a b ts → T (newer (now .entry a) (now .entry b)) → T (now .waits a)
-    blank-pair a b linked = pair-turns ts (blank absent) a b fresh linked (λ t. absurd (order .irreflexive absent t))
-
-    -- two agents linked both ways in which the key does not wait
-    pub blank-two : Comparable newer (history ts) → (a b : ℕ) → PropagateLinked a b ts → PropagateLinked b a ts
-        → (T (now .waits a) → ⊥) → (T (now .waits b) → ⊥) → now .entry a ≡ now .entry b
-    blank-two comparable a b l m p q = blank-equal comparable a b (λ t. p (blank-pair a b l t)) (λ t. q (blank-pair b a m t))
-
-    as-first : Comparable newer (history ts) → (a : ℕ) (l : List ℕ) → Chained (a ∷ l) ts → NoneWaits (a ∷ l) now
-        → (c : ℕ) → List·Memᴰ c (a ∷ l) → now .entry c ≡ now .entry a
-    as-first comparable a [] linked none c m = rw (List·Memᴰ·eq-of-singleton m)
-    as-first comparable a (b ∷ l) linked none c m = ⊎-elim (λ e. ap (now .entry) e)
-        (λ n. as-first comparable b l (linked .2) (λ d i. none d (List·Memᴰ·tail i)) c n
-        ∙ sym (blank-two comparable a b (linked .0) (linked .1) (none a (List·Memᴰ·head refl)) (none b (List·Memᴰ·tail (List·Memᴰ·head refl)))))
-        (List·Memᴰ·cases-cons m)
-
-    -- a chain in which the key does not wait
-    pub blank-chain : Comparable newer (history ts) → (l : List ℕ) → Chained l ts → NoneWaits l now → Agree l now
-    blank-chain comparable [] linked none a b m n = absurd (List·Memᴰ·not-nil m)
-    blank-chain comparable (x ∷ l) linked none a b m n = as-first comparable x l linked none a m ∙ sym (as-first comparable x l linked none b n)

@@ -5,7 +5,7 @@ use mathlib.Core.List.{List, [], _∷_, _++_}
 use Prim.Native.Nat.{ℕ, _+_}
 use lib.Dec.{T}
 use lib.ListN.{length}
-use Rattle.agreement.specs.View.{View}
+use Rattle.agreement.specs.View.{View, NewerWaits}
 use Rattle.agreement.specs.Moves.{propagate, Fresh, wrote}
 use Rattle.agreement.specs.Turns.{Turn, afterTurn, history}
 use Rattle.agreement.specs.Stamps.{byStamp}
@@ -55,23 +55,25 @@ pub record Start {E : Type 0} {absent : E} {newer : E → E → Bool} (M : Machi
   pub no-waits : (k a : ℕ) → M .view s k .waits a ≡ false
 
 module _ {E : Type 0} {absent : E} {newer : E → E → Bool} (M : Machine absent newer) (s : M .State) (xs : List (M .Step)) where
-  -- the view of a key after the steps, an agent's entry in it, and whether the key waits in an agent
+  -- the view of a key after the steps, and an agent's entry in it
   abbrev pub viewAfter : ℕ → View E
   viewAfter k = M .view (afterSteps (M .next) s xs) k
 
   abbrev pub entryAfter : ℕ → ℕ → E
   entryAfter k a = viewAfter k .entry a
 
-  abbrev pub waitsAfter : ℕ → ℕ → Bool
-  waitsAfter k a = viewAfter k .waits a
-
   -- the entries that the steps write to a key, the first first
   abbrev pub historyOf : ℕ → List E
   historyOf k = history (turnsOf (M .next) (M .turn) s xs k)
 
   -- key k's link from a to b held before every step in which a propagates k
-  abbrev pub LinkHeld : ℕ → ℕ → ℕ → Type 0
-  LinkHeld k a b = Before (M .next) (λ s x. M .turn s x k .move ≡ propagate a → T (M .turn s x k .link a b)) s xs
+  abbrev pub HeldBeforePropagates : ℕ → ℕ → ℕ → Type 0
+  HeldBeforePropagates k a b = Before (M .next) (λ s x. M .turn s x k .move ≡ propagate a → T (M .turn s x k .link a b)) s xs
+
+-- after the steps `before` from s, a's entry for k was newer than b's only while k waited in a; in the steps `since` from there, the link held so
+pub record InContact {E : Type 0} {absent : E} {newer : E → E → Bool} (M : Machine absent newer) (s : M .State) (before since : List (M .Step)) (k a b : ℕ) : Type 0 where
+  pub newer-waits : NewerWaits newer (viewAfter M s before k) a b
+  pub link-held : HeldBeforePropagates M (afterSteps (M .next) s before) since k a b
 
 -- the writes of a machine in which one clock numbers them: each write is one step of the clock, and its entry bears the new number
 pub record Writes {E : Type 0} {absent : E} (stamp : E → ℕ) (M : Machine absent (byStamp stamp)) : Type 1 where

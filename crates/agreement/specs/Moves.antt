@@ -13,17 +13,17 @@ pub data Move (E : Type 0) : Type 0 where
   confirm : ℕ → Move E
 
 -- y is another agent, and the link from sender x to receiver y holds
-abbrev pub reaches : (ℕ → ℕ → Bool) → ℕ → ℕ → Bool
-reaches link x y = not (eqb x y) && link x y
+abbrev pub linked : (ℕ → ℕ → Bool) → ℕ → ℕ → Bool
+linked link x y = not (eqb x y) && link x y
 
 module _ {E : Type 0} (newer : E → E → Bool) where
-  -- x reaches y and has the newer entry, which y takes
+  -- x is linked to y and has the newer entry, which y takes
   abbrev pub takes : (ℕ → ℕ → Bool) → View E → ℕ → ℕ → Bool
-  takes link v x y = reaches link x y && newer (v .entry x) (v .entry y)
+  takes link v x y = linked link x y && newer (v .entry x) (v .entry y)
 
-  -- x reaches y and y has the newer entry, which y will propagate
-  abbrev pub answers : (ℕ → ℕ → Bool) → View E → ℕ → ℕ → Bool
-  answers link v x y = reaches link x y && newer (v .entry y) (v .entry x)
+  -- x is linked to y and y has the newer entry, which y will propagate
+  abbrev pub holdsNewer : (ℕ → ℕ → Bool) → View E → ℕ → ℕ → Bool
+  holdsNewer link v x y = linked link x y && newer (v .entry y) (v .entry x)
 
   -- the view after a move, all links and entries judged before it
   unfoldable pub moved : (ℕ → ℕ → Bool) → Move E → View E → View E
@@ -38,7 +38,7 @@ module _ {E : Type 0} (newer : E → E → Bool) where
   }
   moved link (confirm x) v = record {
     entry = λ y. cond (takes link v x y) (v .entry x) (v .entry y);
-    waits = λ y. takes link v x y || (answers link v x y || v .waits y);
+    waits = λ y. takes link v x y || (holdsNewer link v x y || v .waits y);
   }
 
   -- a write is newer than the entry that it replaces

@@ -4,7 +4,7 @@ use mathlib.Core.Path.{_≡_}
 use mathlib.Core.List.{List, [], _∷_, _++_}
 use Prim.Native.Nat.{ℕ}
 use lib.Dec.{T}
-use Rattle.agreement.specs.View.{View, Neighbours}
+use Rattle.agreement.specs.View.{View}
 use Rattle.agreement.specs.Moves.{Move, propagate, moved, Fresh, wrote}
 
 -- a move, and which links (sender, then receiver) hold before it
@@ -31,17 +31,7 @@ abbrev pub history : {E : Type 0} → List (Turn E) → List E
 history [] = []
 history (t ∷ ts) = wrote (t .move) ++ history ts
 
--- the link from a to b held before every turn
-abbrev pub Linked : {E : Type 0} → ℕ → ℕ → List (Turn E) → Type 0
-Linked a b [] = Unit {0}
-Linked a b (t ∷ ts) = T (t .link a b) × Linked a b ts
-
 -- the link from a to b held before every turn in which a propagates the key; of other turns nothing is asked
 abbrev pub PropagateLinked : {E : Type 0} → ℕ → ℕ → List (Turn E) → Type 0
 PropagateLinked a b [] = Unit {0}
 PropagateLinked a b (t ∷ ts) = (t .move ≡ propagate a → T (t .link a b)) × PropagateLinked a b ts
-
--- of neighbours a, b in the list the link from a to b held before every turn in which a propagates the key,
--- and the link from b to a before every turn in which b does
-abbrev pub Chained : {E : Type 0} → List ℕ → List (Turn E) → Type 0
-Chained l ts = Neighbours (λ a b. PropagateLinked a b ts) l

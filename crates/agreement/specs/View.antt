@@ -14,6 +14,10 @@ pub record View (E : Type 0) : Type 0 where
 abbrev pub blank : {E : Type 0} → E → View E
 blank absent = record { entry = λ a. absent; waits = λ a. false }
 
+-- a's entry is newer than b's only while the key waits in a
+abbrev pub NewerWaits : {E : Type 0} → (E → E → Bool) → View E → ℕ → ℕ → Type 0
+NewerWaits newer v a b = T (newer (v .entry a) (v .entry b)) → T (v .waits a)
+
 -- the key waits in no agent of the list
 abbrev pub NoneWaits : {E : Type 0} → List ℕ → View E → Type 0
 NoneWaits l v = (a : ℕ) → List·Memᴰ a l → T (v .waits a) → ⊥

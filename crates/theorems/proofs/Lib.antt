@@ -20,5 +20,8 @@ pub mod Views
 pub mod ActViews
 pub mod OfferViews
 pub mod Turns
+pub mod Lists
+pub mod Contact
 pub mod Demand3
-pub mod Silence
+pub mod Instance3
+pub mod Ranged

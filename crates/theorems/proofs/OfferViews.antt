@@ -32,30 +32,30 @@ module _ (t : Table) (s : List ℕ) (x k : ℕ) where
   abbrev took : ℕ → Bool
   took = takes newer (links t s k) (seen s k) x
 
-  abbrev answered : ℕ → Bool
-  answered = holdsNewer newer (links t s k) (seen s k) x
+  abbrev newerThere : ℕ → Bool
+  newerThere = holdsNewer newer (links t s k) (seen s k) x
 
-  reaches-past : (a : ℕ) → A ≤ a → (e f : Bool) → ((not e && links t s k x a) && f) ≡ false
-  reaches-past a l true f = refl
-  reaches-past a l false f = rw (le-ltb a A l)
+  linked-past : (a : ℕ) → A ≤ a → (e f : Bool) → ((not e && links t s k x a) && f) ≡ false
+  linked-past a l true f = refl
+  linked-past a l false f = rw (le-ltb a A l)
 
   took-past : (a : ℕ) → A ≤ a → took a ≡ false
-  took-past a l = reaches-past a l (eqb x a) (newer (pairOf s k x) (pairOf s k a))
+  took-past a l = linked-past a l (eqb x a) (newer (pairOf s k x) (pairOf s k a))
 
-  answered-past : (a : ℕ) → A ≤ a → answered a ≡ false
-  answered-past a l = reaches-past a l (eqb x a) (newer (pairOf s k a) (pairOf s k x))
+  newer-past : (a : ℕ) → A ≤ a → newerThere a ≡ false
+  newer-past a l = linked-past a l (eqb x a) (newer (pairOf s k a) (pairOf s k x))
 
   took-there : (a : ℕ) → a < A → took a ≡ takesEntry t s x k a
   unfolding takesEntry linked
   took-there a l = rw (lt-ltb a A l)
 
-  answered-there : (a : ℕ) → a < A → answered a ≡ answersEntry t s x k a
+  newer-there : (a : ℕ) → a < A → newerThere a ≡ answersEntry t s x k a
   unfolding answersEntry linked
-  answered-there a l = rw (lt-ltb a A l)
+  newer-there a l = rw (lt-ltb a A l)
 
   -- what the offer gives the key, before x's own set changes
   abbrev given : Bool → View Pair
-  given confirming = record { entry = λ a. cond (took a) (pairOf s k x) (pairOf s k a); waits = λ a. took a || ((confirming && answered a) || has (zpOf s a) k) }
+  given confirming = record { entry = λ a. cond (took a) (pairOf s k x) (pairOf s k a); waits = λ a. took a || ((confirming && newerThere a) || has (zpOf s a) k) }
 
   module _ (confirming : Bool) (key : k < keyLimit) (few : A ≤ 32) (whole : length s ≡ stateWords) where
     abbrev after : List ℕ
@@ -81,7 +81,7 @@ module _ (t : Table) (s : List ℕ) (x k : ℕ) where
               ∙ pick-pair (own && eqb k k) _ _ _ _
               ∙ ap (λ b. cond b (pairOf s k x) (pairOf s k a)) (ap (λ b. own && b) (eq-eqb k k refl) ∙ and-true own ∙ sym (took-there a l));
           waits = offered-zp t s x k confirming key A few whole a l k
-              ∙ rw (took-there a l, answered-there a l, eq-eqb k k refl, and-true (own || (confirming && answersEntry t s x k a))) (or-assoc own (confirming && answersEntry t s x k a) (has (zpOf s a) k));
+              ∙ rw (took-there a l, newer-there a l, eq-eqb k k refl, and-true (own || (confirming && answersEntry t s x k a))) (or-assoc own (confirming && answersEntry t s x k a) (has (zpOf s a) k));
         }
 
         past : A ≤ a → Shows after k (given confirming) a
@@ -89,7 +89,7 @@ module _ (t : Table) (s : List ℕ) (x k : ℕ) where
             let w = past-shows a l k key in
             record {
               entry = w .entry ∙ ap (λ b. cond b (pairOf s k x) (pairOf s k a)) (sym (took-past a l));
-              waits = w .waits ∙ rw (took-past a l, answered-past a l, and-false confirming);
+              waits = w .waits ∙ rw (took-past a l, newer-past a l, and-false confirming);
             }
 
     -- to another key the offer is nothing

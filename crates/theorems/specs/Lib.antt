@@ -1,6 +1,7 @@
+pub mod Lists
+pub mod Run
 pub mod Demand2
 pub mod Demand3
-pub mod Run
-pub mod Agreement
+pub mod Contact
 pub mod Rehearsals
 pub mod Cases

@@ -1,0 +1,68 @@
+-- DEMAND 3 IS ABOUT SOMETHING: the paper's fleet and its list of steps, in which one agent writes and both come to hold what it wrote.
+-- Assumes nothing.
+use Prim.Native.Nat.{ℕ}
+use mathlib.Core.Bool.{true, false}
+use mathlib.Core.Path.{_≡_, refl}
+use mathlib.Core.List.{List, [], _∷_, _++_}
+use lib.ListN.{replicate}
+use Rattle.basis.specs.Below.{below}
+use Rattle.basis.specs.Numbers.{someBelow, every, lowest, howMany, forEach}
+use Rattle.basis.specs.KeySets.{has, plus, minus, plusAll}
+use Rattle.agreement.proofs.Machine.{before-all}
+use Rattle.table.specs.Checks.{firstOf, passes}
+use Rattle.table.specs.Tables.{tableOf, withinLimits}
+use Rattle.table.specs.Nodes.{processRows, guardRows, expressionRows, rowOf, fieldsHere, fits, fitting, named, namesAgain, badNode}
+use Rattle.table.specs.Reach.{reachStep, reachedFrom, wrongKey}
+use Rattle.term.specs.Terms.{words, termsOf, areTerms}
+use Rattle.term.specs.Processes.{keep, joins, derivations, nodeStep, nodeWith, defined, nodeProcess, process, allFew}
+use Rattle.term.specs.Exposure.{canTick, callsBelow}
+use Rattle.term.specs.Acceptance.{stateWords}
+use Rattle.state.specs.Layout.{valueIn, put, addKey, dropKey, zpOf}
+use Rattle.state.specs.Evaluation.{valueStep, truthStep, readsStep}
+use Rattle.state.specs.WellFormed.{allZero, pairFormed, pendingFormed, residualFormed, agentFormed, wellFormed, loaded}
+use Rattle.steps.specs.Acts.{leave, setKey, acted}
+use Rattle.steps.specs.Offers.{takeEntry, linked, takes, holdsNewer, offer}
+use Rattle.steps.specs.Steps.{outcome, stepIn, stepOf, loadOf}
+use Rattle.theorems.specs.Lists.{Step, next, stateAfter}
+use Rattle.theorems.specs.Demand3.{history, HeldBeforeSteps}
+use Rattle.theorems.proofs.Views.{pairOf}
+use Rattle.theorems.proofs.Instance.{fleet}
+
+abbrev step : ℕ → ℕ → ℕ → Step
+step kind agent number = record { kind = kind; agent = agent; number = number; scratch = 16 }
+
+-- agent 1 has nothing to copy yet (refused); agent 0 writes, and cannot act again before it propagates (refused)
+abbrev pub acts : List Step
+acts = step 0 1 0 ∷ step 0 0 0 ∷ step 0 0 0 ∷ []
+
+-- both propagate
+abbrev pub propagates : List Step
+propagates = step 1 0 0 ∷ step 1 1 0 ∷ []
+
+-- agent 1 copies the entry to its attribute, and confirms the key
+abbrev pub copies : List Step
+copies = step 0 1 0 ∷ step 2 1 0 ∷ []
+
+-- what comes of them
+pub record Rehearsed : Type 0 where
+  pub loads : loadOf fleet (replicate stateWords 0) 16 .check ≡ passes
+  -- the history has one write
+  pub one-write : history fleet (acts ++ (propagates ++ copies)) ≡ record { agent = 0; key = 0; value = 7; stamp = 1 } ∷ []
+  -- after it agent 0's entry is newer than agent 1's, and the key waits in agent 0
+  pub written : pairOf (stateAfter fleet acts) 0 0 ≡ record { value = 7; stamp = 1 }
+  pub none-yet : pairOf (stateAfter fleet acts) 0 1 ≡ record { value = 0; stamp = 0 }
+  pub waits : has (zpOf (stateAfter fleet acts) 0) 0 ≡ true
+  -- after the propagates it is not: the entries agree, and the key waits in neither
+  pub agree : (pairOf (stateAfter fleet (acts ++ propagates)) 0 0 ≡ record { value = 7; stamp = 1 })
+      × (pairOf (stateAfter fleet (acts ++ propagates)) 0 1 ≡ record { value = 7; stamp = 1 })
+  pub silent : (has (zpOf (stateAfter fleet (acts ++ propagates)) 0) 0 ≡ false) × (has (zpOf (stateAfter fleet (acts ++ propagates)) 1) 0 ≡ false)
+
+-- by computing
+pub rehearsed : Rehearsed
+unfolding below someBelow every lowest howMany forEach has plus minus plusAll firstOf withinLimits processRows guardRows expressionRows rowOf fieldsHere fits fitting named namesAgain badNode reachStep reachedFrom wrongKey words termsOf areTerms keep joins derivations nodeStep nodeWith defined nodeProcess process allFew canTick callsBelow valueIn put addKey dropKey valueStep truthStep readsStep allZero pairFormed pendingFormed residualFormed agentFormed wellFormed loaded leave setKey acted takeEntry linked takes holdsNewer offer outcome stepIn stepOf
+rehearsed = record { loads = refl; one-write = refl; written = refl; none-yet = refl; waits = refl; agree = (refl, refl); silent = (refl, refl) }
+
+-- the fleet's link is true, which reads nothing: it holds before every step of any list
+pub fleet-linked : (xs : List Step) (a b : ℕ) → HeldBeforeSteps fleet xs 0 a b
+unfolding below truthStep
+fleet-linked xs a b = before-all (next fleet) _ (λ s x. refl) (loaded (tableOf fleet)) xs
