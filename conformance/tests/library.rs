@@ -3,6 +3,7 @@
 use conformance::{call, expected, Given};
 use reference::cases::{Call, Case, ANSWER_FILL};
 use reference::describe::describe;
+use reference::faults::pairs;
 use reference::generate::case;
 use reference::generate::edges::deep_chain;
 use reference::on_deep_stack;
@@ -92,6 +93,17 @@ fn every_call_answers_as_the_reference_does() {
             );
         }
     });
+}
+
+/// The order of the refusals: of two faults that a call holds, the library answers the one that the reference does.
+#[test]
+fn calls_that_hold_two_faults_answer_as_the_reference_does() {
+    for pair in pairs() {
+        agreed(
+            &pair.case,
+            &format!("{:?} with {:?}", pair.asked, pair.faults),
+        );
+    }
 }
 
 /// What load and then a first act give, on a stack of this size.

@@ -1,7 +1,7 @@
 //! Derivations of a residual: the list as the paper gives it, and the choice
 //! of one entry without making the list.
 
-use std::collections::{BTreeMap, HashSet};
+use std::collections::{BTreeMap, BTreeSet, HashSet};
 use std::rc::Rc;
 
 use crate::count::{count, Count};
@@ -15,6 +15,8 @@ pub struct Derivation {
     /// None for a tick.
     pub action: Option<Assignment>,
     pub guards: BTreeMap<NodeId, Rc<Guard>>,
+    /// The process nodes that it goes through.
+    pub nodes: BTreeSet<NodeId>,
     pub residual: Term,
 }
 
@@ -75,9 +77,10 @@ pub fn list(term: &Term, fleet: &Fleet) -> Vec<Derivation> {
     let alone = |action, residual| Derivation {
         action,
         guards: BTreeMap::new(),
+        nodes: BTreeSet::new(),
         residual,
     };
-    match view(term, fleet) {
+    let mut all = match view(term, fleet) {
         View::Idle => Vec::new(),
         View::Tick => vec![alone(None, Term::Idle)],
         View::Action(assignment) => vec![alone(Some(assignment), Term::Tick)],
@@ -122,7 +125,13 @@ pub fn list(term: &Term, fleet: &Fleet) -> Vec<Derivation> {
             all.extend(joined(&right, &left));
             all
         }
+    };
+    if let Term::Process(process) = term {
+        for derivation in &mut all {
+            derivation.nodes.insert(process.id);
+        }
     }
+    all
 }
 
 fn actions(all: &[Derivation]) -> Vec<Derivation> {
@@ -136,6 +145,7 @@ fn joined(first: &[Derivation], second: &[Derivation]) -> Vec<Derivation> {
         for derivation in second {
             let mut derivation = derivation.clone();
             derivation.guards.extend(tick.guards.clone());
+            derivation.nodes.extend(&tick.nodes);
             all.push(derivation);
         }
     }
@@ -150,12 +160,14 @@ pub fn select(term: &Term, choice: u32, fleet: &Fleet) -> Option<Derivation> {
     let mut selection = Selection {
         fleet,
         guards: BTreeMap::new(),
+        nodes: BTreeSet::new(),
         walked: HashSet::new(),
     };
     let (action, residual) = selection.pick(term, Part::All, choice);
     Some(Derivation {
         action,
         guards: selection.guards,
+        nodes: selection.nodes,
         residual,
     })
 }
@@ -181,6 +193,7 @@ impl Part {
 struct Selection<'a> {
     fleet: &'a Fleet,
     guards: BTreeMap<NodeId, Rc<Guard>>,
+    nodes: BTreeSet<NodeId>,
     /// Ticks whose guards are collected: node, and number among its ticks.
     /// Bodies are shared, so the same tick may come up very often.
     walked: HashSet<(NodeId, u32)>,
@@ -195,8 +208,15 @@ impl Selection<'_> {
         self.guards.insert(g.id, g);
     }
 
+    fn pass(&mut self, term: &Term) {
+        if let Term::Process(process) = term {
+            self.nodes.insert(process.id);
+        }
+    }
+
     /// Entry `index` of a part of the term's list, which has that many.
     fn pick(&mut self, term: &Term, part: Part, index: u32) -> (Option<Assignment>, Term) {
+        self.pass(term);
         match view(term, self.fleet) {
             View::Idle => unreachable!("idle has no derivation"),
             View::Tick => (None, Term::Idle),
@@ -266,6 +286,7 @@ impl Selection<'_> {
 
     /// Collects the guards of tick number `index` of the term.
     fn walk_tick(&mut self, term: &Term, index: u32) {
+        self.pass(term);
         if let Term::Process(process) = term {
             if !self.walked.insert((process.id, index)) {
                 return;

@@ -8,6 +8,7 @@ pub mod describe;
 pub mod draft;
 pub mod equations;
 pub mod expose;
+pub mod faults;
 pub mod generate;
 pub mod history;
 pub mod machine;

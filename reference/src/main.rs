@@ -4,9 +4,10 @@ use std::fs;
 use std::io::{self, BufWriter, Read, Write};
 use std::process::ExitCode;
 
-use reference::cases::{read_all, write_all};
+use reference::cases::{read_all, write_all, Case};
 use reference::describe::describe;
 use reference::equations::equations;
+use reference::faults;
 use reference::generate::{edges, Mix};
 use reference::show::show;
 use reference::stats::Stats;
@@ -25,7 +26,8 @@ usage: reference show                      table and schedule on standard input
        reference tables SEED               tables for the program tables
        reference tables --expected SEED    what it must print
 --small, with cases, describe and stats: at most 24 nodes
---mixed, with the same: small, but for every eighth case";
+--mixed, with the same: small, but for every eighth case
+--pairs, with cases: then the calls that hold two faults";
 
 fn main() -> ExitCode {
     let arguments: Vec<String> = std::env::args().skip(1).collect();
@@ -42,6 +44,7 @@ fn main() -> ExitCode {
 fn command(mut arguments: Vec<String>) -> io::Result<()> {
     let mix = take_mix(&mut arguments);
     let expected = take_flag(&mut arguments, "--expected");
+    let pairs = take_pairs(&mut arguments);
     let words: Vec<&str> = arguments.iter().map(String::as_str).collect();
     match words[..] {
         ["show"] => print(show(&input()?).as_bytes()),
@@ -51,13 +54,14 @@ fn command(mut arguments: Vec<String>) -> io::Result<()> {
             print(&bytes)
         }
         ["cases", seed, count] if expected => {
-            write_lines(number(seed)?, number(count)?, mix, io::stdout().lock())
+            let (seed, count) = (number(seed)?, number(count)?);
+            write_lines(seed, count, mix, &pairs, io::stdout().lock())
         }
-        ["cases", seed, count] => write_cases(number(seed)?, number(count)?, mix),
+        ["cases", seed, count] => write_cases(number(seed)?, number(count)?, mix, &pairs),
         ["cases", seed, count, file] if !expected => {
             let (seed, count) = (number(seed)?, number(count)?);
-            write_cases(seed, count, mix)?;
-            write_lines(seed, count, mix, fs::File::create(file)?)
+            write_cases(seed, count, mix, &pairs)?;
+            write_lines(seed, count, mix, &pairs, fs::File::create(file)?)
         }
         ["answer"] => {
             let cases = read_all(&input()?).ok_or_else(|| fault("not a stream of cases"))?;
@@ -81,7 +85,13 @@ fn command(mut arguments: Vec<String>) -> io::Result<()> {
         }
         ["tables", seed] if expected => print(lines(&tables(number(seed)?)).as_bytes()),
         ["tables", seed] => print(&tables(number(seed)?).concat()),
-        ["equations", seed] => print(equations(number(seed)?).as_bytes()),
+        ["equations", seed] => match equations(number(seed)?) {
+            Ok(text) => print(text.as_bytes()),
+            Err(missing) => {
+                let missing: Vec<String> = missing.iter().map(ToString::to_string).collect();
+                Err(fault(&format!("not shown: {}", missing.join(", "))))
+            }
+        },
         _ => Err(fault(USAGE)),
     }
 }
@@ -99,6 +109,15 @@ fn take_mix(arguments: &mut Vec<String>) -> Mix {
         Mix::Mixed
     } else {
         Mix::Full
+    }
+}
+
+/// The calls that hold two faults, where they are wanted.
+fn take_pairs(arguments: &mut Vec<String>) -> Vec<Case> {
+    if take_flag(arguments, "--pairs") {
+        faults::pairs().into_iter().map(|pair| pair.case).collect()
+    } else {
+        Vec::new()
     }
 }
 
@@ -122,16 +141,18 @@ fn print(bytes: &[u8]) -> io::Result<()> {
     out.flush()
 }
 
-fn write_cases(seed: u64, count: u64, mix: Mix) -> io::Result<()> {
-    let size = u32::try_from(count).map_err(|_| fault("too many cases"))?;
+fn write_cases(seed: u64, count: u64, mix: Mix, more: &[Case]) -> io::Result<()> {
+    let size = count + more.len() as u64;
+    let size = u32::try_from(size).map_err(|_| fault("too many cases"))?;
+    let cases = mix.cases(seed, count).chain(more.iter().cloned());
     let mut out = BufWriter::new(io::stdout().lock());
-    write_all(&mut out, size, mix.cases(seed, count))?;
+    write_all(&mut out, size, cases)?;
     out.flush()
 }
 
-fn write_lines(seed: u64, count: u64, mix: Mix, out: impl Write) -> io::Result<()> {
+fn write_lines(seed: u64, count: u64, mix: Mix, more: &[Case], out: impl Write) -> io::Result<()> {
     let mut out = BufWriter::new(out);
-    for case in mix.cases(seed, count) {
+    for case in mix.cases(seed, count).chain(more.iter().cloned()) {
         out.write_all(case.outcome().line().as_bytes())?;
     }
     out.flush()

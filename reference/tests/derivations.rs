@@ -66,6 +66,7 @@ fn compare(term: &Term, fleet: &Fleet, seen: &mut Seen) {
     for (c, wanted) in all.iter().enumerate() {
         let got = select(term, c as u32, fleet).expect("the choice is there");
         assert_eq!(key(&got), key(wanted));
+        assert_eq!(got.nodes, wanted.nodes);
         seen.guards += usize::from(got.guards.len() > 1);
     }
     assert!(select(term, all.len() as u32, fleet).is_none());

@@ -1,19 +1,14 @@
 //! What the proved repository stores of this package's making is made here.
+//! (Rehearsals that it computes are in another file.)
 
-use reference::cases::{write_all, Case};
-use reference::equations::equations;
+use reference::cases::{read_all, write_all, Case};
+use reference::faults::{answered, pairs, Pair, ASKED};
 use reference::generate::{edges, Mix};
 use reference::on_deep_stack;
 use reference::schedule;
 use reference::show::show;
 use reference::stats::Stats;
 use reference::tables::{lines, tables};
-
-#[test]
-fn the_stored_cases_are_made_here() {
-    let stored = include_str!("../../crates/theorems/specs/Cases.antt");
-    assert_eq!(stored, on_deep_stack(|| equations(1)));
-}
 
 #[test]
 fn the_stored_tables_are_made_here() {
@@ -27,11 +22,11 @@ fn the_stored_tables_are_made_here() {
 
 #[test]
 fn the_stored_calls_are_made_here() {
-    const COUNT: u32 = 1_000;
     on_deep_stack(|| {
-        let cases: Vec<Case> = Mix::Mixed.cases(1, COUNT.into()).collect();
+        let mut cases: Vec<Case> = Mix::Mixed.cases(1, 1_000).collect();
+        cases.extend(pairs().into_iter().map(|pair| pair.case));
         let mut bytes = Vec::new();
-        write_all(&mut bytes, COUNT, cases.iter().cloned()).unwrap();
+        write_all(&mut bytes, cases.len() as u32, cases.iter().cloned()).unwrap();
         let stored: &[u8] = include_bytes!("../../crates/cases/stdin");
         assert!(stored == bytes);
         let lines: String = cases.iter().map(|case| case.outcome().line()).collect();
@@ -43,6 +38,32 @@ fn the_stored_calls_are_made_here() {
         let calls = |a: usize| stats.load[a] + stats.step[a] + stats.run[a];
         assert!((0..=20).all(|a| calls(a) > 0), "{stats}");
         assert!((10..=18).all(|a| stats.inside[a] > 0), "{stats}");
+    });
+}
+
+/// Each call has, for every two of its refusals, a stored case that holds
+/// both, and the first is what it answers.
+#[test]
+fn the_stored_calls_hold_every_pair_of_faults() {
+    on_deep_stack(|| {
+        let stored = read_all(include_bytes!("../../crates/cases/stdin")).expect("a stream");
+        let lines: Vec<&str> = include_str!("../../crates/cases/stdout").lines().collect();
+        assert_eq!(stored.len(), lines.len());
+        let pairs = pairs();
+        for asked in ASKED {
+            let order = asked.order();
+            for (i, &first) in order.iter().enumerate() {
+                for &second in &order[i + 1..] {
+                    let held = |pair: &&Pair| pair.asked == asked && pair.faults == [first, second];
+                    let pair = pairs.iter().find(held).expect("the pair is made");
+                    let at = stored.iter().position(|case| *case == pair.case);
+                    let at = at.unwrap_or_else(|| panic!("{asked:?} {first} {second}"));
+                    let outcome = pair.case.outcome();
+                    assert_eq!(answered(&outcome), first);
+                    assert_eq!(lines[at], outcome.line().trim_end());
+                }
+            }
+        }
     });
 }
 

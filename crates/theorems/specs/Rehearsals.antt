@@ -4,7 +4,7 @@ use mathlib.Core.Bool.{cond}
 use mathlib.Core.Path.{_≡_}
 use mathlib.Core.List.{List, [], _∷_, _++_, map}
 use lib.Dec.{eqb}
-use lib.ListN.{replicate}
+use lib.ListN.{replicate, set}
 use Rattle.table.specs.Checks.{numberOf, placeOf}
 use Rattle.table.specs.Tables.{sizesOf}
 use Rattle.term.specs.Acceptance.{stateWords}
@@ -23,13 +23,19 @@ summary l r =
     numberOf (l .check) ∷ placeOf (l .check) ∷ numberOf (r .check) ∷ placeOf (r .check)
     ∷ r .progress .done ∷ r .progress .refused ∷ r .progress .taken ∷ (r .progress .answers ++ wordsFrom 0 (r .progress .state))
 
--- load on words of 0, then run, with just enough scratch and an answer buffer of 0
-abbrev pub rehearsed : List ℕ → List ℕ → List ℕ
-rehearsed bytes schedule =
-    let scratch = 2 * sizesOf bytes .nodes in
-    let l = loadOf bytes (replicate stateWords 0) scratch in
-    summary l (runOf bytes (l .state) scratch schedule (replicate (stepsOf schedule) 0))
+-- words with some of them replaced: a place and a word, and so on
+unfoldable pub patched : List ℕ → List ℕ → List ℕ
+patched [] s = s
+patched (i ∷ []) s = s
+patched (i ∷ w ∷ patches) s = patched patches (set s i w)
+
+-- load on words of 0, the case's patches of what it leaves, then run, with just enough scratch and an answer buffer of 0
+abbrev pub rehearsed : Case → List ℕ
+rehearsed c =
+    let scratch = 2 * sizesOf (c .table) .nodes in
+    let l = loadOf (c .table) (replicate stateWords 0) scratch in
+    summary l (runOf (c .table) (patched (c .patches) (l .state)) scratch (c .schedule) (replicate (stepsOf (c .schedule)) 0))
 
 -- every case, computed from the definitions, gives what the second implementation gave
 abbrev pub AllAgree : Type 0
-AllAgree = map (λ (c : Case). rehearsed (c .table) (c .schedule)) cases ≡ map (λ (c : Case). c .given) cases
+AllAgree = map rehearsed cases ≡ map (λ (c : Case). c .given) cases

@@ -111,7 +111,8 @@ fn run_of(steps: &[Step]) -> Call {
     }
 }
 
-fn accept(draft: &Draft) -> (Vec<u8>, Fleet) {
+/// The table of a sound draft, and the table read.
+pub fn accept(draft: &Draft) -> (Vec<u8>, Fleet) {
     let table = draft.bytes();
     let fleet = open(&table, STATE_WORDS, usize::MAX).expect("the draft is sound");
     (table, fleet)
@@ -433,7 +434,7 @@ fn answers_length(rng: &mut Rng) -> Case {
 }
 
 /// Definitions 0 and 1 where one exposes a call that is lower or not.
-fn exposed_call(rng: &mut Rng) -> Case {
+pub fn exposed_call(rng: &mut Rng) -> Case {
     let mut draft = Draft::new(1, 0);
     let tick = draft.tick();
     let left = match rng.below(4) {
@@ -464,7 +465,7 @@ fn exposed_call(rng: &mut Rng) -> Case {
 }
 
 /// A key read from a process, from a link, from both or from neither.
-fn wrong_party(rng: &mut Rng) -> Case {
+pub fn wrong_party(rng: &mut Rng) -> Case {
     let mut draft = Draft::new(1, 1);
     let read = match rng.below(3) {
         0 => draft.attribute(0, rng.below(4) as u16),
@@ -487,7 +488,7 @@ fn wrong_party(rng: &mut Rng) -> Case {
 }
 
 /// A node that two nodes name, one node names twice, or roots name often.
-fn second_naming(rng: &mut Rng) -> Case {
+pub fn second_naming(rng: &mut Rng) -> Case {
     let mut draft = Draft::new(0, 0);
     let (first, second, third) = (draft.tick(), draft.tick(), draft.tick());
     let pair = draft.sequence(first, *rng.pick(&[first, second, second]));
