@@ -8,3 +8,4 @@ pub mod Evaluation
 pub mod Load
 pub mod Keep
 pub mod Direction
+pub mod Cases
