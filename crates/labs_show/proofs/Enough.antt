@@ -13,11 +13,10 @@ use borrow.Author.Tests.{lt-ltb, le-ltb, leb-true, leb-false, eqb-true, eqb-fals
 use Rattle.basis.specs.Bytes.{u16At}
 use Rattle.table.specs.Checks.{Check, passes, refuses, refuseIf, firstOf}
 use Rattle.table.specs.Measuring.{sizeChecks}
-use Rattle.table.specs.Tables.{sizesOf, withinLimits, tableOf}
+use Rattle.table.specs.Tables.{headerBytes, sizesOf, withinLimits, tableOf}
 use Rattle.table.proofs.Checks.{first-later, first-refuses, append-later, append-refuses}
 use Rattle.table.proofs.Limits.{within-limits}
 use Rattle.term.specs.Acceptance.{tableChecks}
-use Rattle.term.specs.Parts.{contentChecks}
 use Rattle.state.specs.WellFormed.{loaded}
 use Rattle.steps.specs.Steps.{loadOf, stateChecks}
 use Rattle.steps.specs.Runs.{stepsOf, scheduleChecks, begun, Rehearsal, runOf}

@@ -21,7 +21,7 @@ use Rattle.steps.proofs.Steps.{state-checks}
 use Rattle.steps.proofs.Proper.{proper-passes}
 use Rattle.labs.specs.Reading.{systemOf}
 use Rattle.theorems.specs.Demand2.{Allowed, Bytes, Words, Ready}
-use Rattle.theorems.specs.Demand3.{Step, outcomeOf, next}
+use Rattle.theorems.specs.Lists.{Step, outcomeOf, next}
 use Rattle.theorems.proofs.Ready.{state-proper, done-ready}
 use Rattle.theorems.proofs.Demand2.{demand-2}
 

@@ -25,7 +25,7 @@ use Rattle.state.specs.WellFormed.{allZero, pairFormed, pendingFormed, residual
 use Rattle.steps.specs.Acts.{leave, setKey, acted}
 use Rattle.steps.specs.Offers.{takeEntry, linked, takes, holdsNewer, offer}
 use Rattle.steps.specs.Steps.{Outcome, outcome, stepIn, stepOf}
-use Rattle.theorems.specs.Demand3.{Step, outcomeOf, next}
+use Rattle.theorems.specs.Lists.{Step, outcomeOf, next}
 use Rattle.theorems.proofs.Ready.{loaded-ready}
 use Rattle.theorems.proofs.DoneSteps.{small-bytes, checksOf, DoneAllowed, all-allowed}
 

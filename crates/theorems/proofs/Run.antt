@@ -21,7 +21,7 @@ use Rattle.steps.proofs.Steps.{step-in}
 use Rattle.steps.proofs.Schedules.{schedule-checks}
 use Rattle.steps.proofs.Proper.{checks-accepted, checks-proper, step-checked, proper-passes}
 use Rattle.theorems.specs.Demand2.{Bytes, Words}
-use Rattle.theorems.specs.Demand3.{next}
+use Rattle.theorems.specs.Lists.{next}
 use Rattle.theorems.specs.Run.{stepAt, firstSteps, stateBefore, outcomeAt, InTurn, Run}
 
 -- a step is done or refused

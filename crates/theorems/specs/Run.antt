@@ -11,7 +11,7 @@ use Rattle.agreement.specs.Machine.{afterSteps}
 use Rattle.table.specs.Checks.{passes, refuses, firstOf, passed, numberOf}
 use Rattle.steps.specs.Steps.{Outcome, stateChecks}
 use Rattle.steps.specs.Runs.{Progress, runOf}
-use Rattle.theorems.specs.Demand3.{Step, outcomeOf, next}
+use Rattle.theorems.specs.Lists.{Step, outcomeOf, next}
 
 -- A schedule has its 16-bit size n, then n kinds of a byte, then n operands (agent, number; 16 bits each)
 abbrev pub size : List ℕ → ℕ
