@@ -7,11 +7,12 @@ use mathlib.Core.List.{List, [], _∷_}
 use native.Mathlib.Omega.{arith}
 use lib.Dec.{eqb, ltb}
 use lib.ListN.{length}
-use borrow.Author.Tests.{lt-ltb, le-ltb, eq-eqb, ne-eqb, ltb-false, eqb-true, not-false}
-use Rattle.basis.proofs.Tests.{or-left, or-right, or-neither}
+use borrow.Author.Tests.{lt-ltb, le-ltb, eq-eqb, ne-eqb}
+use Rattle.basis.proofs.Tests.{or-left, or-right}
 use Rattle.table.specs.Checks.{passes, refuses, refuseIf, firstOf}
-use Rattle.table.proofs.Checks.{first-refuses, first-later, first-passes}
-use Rattle.steps.specs.Runs.{stepsOf, scheduleChecks}
+use Rattle.table.proofs.Checks.{first-refuses, first-later}
+use Rattle.steps.specs.Runs.{stepLimit, stepsOf, scheduleChecks}
+use Rattle.steps.proofs.Schedules.{schedule-checks}
 use Rattle.machine.specs.Running.{Runnable}
 
 module _ (schedule answers : List ℕ) where
@@ -19,7 +20,7 @@ module _ (schedule answers : List ℕ) where
   n = stepsOf schedule
 
   abbrev long : Bool
-  long = ltb 8192 n
+  long = ltb stepLimit n
 
   abbrev odd : Bool
   odd = not (eqb (length schedule) (2 + 5 * n))
@@ -36,12 +37,12 @@ module _ (schedule answers : List ℕ) where
   pub schedule-odd : (length schedule ≡ 2 + 5 * n → ⊥) → firstOf (scheduleChecks schedule answers) ≡ refuses 19 0
   schedule-odd h = refused-19 (or-right (ltb (length schedule) 2) (odd || long) (or-left odd long (ap not (ne-eqb (length schedule) (2 + 5 * n) h))))
 
-  pub schedule-long : 8192 < n → firstOf (scheduleChecks schedule answers) ≡ refuses 19 0
-  schedule-long h = refused-19 (or-right (ltb (length schedule) 2) (odd || long) (or-right odd long (lt-ltb 8192 n h)))
+  pub schedule-long : stepLimit < n → firstOf (scheduleChecks schedule answers) ≡ refuses 19 0
+  schedule-long h = refused-19 (or-right (ltb (length schedule) 2) (odd || long) (or-right odd long (lt-ltb stepLimit n h)))
 
-  module _ (size : length schedule ≡ 2 + 5 * n) (few : n ≤ 8192) where
+  module _ (size : length schedule ≡ 2 + 5 * n) (few : n ≤ stepLimit) where
     right : wrong ≡ false
-    right = rw (le-ltb (length schedule) 2 (omega arith), eq-eqb (length schedule) (2 + 5 * n) size, le-ltb 8192 n few)
+    right = rw (le-ltb (length schedule) 2 (omega arith), eq-eqb (length schedule) (2 + 5 * n) size, le-ltb stepLimit n few)
 
     past-19 : firstOf (scheduleChecks schedule answers) ≡ firstOf (refuseIf 20 (ltb (length answers) n) ∷ [])
     past-19 = first-later (refuseIf 19 wrong) _ right
@@ -50,16 +51,7 @@ module _ (schedule answers : List ℕ) where
     answers-short h = past-19 ∙ first-refuses (refuseIf 20 (ltb (length answers) n)) [] (lt-ltb (length answers) n h)
 
     pub schedule-passes : n ≤ length answers → firstOf (scheduleChecks schedule answers) ≡ passes
-    unfolding firstOf
-    schedule-passes h = past-19 ∙ first-later (refuseIf 20 (ltb (length answers) n)) [] (le-ltb (length answers) n h)
+    schedule-passes h = schedule-checks schedule answers .1 (size, few, h)
 
   pub passes-runnable : firstOf (scheduleChecks schedule answers) ≡ passes → Runnable schedule answers
-  passes-runnable e =
-      let f = first-passes (refuseIf 19 wrong) _ e in
-      let g = first-passes (refuseIf 20 (ltb (length answers) n)) [] (f .1) in
-      let w = or-neither odd long (or-neither (ltb (length schedule) 2) (odd || long) (f .0) .1) in
-      record {
-        size = eqb-true (length schedule) (2 + 5 * n) (not-false (eqb (length schedule) (2 + 5 * n)) (w .0));
-        steps = ltb-false 8192 n (w .1);
-        room = ltb-false (length answers) n (g .0);
-      }
+  passes-runnable e = let p = schedule-checks schedule answers .0 e in record { size = p .0; steps = p .1; room = p .2 }

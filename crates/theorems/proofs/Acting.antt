@@ -169,7 +169,7 @@ module _ (t : Table) (s : List ℕ) (x : ℕ) (d : Derivation) (whole : length s
     finished E₁ T₁ b own others e c did =
         record {
           there = is;
-          Acting =
+          acts =
               subst (λ (E′ : Interface). Acts t (systemOf s .E) (clockOf s) a d E′ (clockOf final) (agentOf final x)) (sym (final-environment ∙ e))
               (subst (λ (T : ℕ). Acts t (systemOf s .E) (clockOf s) a d E₁ T (agentOf final x)) (sym (final-clock ∙ c))
               (subst (λ (o : Agent). Acts t (systemOf s .E) (clockOf s) a d E₁ T₁ o) (sym mine) did));

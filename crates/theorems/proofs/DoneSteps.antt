@@ -1,7 +1,7 @@
 -- DONE STEPS: each is allowed and leaves a ready state, and so is every step of a list whose steps are all done.
 -- Assumes nothing.
 use Prim.Native.Nat.{ℕ, _<_, _≤_}
-use mathlib.Core.Bool.{true}
+use mathlib.Core.Bool.{Bool, true, _&&_}
 use mathlib.Core.Logic.{⊎-elim}
 use mathlib.Core.Path.{_≡_, ap}
 use mathlib.Core.List.{List, [], _∷_}
@@ -11,18 +11,19 @@ use lib.ListN.{length, getD, List·getD-eq-default}
 use borrow.Author.Tests.{ltb-true}
 use Rattle.basis.specs.Numbers.{every}
 use Rattle.basis.proofs.Numbers.{every-at}
-use Rattle.basis.proofs.Tests.{lt-or-le}
+use Rattle.basis.proofs.Tests.{lt-or-le, and-left, and-right}
 use Rattle.agreement.specs.Machine.{Before}
-use Rattle.table.specs.Checks.{Check, passes, firstOf}
+use Rattle.table.specs.Checks.{Check, passes, passed}
 use Rattle.table.specs.Tables.{tableOf}
-use Rattle.table.proofs.Checks.{first-passes}
+use Rattle.table.proofs.Checks.{passed-passes}
+use Rattle.state.proofs.Formed.{proper-facts}
 use Rattle.steps.specs.Steps.{done, stepOf}
 use Rattle.steps.proofs.Steps.{state-checks}
 use Rattle.steps.proofs.Proper.{proper-passes}
 use Rattle.labs.specs.Reading.{systemOf}
 use Rattle.theorems.specs.Demand2.{Allowed, Bytes, Words, Ready}
 use Rattle.theorems.specs.Lists.{Step, outcomeOf, next}
-use Rattle.theorems.proofs.Ready.{state-proper, done-ready}
+use Rattle.theorems.proofs.Ready.{done-ready}
 use Rattle.theorems.proofs.Demand2.{demand-2}
 
 -- the bytes of a list, tested
@@ -37,13 +38,13 @@ module _ (bytes : List ℕ) where
   done-allowed s s′ scratch kind x number taken r e =
       let w = demand-2 .exactly bytes s s′ scratch kind x number taken r .0 e in
       let a = state-checks bytes s scratch .0 (r .passed) .0 in
-      let p = state-proper (tableOf bytes) s′ (a .table .sound .shaped .limits) .0 (w .0) in
+      let p = proper-facts (tableOf bytes) (a .table .sound .shaped .limits) s′ (w .0) in
       (record { small = r .small; state = w .0; passed = proper-passes bytes (length s) scratch a s′ p }, w .1)
 
-  -- what the checks of a list of steps come to, each step in the state that the one before left
-  abbrev pub checksOf : List ℕ → List Step → List Check
-  checksOf s [] = []
-  checksOf s (x ∷ xs) = outcomeOf bytes s x .check ∷ checksOf (next bytes s x) xs
+  -- every step of a list is done, each in the state that the one before left
+  abbrev pub allDone : List ℕ → List Step → Bool
+  allDone s [] = true
+  allDone s (x ∷ xs) = passed (outcomeOf bytes s x .check) && allDone (next bytes s x) xs
 
   -- a step that is done, and allowed
   abbrev pub DoneAllowed : List ℕ → Step → Type 0
@@ -51,13 +52,14 @@ module _ (bytes : List ℕ) where
       (outcomeOf bytes s x .check ≡ passes)
       × Allowed (tableOf bytes) (systemOf s) (systemOf (next bytes s x)) (x .kind) (x .agent) (x .number) (outcomeOf bytes s x .taken)
 
-  pub all-allowed : Bytes bytes → (s : List ℕ) → Words s → (xs : List Step) → firstOf (checksOf s xs) ≡ passes → Before (next bytes) DoneAllowed s xs
+  pub all-allowed : Bytes bytes → (s : List ℕ) → Words s → (xs : List Step) → allDone s xs ≡ true → Before (next bytes) DoneAllowed s xs
   all-allowed small s narrow [] e = tt
   all-allowed small s narrow (x ∷ xs) e =
-      let f = first-passes (outcomeOf bytes s x .check) (checksOf (next bytes s x) xs) e in
-      let r = done-ready bytes s (x .scratch) (x .kind) (x .agent) (x .number) small narrow (f .0) in
-      let w = done-allowed s (next bytes s x) (x .scratch) (x .kind) (x .agent) (x .number) (outcomeOf bytes s x .taken) r (is-done s x (f .0)) in
-      ((f .0, w .1), all-allowed small (next bytes s x) (w .0 .state .narrow) xs (f .1))
+      let b = passed (outcomeOf bytes s x .check) in
+      let f = passed-passes (outcomeOf bytes s x .check) (and-left b (allDone (next bytes s x) xs) e) in
+      let r = done-ready bytes s (x .scratch) (x .kind) (x .agent) (x .number) small narrow f in
+      let w = done-allowed s (next bytes s x) (x .scratch) (x .kind) (x .agent) (x .number) (outcomeOf bytes s x .taken) r (is-done s x f) in
+      ((f, w .1), all-allowed small (next bytes s x) (w .0 .state .small) xs (and-right b (allDone (next bytes s x) xs) e))
     where
       is-done : (s : List ℕ) (x : Step) → outcomeOf bytes s x .check ≡ passes → outcomeOf bytes s x ≡ done (outcomeOf bytes s x .taken) (next bytes s x)
       is-done s x f = ap (λ (c : Check). record { check = c; taken = outcomeOf bytes s x .taken; state = next bytes s x }) f

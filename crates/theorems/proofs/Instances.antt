@@ -27,7 +27,7 @@ use Rattle.steps.specs.Offers.{takeEntry, linked, takes, holdsNewer, offer}
 use Rattle.steps.specs.Steps.{Outcome, outcome, stepIn, stepOf}
 use Rattle.theorems.specs.Lists.{Step, outcomeOf, next}
 use Rattle.theorems.proofs.Ready.{loaded-ready}
-use Rattle.theorems.proofs.DoneSteps.{small-bytes, checksOf, DoneAllowed, all-allowed}
+use Rattle.theorems.proofs.DoneSteps.{small-bytes, allDone, DoneAllowed, all-allowed}
 
 -- Sizes 27, 1, 2, 1, 1, 1: one definition, two agents, attribute a, stigmergy key x, environment key e.
 -- Agent 0, node 9: x := 7; e := x; e := x + 1 (nodes 1, 3, 7). Agent 1, node 22, calls definition 0, node 18: a := 1 | (e = 7 → x := 9) (nodes 11, 17).
@@ -79,7 +79,7 @@ expected =
 
 -- by computing
 computed : (firstOf (tableChecks smallFleet stateWords 54) ≡ passes) × (every (λ (i : ℕ). ltb (getD smallFleet i 0) 256) (length smallFleet) ≡ true)
-    × (firstOf (checksOf smallFleet (loaded (tableOf smallFleet)) steps) ≡ passes) × (allShown (loaded (tableOf smallFleet)) steps ≡ expected)
+    × (allDone smallFleet (loaded (tableOf smallFleet)) steps ≡ true) × (allShown (loaded (tableOf smallFleet)) steps ≡ expected)
 unfolding below someBelow every lowest howMany forEach has plus minus plusAll firstOf withinLimits processRows guardRows expressionRows rowOf fieldsHere fits fitting named namesAgain badNode reachStep reachedFrom wrongKey words termsOf areTerms keep joins derivations nodeStep nodeWith defined nodeProcess process allFew canTick callsBelow valueIn put addKey dropKey valueStep truthStep readsStep allZero pairFormed pendingFormed residualFormed agentFormed wellFormed loaded leave setKey acted takeEntry linked takes holdsNewer offer outcome stepIn stepOf
 computed = (refl, refl, refl, refl)
 

@@ -20,8 +20,8 @@ use Rattle.term.specs.declared.Label.the-variants.{Ticking, Acting}
 use Rattle.term.specs.Terms.{Term, Seq, Par, Tick, Idle, Node}
 use Rattle.term.specs.Processes.{Process, idle, tick, act, choice, guarded, call, seq, par, labelTicks}
 use Rattle.term.specs.Processes.{Derivation, derivation, derivations, keep, isTick, isAction, under, before, besideRight, besideLeft, join, joins}
-use Rattle.term.specs.Processes.{byKind, nodeStep, nodeWith, defined, nodeProcess, process}
-use Rattle.term.specs.Exposure.{canTick, callsBelow, body}
+use Rattle.term.specs.Processes.{byKind, nodeStep, nodeWith, processAt, defined, nodeProcess, process}
+use Rattle.term.specs.Exposure.{canTick, callsBelow}
 use Rattle.term.specs.Accepted.{Checked}
 use Rattle.term.proofs.Counting.{no-ticks}
 use Rattle.term.proofs.Opened.{sound-lower, node-out}
@@ -261,7 +261,7 @@ module _ (t : Table) (ok : Checked t) where
   unfolding defined
   listed-defined =
       below-each (λ lower d. nodeWith t lower (bodyAt t d)) idle (λ d X. Listed t (Node (bodyAt t d)) X) D
-      (λ d h r. listed-with t (ok .sound) d (below (λ lower x. nodeWith t lower (bodyAt t x)) idle d) r (bodyAt t d) (not-false (callsBelow d (body t d)) (ok .calls d h)))
+      (λ d h r. listed-with t (ok .sound) d (below (λ lower x. nodeWith t lower (bodyAt t x)) idle d) r (bodyAt t d) (not-false (callsBelow d (processAt t d (bodyAt t d))) (ok .calls d h)))
 
   listed-term : (P : Term) → Listed t P (process t P)
   unfolding process form nodeProcess

@@ -100,15 +100,15 @@ module _ (t : Table) (limits : Limits (t .sizes)) (was : List ℕ) (narrow : Nar
       abbrev Result : Bool → Agent → Type 0
       Result b a = Receives t (systemOf was .E) (said (sentKind confirming)) (agentOf was y) b a
 
-      heard : linked t was x k y ≡ linkHolds t was k x y
+      other-linked : linked t was x k y ≡ linkHolds t was k x y
       unfolding linked
-      heard = rw (ne-eqb x y (λ (e : x ≡ y). other (sym e)))
+      other-linked = rw (ne-eqb x y (λ (e : x ≡ y). other (sym e)))
 
-      linked : linked t was x k y ≡ true → Linked t (systemOf was .E) (said (sentKind confirming)) (agentOf was y)
-      linked e = link-holds t was narrow x y limits k .0 (sym heard ∙ e)
+      is-linked : linked t was x k y ≡ true → Linked t (systemOf was .E) (said (sentKind confirming)) (agentOf was y)
+      is-linked e = link-holds t was narrow x y limits k .0 (sym other-linked ∙ e)
 
       of-linked : Linked t (systemOf was .E) (said (sentKind confirming)) (agentOf was y) → linked t was x k y ≡ true
-      of-linked h = heard ∙ link-holds t was narrow x y limits k .1 h
+      of-linked h = other-linked ∙ link-holds t was narrow x y limits k .1 h
 
       held : timeIn (agentOf was y .L k) ≡ stampOf was y k
       held = entry-stamp was y k key
@@ -126,8 +126,8 @@ module _ (t : Table) (limits : Limits (t .sizes)) (was : List ℕ) (narrow : Nar
           is-inserted = inserted (agentOf was y .L) k mine (λ f i. omega (arith, sym (ap timeIn i) ∙ held))
 
           by : (b : Bool) → Receives t (systemOf was .E) (said (sentKind b)) (agentOf was y) true (took k mine (agentOf was y))
-          by true = QRY₁ refl (linked e) (older .1 (omega (arith, held))) is-inserted
-          by false = PUT refl (linked e) (older .1 (omega (arith, held))) is-inserted
+          by true = QRY₁ refl (is-linked e) (older .1 (omega (arith, held))) is-inserted
+          by false = PUT refl (is-linked e) (older .1 (omega (arith, held))) is-inserted
 
       by-offer : (b : Bool) → takes t was x k y ≡ b → (c : Bool) → (confirming && holdsNewer t was x k y) ≡ c →
           Result b (agentOf (cond b (takeEntry k (wordOf was (Entries x) k) (stampOf was x k) y now) (cond c (addKey (zpAt y) k now) now)) y)
@@ -138,16 +138,16 @@ module _ (t : Table) (limits : Limits (t .sizes)) (was : List ℕ) (narrow : Nar
       by-offer false e true f =
           let a = and-right confirming _ f in
           subst (Result false) (sym (add-zp-agent y k now now-whole (omega arith) ∙ ap (λ (a : Agent). with Zp a (a .Zp ∪｛ k ｝)) before))
-          (QRY₂ (ap sentKind (and-left confirming _ f)) (linked (and-left (linked t was x k y) _ a))
+          (QRY₂ (ap sentKind (and-left confirming _ f)) (is-linked (and-left (linked t was x k y) _ a))
           (newer .1 (omega (arith, held, ltb-true (stampOf was x k) (stampOf was y k) (and-right (linked t was x k y) _ a)))))
       by-offer false e false f = subst (Result false) (sym before) (STAY
           (λ h o. not-both (and-both (linked t was x k y) _ (of-linked h) (lt-ltb (stampOf was y k) (stampOf was x k) (omega (arith, held, older .0 o)))) e)
           (λ q h o. not-both (and-both confirming _ (asking confirming q) (and-both (linked t was x k y) _ (of-linked h)
           (lt-ltb (stampOf was x k) (stampOf was y k) (omega (arith, held, newer .0 o))))) f))
 
-      heard-by : (z : KeySet) → Result (takes t was x k y) (agentOf (dropKey (placeAt (Waits z x)) k spread) y)
+      received-by : (z : KeySet) → Result (takes t was x k y) (agentOf (dropKey (placeAt (Waits z x)) k spread) y)
       unfolding offer
-      heard-by z = subst (λ (a : Agent). Result (takes t was x k y) a) (sym (drop-away z ∙ turned)) (by-offer (takes t was x k y) refl (confirming && holdsNewer t was x k y) refl)
+      received-by z = subst (λ (a : Agent). Result (takes t was x k y) a) (sym (drop-away z ∙ turned)) (by-offer (takes t was x k y) refl (confirming && holdsNewer t was x k y) refl)
         where
           drop-away : (z : KeySet) → agentOf (dropKey (placeAt (Waits z x)) k spread) y ≡ agentOf spread y
           drop-away z = agent-same (dropKey (placeAt (Waits z x)) k spread) spread y (drop-length z x k spread)
@@ -176,7 +176,7 @@ module _ (t : Table) (limits : Limits (t .sizes)) (was : List ℕ) (narrow : Nar
         (sym (drop-zp-agent x k (spread false) (spread-whole false) (omega arith) ∙ ap (λ (a : Agent). with Zp a (a .Zp ∖｛ k ｝)) (sender-same false)))
         (PROPAGATE h (entry-present was x k key entered));
     itself = takes-self;
-    receives = λ y l d. heard-by false y l d Zp;
+    receives = λ y l d. received-by false y l d Zp;
     environment-stays = environment-stays Zp false;
     clock-stays = clock-stays Zp false;
   }
@@ -189,7 +189,7 @@ module _ (t : Table) (limits : Limits (t .sizes)) (was : List ℕ) (narrow : Nar
         (sym (drop-zc-agent x k (spread true) (spread-whole true) (omega arith) ∙ ap (λ (a : Agent). with Zc a (a .Zc ∖｛ k ｝)) (sender-same true)))
         (CONFIRM h (entry-present was x k key entered));
     itself = takes-self;
-    receives = λ y l d. heard-by true y l d Zc;
+    receives = λ y l d. received-by true y l d Zc;
     environment-stays = environment-stays Zc true;
     clock-stays = clock-stays Zc true;
   }

@@ -124,7 +124,7 @@ pub acted-same : {t : Table} {agents x : ℕ} {d : Derivation} {S S′ S″ : Sy
 acted-same {t} {agents} {x} {d} {S} {S′} {S″} p q =
     record {
       there = p .there;
-      Acting =
+      acts =
           subst (λ (E : Interface). Acts t (S .E) (S .clock) (S .agent x) d E (S″ .clock) (S″ .agent x)) (sym (q .environment-same))
           (subst (λ (T : ℕ). Acts t (S .E) (S .clock) (S .agent x) d (S′ .E) T (S″ .agent x)) (sym (q .clock-same))
           (subst (λ (a : Agent). Acts t (S .E) (S .clock) (S .agent x) d (S′ .E) (S′ .clock) a) (sym (q .agents-same x (p .there))) (p .acts)));
