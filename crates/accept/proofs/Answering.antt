@@ -15,8 +15,8 @@ use Rattle.table.specs.declared.Sizes.{Sizes}
 use Rattle.table.specs.declared.Measured.{Measured}
 use Rattle.table.specs.declared.Measured.the-variants.{Fine as MeasuredFine, Refused as MeasuredRefused}
 use Rattle.table.specs.Checks.{Check, passes, refuses, Refusal, refuseAt, firstOf}
-use Rattle.table.specs.Tables.{Table, table, sizesOf, tableOf, kindsOf, operandsOf}
-use Rattle.table.specs.Measuring.{measuredCheck, sizeChecks, Measure}
+use Rattle.table.specs.Tables.{Table, table, sizesOf, tableOf}
+use Rattle.table.specs.Measuring.{kindsOf, operandsOf, measuredCheck, sizeChecks, Measure}
 use Rattle.table.proofs.Checks.{first-later, first-refuses, append-later, append-refuses}
 use Rattle.table.proofs.Limits.{kinds-part}
 use Rattle.term.specs.Exposure.{badCall}

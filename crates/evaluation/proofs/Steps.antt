@@ -15,7 +15,8 @@ use Rattle.value.specs.declared.Truth.{Truth}
 use Rattle.value.specs.Values.{operate}
 use Rattle.value.specs.Truths.{truth, undefined, connect}
 use Rattle.table.specs.Tables.{Table, kindAt, pAt, qAt}
-use Rattle.state.specs.Evaluation.{valueStep, valueBelow, truthStep, truthBelow}
+use Rattle.state.specs.Evaluation.{valueStep, truthStep}
+use Rattle.state.specs.Walks.{valueBelow, truthBelow}
 use Rattle.evaluation.specs.Situated.{isOperation, isConnective}
 
 -- kinds that a test tells apart differ

@@ -29,12 +29,9 @@ module _ (t : Table) (s : List ℕ) (sender receiver : ℕ) where
       (cond (eqb (kindAt t n) kind.environment) (valueIn s Environment (pAt t n))
       (operate (kindAt t n) (value (pAt t n)) (value (qAt t n))))))
 
-  abbrev pub valueBelow : ℕ → ℕ → Value
-  valueBelow limit n = below valueStep Absent limit n
-
   -- the value of expression n
   abbrev pub valueOf : ℕ → Value
-  valueOf n = valueBelow (t .sizes .nodes) n
+  valueOf n = below valueStep Absent (t .sizes .nodes) n
 
   -- what guard n comes to, from what the guards below it come to
   unfoldable pub truthStep : (ℕ → Truth) → ℕ → Truth
@@ -43,12 +40,9 @@ module _ (t : Table) (s : List ℕ) (sender receiver : ℕ) where
       (cond (ltb (kindAt t n) kind.not) (compareValues (kindAt t n) (valueOf (pAt t n)) (valueOf (qAt t n)))
       (connect (kindAt t n) (guard (pAt t n)) (guard (qAt t n))))
 
-  abbrev pub truthBelow : ℕ → ℕ → Truth
-  truthBelow limit n = below truthStep undefined limit n
-
   -- guard n holds
   abbrev pub holds : ℕ → Bool
-  holds n = truthBelow (t .sizes .nodes) n .holds
+  holds n = below truthStep undefined (t .sizes .nodes) n .holds
 
 -- the link of key k holds in s, from a sender to a receiver
 abbrev pub linkHolds : Table → List ℕ → ℕ → ℕ → ℕ → Bool

@@ -4,7 +4,7 @@ use mathlib.Core.Path.{_≡_}
 use mathlib.Core.Bool.{not}
 use mathlib.Core.List.{List, [], _∷_}
 use lib.Dec.{ltb, eqb}
-use lib.ListN.{length}
+use lib.ListN.{length, take, drop}
 use Rattle.table.specs.declared.Sizes.{Sizes}
 use Rattle.table.specs.declared.Measured.{Measured}
 use Rattle.table.specs.declared.Measured.the-variants.{Fine, Refused}
@@ -23,6 +23,13 @@ sizeChecks bytes =
     ∷ refuseIf 2 (not (withinLimits (sizesOf bytes)))
     ∷ refuseIf 3 (not (eqb (length bytes) (headerBytes + 5 * sizesOf bytes .nodes)))
     ∷ []
+
+-- the kinds and the operands of a table of n nodes
+abbrev pub kindsOf : List ℕ → ℕ → List ℕ
+kindsOf bytes n = take n (drop headerBytes bytes)
+
+abbrev pub operandsOf : List ℕ → ℕ → List ℕ
+operandsOf bytes n = drop (headerBytes + n) bytes
 
 -- what measuring ensures: its check, and the table's sizes where it passes
 pub record Measure (bytes : List ℕ) (r : Measured) : Type 0 where

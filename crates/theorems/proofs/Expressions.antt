@@ -22,7 +22,8 @@ use Rattle.table.specs.Sound.{Limits}
 use Rattle.state.specs.declared.Store.{Store}
 use Rattle.state.specs.declared.Store.the-variants.{Environment, Attributes, Entries}
 use Rattle.state.specs.Layout.{keyLimit, wordOf, stampOf, valueIn}
-use Rattle.state.specs.Evaluation.{valueStep, valueOf, truthStep, truthBelow, holds, linkHolds}
+use Rattle.state.specs.Evaluation.{valueStep, valueOf, truthStep, holds, linkHolds}
+use Rattle.state.specs.Walks.{truthBelow}
 use Rattle.state.proofs.Evaluation.{SmallValue, valueIn-small}
 use Rattle.labs.specs.Agents.{Entry}
 use Rattle.labs.specs.Numbers.{number, Operates}

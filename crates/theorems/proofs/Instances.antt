@@ -94,6 +94,6 @@ instances =
     let small = small-bytes smallFleet (computed .1) in
     record {
       accepted = computed .0;
-      allowed = all-allowed smallFleet small (loaded (tableOf smallFleet)) (loaded-ready smallFleet small 54 (computed .0) .state .narrow) steps (computed .2);
+      allowed = all-allowed smallFleet small (loaded (tableOf smallFleet)) (loaded-ready smallFleet small 54 (computed .0) .state .small) steps (computed .2);
       comes = computed .3;
     }

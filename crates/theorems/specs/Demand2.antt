@@ -51,8 +51,8 @@ pub record Ready (bytes s : List ℕ) (scratch : ℕ) : Type 0 where
   pub state : Proper (tableOf bytes) s
   pub passed : firstOf (stateChecks bytes s scratch) ≡ passes
 
--- The derivations of P, and the derivation trees of its transitions by Table 3, correspond one to one: the trees stand in a list, one for each derivation
--- and no tree twice, and a tree derives d exactly where d is the derivation at the tree's place. So equal derivations are counted by their trees
+-- The derivations of P and the derivation trees of its transitions by Table 3 correspond one to one: the trees stand in a list, as many as
+-- the derivations and none twice, and a tree derives d exactly where d is the derivation at the tree's place
 pub record Transitions (t : Table) (P : Term) : Type 0 where
   pub trees : List Tree
   pub as-many : length trees ≡ length (derivations (process t P))
@@ -61,12 +61,11 @@ pub record Transitions (t : Table) (P : Term) : Type 0 where
       Moves t T P (d .label) (d .guards) (d .leaving) ↔ ((c : ℕ) × (getElem? trees c ≡ some T) × (getElem? (derivations (process t P)) c ≡ some d))
 
 pub record Demand-2 : Type 0 where
-  -- a step is done only of an accepted table and a well-formed state, and load leaves such a state
+  -- a step is done only of an accepted table and a well-formed state; load leaves such a state, that of the initial system
   pub ready : (bytes s : List ℕ) (scratch kind x number : ℕ) → Bytes bytes → Words s →
       stepOf bytes s scratch kind x number .check ≡ passes → Ready bytes s scratch
   pub loads : (bytes lent : List ℕ) (scratch : ℕ) → Bytes bytes → loadOf bytes lent scratch .check ≡ passes →
       Ready bytes (loadOf bytes lent scratch .state) scratch
-  -- that state stands for the initial system
   pub begins : (bytes lent : List ℕ) (scratch : ℕ) → Bytes bytes → loadOf bytes lent scratch .check ≡ passes →
       Same (tableOf bytes .sizes .agents) (systemOf (loadOf bytes lent scratch .state)) (initial (tableOf bytes))
   -- a step is done with these words exactly when they are a well-formed state, and the rules and limits allow the system that they stand for

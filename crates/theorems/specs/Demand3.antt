@@ -6,12 +6,13 @@ use mathlib.Core.Option.{some}
 use mathlib.Core.List.{List, [], _∷_, _++_}
 use lib.Dec.{eqb}
 use lib.ListN.{getElem?}
-use Rattle.term.specs.declared.Label.{Label}
-use Rattle.term.specs.declared.Label.the-variants.{Ticking, Acting}
 use Rattle.basis.specs.KeySets.{has}
+use Rattle.basis.specs.Kinds as kind
 use Rattle.agreement.specs.Machine.{Before, writesOf}
 use Rattle.table.specs.Checks.{Check, passes, refuses}
 use Rattle.table.specs.Tables.{tableOf, kindAt, pAt}
+use Rattle.term.specs.declared.Label.{Label}
+use Rattle.term.specs.declared.Label.the-variants.{Ticking, Acting}
 use Rattle.state.specs.declared.Store.the-variants.{Entries}
 use Rattle.state.specs.Layout.{wordOf, stampOf, zpOf}
 use Rattle.state.specs.Evaluation.{linkHolds}
@@ -37,7 +38,7 @@ module _ (bytes : List ℕ) where
   abbrev pub writeOf : List ℕ → ℕ → Label → List Write
   writeOf s x Ticking = []
   writeOf s x (Acting n) =
-      cond (eqb (kindAt (tableOf bytes) n) 3)
+      cond (eqb (kindAt (tableOf bytes) n) kind.setStigmergy)
       (record { agent = x; key = pAt (tableOf bytes) n; value = wordIn (valueFor (tableOf bytes) s x n); stamp = nextStamp s } ∷ [])
       []
 

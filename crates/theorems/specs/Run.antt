@@ -22,7 +22,6 @@ module _ (schedule : List ℕ) (scratch : ℕ) where
   stepAt i =
       record { kind = getD schedule (2 + i) 0; agent = u16At schedule (2 + size schedule + 4 * i); number = u16At schedule (2 + size schedule + 4 * i + 2); scratch = scratch }
 
-  -- steps 0 to n - 1
   abbrev pub firstSteps : ℕ → List Step
   firstSteps zero = []
   firstSteps (suc n) = firstSteps n ++ (stepAt n ∷ [])

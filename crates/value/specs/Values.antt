@@ -27,21 +27,14 @@ isZero (pos zero) = true
 isZero (pos (suc n)) = false
 isZero (negsuc n) = false
 
--- both truncate toward zero
-abbrev pub quotient : ℤ → ℤ → ℤ
-quotient x y = quotZ x y
-
-abbrev pub remainder : ℤ → ℤ → ℤ
-remainder x y = remZ x y
-
--- +, -, ×, divide, remainder on two numbers; a zero divisor gives absent
+-- +, -, ×, divide, remainder on two numbers; the last two truncate toward zero, and a zero divisor gives absent
 abbrev pub arithmetic : ℕ → ℤ → ℤ → Value
 arithmetic k x y =
     cond (eqb k kind.plus) (fit (x +ℤ y))
     (cond (eqb k kind.minus) (fit (x -ℤ y))
     (cond (eqb k kind.times) (fit (x *ℤ y))
-    (cond (eqb k kind.divide) (cond (isZero y) Absent (fit (quotient x y)))
-    (cond (eqb k kind.remainder) (cond (isZero y) Absent (fit (remainder x y)))
+    (cond (eqb k kind.divide) (cond (isZero y) Absent (fit (quotZ x y)))
+    (cond (eqb k kind.remainder) (cond (isZero y) Absent (fit (remZ x y)))
     Absent))))
 
 -- the same on two values: an absent operand gives absent
