@@ -34,7 +34,7 @@ fn exposed(
     let p = p_at(operands, n);
     let q = q_at(operands, n);
     match kind {
-        5 => {
+        basis::kinds::SEQUENCE => {
             let left = pair(scratch, p);
             if left.ticks == 0 {
                 Exposed::One(p)
@@ -42,10 +42,10 @@ fn exposed(
                 Exposed::Both(p, q)
             }
         }
-        6 => Exposed::Both(p, q),
-        7 => Exposed::One(q),
-        8 => Exposed::Both(p, q),
-        9 => Exposed::Settled(p < d),
+        basis::kinds::CHOICE => Exposed::Both(p, q),
+        basis::kinds::GUARDED => Exposed::One(q),
+        basis::kinds::PARALLEL => Exposed::Both(p, q),
+        basis::kinds::CALL => Exposed::Settled(p < d),
         _ => Exposed::Settled(true),
     }
 }

@@ -100,7 +100,12 @@ fn judge_lent(table: &[u8], sizes: Sizes, state_length: usize, scratch: &mut [u3
         return Acceptance::Refused(8, 0);
     }
     let operands = table::HEADER_BYTES + sizes.nodes;
-    judge(sizes, &table[table::HEADER_BYTES..operands], &table[operands..], scratch)
+    judge(
+        sizes,
+        &table[table::HEADER_BYTES..operands],
+        &table[operands..],
+        scratch,
+    )
 }
 
 // Judges a table, for a state of this length and the lent words: refusals 1, 2, 3, 8, 4, 5, 6 and 7, in this order.

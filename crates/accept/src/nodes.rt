@@ -50,15 +50,15 @@ fn node(
     let p = p_at(operands, n);
     let q = q_at(operands, n);
     match kind {
-        1 => TICK,
-        2 => ACTION,
-        3 => ACTION,
-        4 => ACTION,
-        5 => sequence(pair(scratch, p), pair(scratch, q)),
-        6 => choice(pair(scratch, p), pair(scratch, q)),
-        7 => pair(scratch, q),
-        8 => parallel(pair(scratch, p), pair(scratch, q)),
-        9 => called(scratch, first_root(sizes), level, p),
+        basis::kinds::TICK => TICK,
+        basis::kinds::SET_ATTRIBUTE => ACTION,
+        basis::kinds::SET_STIGMERGY => ACTION,
+        basis::kinds::SET_ENVIRONMENT => ACTION,
+        basis::kinds::SEQUENCE => sequence(pair(scratch, p), pair(scratch, q)),
+        basis::kinds::CHOICE => choice(pair(scratch, p), pair(scratch, q)),
+        basis::kinds::GUARDED => pair(scratch, q),
+        basis::kinds::PARALLEL => parallel(pair(scratch, p), pair(scratch, q)),
+        basis::kinds::CALL => called(scratch, first_root(sizes), level, p),
         _ => NONE,
     }
 }

@@ -1,7 +1,6 @@
 // The keys that Zc gains: those that the collected guards and the action's expression read, of which only those count that have an entry.
 use basis::has;
 use basis::plus;
-use term::Label;
 use evaluation::keys_read;
 use state::KEYS;
 use state::Store;
@@ -9,6 +8,7 @@ use state::mark_at;
 use table::Sizes;
 use table::is_guard;
 use table::q_at;
+use term::Label;
 ghost use mathlib.Core.Path.{_≡_};
 ghost use mathlib.Core.List.{List};
 ghost use Prim.Native.Nat.{ℕ, _^_, _<_, _≤_};

@@ -1,5 +1,4 @@
 // The key that an action sets.
-use term::Label;
 use state::CLOCK;
 use state::Store;
 use state::add_key;
@@ -7,6 +6,7 @@ use state::put;
 use state::zp_at;
 use table::Sizes;
 use table::p_at;
+use term::Label;
 ghost use mathlib.Core.Path.{_≡_};
 ghost use Prim.Native.Nat.{ℕ, _<_, _≤_};
 ghost use Rattle.basis.specs.Kinds as kinds;

@@ -2,9 +2,9 @@
 use crate::gaining::gained;
 use crate::leaving::leave;
 use crate::setting::set_label;
-use term::Label;
 use state::zc_at;
 use table::Sizes;
+use term::Label;
 ghost use mathlib.Core.Path.{_≡_};
 ghost use Prim.Native.Nat.{_<_};
 ghost use lib.ListN.{length, set};

@@ -1,10 +1,10 @@
 // What a node's choice does, and how many words it leaves.
-use term::Label;
 use crate::Effect;
 use crate::Turn;
 use crate::turns::body_at;
 use crate::turns::turn_at;
 use table::Sizes;
+use term::Label;
 use term::Mode;
 ghost use mathlib.Core.Path.{_≡_};
 ghost use Prim.Native.Nat.{_+_, _*_, _≤_};

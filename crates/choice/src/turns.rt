@@ -70,21 +70,26 @@ pub fn turn_at(
     let p = p_at(operands, n);
     let q = q_at(operands, n);
     match kind {
-        1 => Turn::Ticked,
-        5 => part(
+        basis::kinds::TICK => Turn::Ticked,
+        basis::kinds::SEQUENCE => part(
             term::SEQ_WORD,
             p,
             q,
             pick(mode, c, 0, pair(scratch, p), pair(scratch, q)),
         ),
-        6 => either(c, p, q, total(mode, pair(scratch, p))),
-        7 => Turn::On(q, c, Side::Under(p)),
-        8 => {
+        basis::kinds::CHOICE => either(c, p, q, total(mode, pair(scratch, p))),
+        basis::kinds::GUARDED => Turn::On(q, c, Side::Under(p)),
+        basis::kinds::PARALLEL => {
             let right = pair(scratch, q);
             let beside = acting(mode, right);
-            part(term::PAR_WORD, p, q, pick(mode, c, beside, pair(scratch, p), right))
+            part(
+                term::PAR_WORD,
+                p,
+                q,
+                pick(mode, c, beside, pair(scratch, p), right),
+            )
         }
-        9 => Turn::Call(p),
+        basis::kinds::CALL => Turn::Call(p),
         _ => Turn::Acted,
     }
 }

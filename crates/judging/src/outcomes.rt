@@ -1,12 +1,12 @@
 // Refusals 15 to 17: the value that an action sets, the clock, and the length of what is left.
 use crate::Judgement;
-use term::Label;
 use choice::Effect;
 use evaluation::value_of;
 use state::CLOCK;
 use state::RESIDUAL_WORDS;
 use table::Sizes;
 use table::q_at;
+use term::Label;
 use value::Value;
 ghost use mathlib.Core.Path.{_≡_};
 ghost use Rattle.term.specs.declared.Label.the-variants.{Acting};

@@ -1,28 +1,17 @@
 // Fleet tables, and a schedule, that reach a limit of the machine.
+use basis::kinds::CALL;
+use basis::kinds::CONSTANT;
+use basis::kinds::IDLE;
+use basis::kinds::PARALLEL;
+use basis::kinds::ROOT;
+use basis::kinds::SEQUENCE;
+use basis::kinds::SET_ATTRIBUTE;
+use basis::kinds::SET_STIGMERGY;
+use basis::kinds::TICK;
+use basis::kinds::TRUE;
 ghost use mathlib.Core.Path.{_≡_};
 ghost use Prim.Native.Nat.{_+_, _*_, _<_, _≤_};
 ghost use lib.ListN.{length};
-
-// Kinds of nodes.
-const IDLE: u8 = 0;
-
-const TICK: u8 = 1;
-
-const SET_ATTRIBUTE: u8 = 2;
-
-const SET_STIGMERGY: u8 = 3;
-
-const SEQUENCE: u8 = 5;
-
-const PARALLEL: u8 = 8;
-
-const CALL: u8 = 9;
-
-const TRUE: u8 = 16;
-
-const CONSTANT: u8 = 32;
-
-const ROOT: u8 = 64;
 
 // Kinds of steps.
 pub const ACT: u8 = 0;

@@ -1,12 +1,12 @@
 // What a residual's choice does, and how many words it leaves.
 use crate::Step;
 use crate::steps::step_at;
-use term::Label;
 use choice::Effect;
 use choice::outcomes::grown;
 use choice::outcomes::node_outcome;
 use table::Sizes;
 use table::first_root;
+use term::Label;
 use term::Mode;
 ghost use Prim.Native.Nat.{_+_, _≤_};
 ghost use lib.ListN.{length};

@@ -40,15 +40,34 @@ steps s kind e w =
 
 pub all-given : AllGiven examples
 unfolding below someBelow every lowest howMany forEach has plus minus words areTerms keep joins derivations nodeStep nodeWith defined nodeProcess process valueIn put addKey dropKey valueStep truthStep allZero pairFormed pendingFormed residualFormed agentFormed wellFormed loaded takeEntry linked takes holdsNewer offer firstOf outcome stepIn leftBy
-all-given =
-    (ap (λ (n : ℕ). n ∷ []) (loads (replicate stateWords 0) refl),
-    (steps (holding (zpAt 0) 9 3 5 3) 1 refl refl,
-    (steps (holding (zpAt 0) 9 4 5 3) 1 refl refl,
-    (steps (holding (zpAt 0) 5 3 0 0) 1 refl refl,
-    (refl,
-    (refl,
-    (refl,
-    (refl,
-    (refl,
-    (refl,
-    (steps (holding (zcAt 0) 5 3 9 4) 2 refl refl, tt)))))))))))
+all-given = (
+  ap (λ (n : ℕ). n ∷ []) (loads (replicate stateWords 0) refl),
+  (
+    steps (holding (zpAt 0) 9 3 5 3) 1 refl refl,
+    (
+      steps (holding (zpAt 0) 9 4 5 3) 1 refl refl,
+      (
+        steps (holding (zpAt 0) 5 3 0 0) 1 refl refl,
+        (
+          refl,
+          (
+            refl,
+            (
+              refl,
+              (
+                refl,
+                (
+                  refl,
+                  (
+                    refl,
+                    (steps (holding (zcAt 0) 5 3 9 4) 2 refl refl, tt),
+                  ),
+                ),
+              ),
+            ),
+          ),
+        ),
+      ),
+    ),
+  ),
+)

@@ -44,7 +44,13 @@ fn suits(sizes: Sizes, kinds: &[u8], node: usize, field: Field, x: usize) -> boo
         Field::Definition => x < sizes.definitions,
         Field::Process => lower(kinds, node, x, basis::kinds::IDLE, basis::kinds::CALL),
         Field::Guard => lower(kinds, node, x, basis::kinds::TRUE, basis::kinds::OR),
-        Field::Expression => lower(kinds, node, x, basis::kinds::CONSTANT, basis::kinds::REMAINDER),
+        Field::Expression => lower(
+            kinds,
+            node,
+            x,
+            basis::kinds::CONSTANT,
+            basis::kinds::REMAINDER,
+        ),
         Field::Value => true,
     }
 }

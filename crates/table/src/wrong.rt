@@ -70,9 +70,13 @@ fn wrong_here(links: bool, kind: u8, party: usize, reached: bool) -> bool
     ensures { λ r. ⌜ r ≡ wrongHere links kind party reached ⌝ }
 {
     if links {
-        (basis::kinds::ATTRIBUTE <= kind) & (kind <= basis::kinds::ENVIRONMENT) & (reached & ((kind == basis::kinds::ENVIRONMENT) | (party == 0)))
+        (basis::kinds::ATTRIBUTE <= kind)
+            & (kind <= basis::kinds::ENVIRONMENT)
+            & (reached & ((kind == basis::kinds::ENVIRONMENT) | (party == 0)))
     } else {
-        (basis::kinds::ATTRIBUTE <= kind) & (kind <= basis::kinds::ENVIRONMENT) & (reached & (party != 0))
+        (basis::kinds::ATTRIBUTE <= kind)
+            & (kind <= basis::kinds::ENVIRONMENT)
+            & (reached & (party != 0))
     }
 }
 

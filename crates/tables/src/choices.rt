@@ -1,11 +1,11 @@
 // The last choice of a residual: what it does, under how many guards, and what it leaves.
-use term::Label;
 use residual::choosing::choices;
 use residual::choosing::collect;
 use residual::choosing::outcome;
 use residual::choosing::rewrite;
 use table::Sizes;
 use table::is_guard;
+use term::Label;
 ghost use mathlib.Core.Path.{_≡_};
 ghost use Prim.Native.Nat.{_≤_};
 ghost use lib.ListN.{length};

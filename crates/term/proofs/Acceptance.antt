@@ -71,15 +71,28 @@ module _ (bytes : List ℕ) (stateLength scratchLength : ℕ) where
   pub accepted-passes : Acceptable bytes stateLength scratchLength → firstOf (tableChecks bytes stateLength scratchLength) ≡ passes
   accepted-passes a =
       let s : Sound t = a .table .sound in
-      passes-each (tableChecks bytes stateLength scratchLength)
-      (le-ltb (length bytes) headerBytes (omega (arith, a .size)),
-      (ap not (limits-within (sizesOf bytes) (s .shaped .limits)),
-      (ap not (eq-eqb (length bytes) (headerBytes + 5 * N) (a .size)),
-      (rw (eq-eqb stateLength stateWords (a .state), le-ltb scratchLength (2 * N) (a .scratch)),
-      (passes-lowest N (badNode t) (s .nodes),
-      (passes-lowest N (wrongKey t) (s .keys),
-      (passes-lowest D (badCall t) (a .table .calls),
-      (passes-lowest N (overfull t) (a .table .nodes), tt))))))))
+      passes-each (tableChecks bytes stateLength scratchLength) (
+        le-ltb (length bytes) headerBytes (omega (arith, a .size)),
+        (
+          ap not (limits-within (sizesOf bytes) (s .shaped .limits)),
+          (
+            ap not (eq-eqb (length bytes) (headerBytes + 5 * N) (a .size)),
+            (
+              rw (eq-eqb stateLength stateWords (a .state), le-ltb scratchLength (2 * N) (a .scratch)),
+              (
+                passes-lowest N (badNode t) (s .nodes),
+                (
+                  passes-lowest N (wrongKey t) (s .keys),
+                  (
+                    passes-lowest D (badCall t) (a .table .calls),
+                    (passes-lowest N (overfull t) (a .table .nodes), tt),
+                  ),
+                ),
+              ),
+            ),
+          ),
+        ),
+      )
 
 few-idle : few idle ≡ true
 unfolding derivations

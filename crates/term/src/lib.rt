@@ -21,6 +21,9 @@ pub const DERIVATIONS: u64 = 65535;
 
 // The words of a residual that are no nodes.
 pub const SEQ_WORD: u32 = 65535;
+
 pub const PAR_WORD: u32 = 65534;
+
 pub const TICK_WORD: u32 = 65533;
+
 pub const IDLE_WORD: u32 = 65532;
