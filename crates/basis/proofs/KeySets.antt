@@ -39,18 +39,18 @@ room zero k w l h e = absurd (omega arith)
 room (suc n) zero w l h e = let p = even w e in omega arith
 room (suc n) (suc k) w l h e = let r = room n k (w / 2) (omega arith) (omega arith) (sym (has-suc w k) ∙ e) in omega arith
 
-added : (k j w : ℕ) → has w k ≡ false → has (w + 2 ^ k) j ≡ (eqb k j || has w j)
-added zero zero w e = let p = even w e in has-zero (w + 1) ∙ eq-eqb ((w + 1) % 2) 1 (omega arith)
-added zero (suc j) w e =
+has-added : (k j w : ℕ) → has w k ≡ false → has (w + 2 ^ k) j ≡ (eqb k j || has w j)
+has-added zero zero w e = let p = even w e in has-zero (w + 1) ∙ eq-eqb ((w + 1) % 2) 1 (omega arith)
+has-added zero (suc j) w e =
     let p = even w e in
     let h : (w + 1) / 2 ≡ w / 2 = omega arith in
     rw (has-suc (w + 1) j, has-suc w j, h, eqb·zero-suc j)
-added (suc k) zero w e =
+has-added (suc k) zero w e =
     let h : (w + 2 ^ suc k) % 2 ≡ w % 2 = omega arith in
     rw (has-zero (w + 2 ^ suc k), has-zero w, h, eqb·suc-zero k)
-added (suc k) (suc j) w e =
+has-added (suc k) (suc j) w e =
     let h : (w + 2 ^ suc k) / 2 ≡ w / 2 + 2 ^ k = omega arith in
-    rw (has-suc (w + 2 ^ suc k) j, has-suc w j, h, eqb·suc-suc k j) (added k j (w / 2) (sym (has-suc w k) ∙ e))
+    rw (has-suc (w + 2 ^ suc k) j, has-suc w j, h, eqb·suc-suc k j) (has-added k j (w / 2) (sym (has-suc w k) ∙ e))
 
 removed : (k j w : ℕ) → has w k ≡ true → has (w - 2 ^ k) j ≡ (not (eqb k j) && has w j)
 removed zero zero w e = let p = odd w e in has-zero (w - 1) ∙ ne-eqb ((w - 1) % 2) 1 (omega arith)
@@ -70,7 +70,7 @@ removed (suc k) (suc j) w e =
 -- what is in the set with k, and in the set without it
 pub has-plus : (w k j : ℕ) → has (plus w k) j ≡ (eqb k j || has w j)
 unfolding plus
-has-plus w k j = cond-cases (λ (v : ℕ). has v j ≡ (eqb k j || has w j)) (has w k) (λ e. same (eqb k j) refl e) (λ e. added k j w e)
+has-plus w k j = cond-cases (λ (v : ℕ). has v j ≡ (eqb k j || has w j)) (has w k) (λ e. same (eqb k j) refl e) (λ e. has-added k j w e)
   where
     same : (b : Bool) → eqb k j ≡ b → has w k ≡ true → has w j ≡ (b || has w j)
     same true p e = rw (← eqb-true k j p, e)

@@ -3,7 +3,7 @@ use crate::Judgement;
 use crate::guards::all_hold;
 use crate::outcomes::judge_outcome;
 use crate::outcomes::refused;
-use residual::choosing::choices;
+use residual::choosing::count_choices;
 use residual::choosing::collect;
 use residual::choosing::outcome;
 use state::RESIDUAL_WORDS;
@@ -37,7 +37,7 @@ fn judge_choice(
     requires { ⌜ Unmarked (table sizes (now kinds) (now operands)) (now marks) ⌝ }
     ensures { λ r. ⌜ Judges (table sizes (now (kinds .entry)) (now (operands .entry))) (now (state .entry)) agent c (now (marks .exit)) r ⌝ }
 {
-    let all = choices(sizes, kinds, operands, scratch, words, size);
+    let all = count_choices(sizes, kinds, operands, scratch, words, size);
     if !all.few {
         return refused(12);
     }

@@ -34,9 +34,9 @@ module _ (t : Table) (s : List ℕ) (x k y : ℕ) where
 
     -- where y is linked: by the two stamps
     module _ (h : linked t s x k y ≡ true) (mine theirs : ℕ) (m : mine ≡ stampOf s x k) (n : theirs ≡ stampOf s y k) where
-      pub taken : theirs < mine → (value : ℕ) → value ≡ wordOf s (Entries x) k → (out : List ℕ) → out ≡ takeEntry k value mine y s → Turn true out
+      pub entry-taken : theirs < mine → (value : ℕ) → value ≡ wordOf s (Entries x) k → (out : List ℕ) → out ≡ takeEntry k value mine y s → Turn true out
       unfolding offer takes
-      taken l value v out e =
+      entry-taken l value v out e =
           let g = lt-ltb (stampOf s y k) (stampOf s x k) (omega arith) in
           record { answer = rw (h, g); state = rw (h, g, ← v, ← m) e }
 

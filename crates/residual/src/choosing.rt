@@ -25,7 +25,7 @@ ghost use Rattle.term.specs.Processes.{derivationAt, process};
 ghost use Rattle.residual.specs.Wholes.{residualTerm, Whole, Taking, Offered, limitOf, Rewritten};
 
 // How many derivations the residual has, and whether each of its subterms has few (refusals 12 and 13).
-pub fn choices(
+pub fn count_choices(
     sizes: Sizes,
     kinds: &[u8],
     operands: &[u8],

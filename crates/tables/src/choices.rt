@@ -1,5 +1,5 @@
 // The last choice of a residual: what it does, under how many guards, and what it leaves.
-use residual::choosing::choices;
+use residual::choosing::count_choices;
 use residual::choosing::collect;
 use residual::choosing::outcome;
 use residual::choosing::rewrite;
@@ -68,7 +68,7 @@ pub fn print_last_choice(
     requires { ⌜ Whole (table sizes (now kinds) (now operands)) 1 (now words) ⌝ }
     requires { ⌜ WalkMarks (table sizes (now kinds) (now operands)) (now marks) ⌝ }
 {
-    let found = choices(sizes, kinds, operands, scratch, words, 1);
+    let found = count_choices(sizes, kinds, operands, scratch, words, 1);
     let few = found.few;
     if !few {
         return;

@@ -44,12 +44,12 @@ use Rattle.labs.specs.Processes.{Variable, attribute, stigmergy, environment}
 use Rattle.labs.specs.Systems.{Settled, known, Will, ε, _▹_, Wills, SKIP, ATTR, LSTIG, ENV, alone, Await, guardKeys, Acts, EPSILON, EVAL-I, EVAL-L, EVAL-E, Acted}
 use Rattle.labs.specs.Reading.{agentOf, systemOf}
 use Rattle.theorems.specs.Demand2.{Same}
-use Rattle.theorems.proofs.Moves.{Does, moves-in, moves-chosen}
+use Rattle.theorems.proofs.Moves.{Derivable, moves-in, moves-chosen}
 use Rattle.theorems.proofs.Expressions.{Narrow, expression-value}
 use Rattle.theorems.proofs.Actions.{attribute-action, stigmergy-action, environment-action, guards-await, labelKeys, to-confirm}
 use Rattle.theorems.proofs.Reading.{tuple, I-same, L-same, Zc-same, Zp-same, agent-same, entry, timeIn, entry-stamp, put-agent, add-zp-agent}
 use Rattle.theorems.proofs.Passing.{inserted}
-use Rattle.theorems.proofs.Willing.{willOf, wills-will, wills-does, wills-settled, acted-unique, acted-same}
+use Rattle.theorems.proofs.Willing.{willOf, wills-will, wills-derivable, wills-settled, acted-unique, acted-same}
 
 -- a place of agent y, and a place that is not
 apart : (p q : Place) (y : ℕ) → 0 < placeKind p → ownerOf p ≡ y → (0 < placeKind q → ownerOf q ≡ y → ⊥) → same p q ≡ false
@@ -184,7 +184,7 @@ module _ (t : Table) (s : List ℕ) (x : ℕ) (d : Derivation) (whole : length s
 
 -- the derivation d of agent x's process is enabled in s: it has no key to confirm or to propagate, and guards and value are as they must be
 pub record Enabled (t : Table) (s : List ℕ) (x : ℕ) (d : Derivation) : Type 0 where
-  pub moves : Does t (termIn s x) d
+  pub moves : Derivable t (termIn s x) d
   pub confirmed : zcOf s x ≡ 0
   pub propagated : zpOf s x ≡ 0
   pub guards : allHold t s x (d .guards) ≡ true
@@ -204,7 +204,7 @@ module _ (t : Table) (ok : Checked t) (s : List ℕ) (narrow : Narrow t s) (whol
   abbrev me : Agent
   me = agentOf s x
 
-  inside : (d : Derivation) → Does t (termIn s x) d → InsideTable t d
+  inside : (d : Derivation) → Derivable t (termIn s x) d → InsideTable t d
   inside d m = derivation-inside t (ok .sound) (termIn s x) (formed .formed .residuals x is .over) (moves-in t ok (termIn s x) d m)
 
   settled : zcOf s x ≡ 0 → zpOf s x ≡ 0 → Settled me
@@ -335,7 +335,7 @@ module _ (t : Table) (ok : Checked t) (s : List ℕ) (narrow : Narrow t s) (whol
   enabled : {d : Derivation} {w : Will} {a′ : Agent} → Wills t me d w a′ → Await t (systemOf s .E) me (d .guards) → lacksValue t s x (d .label) ≡ false → Enabled t s x d
   enabled {d} m g v =
       record {
-        moves = wills-does m;
+        moves = wills-derivable m;
         confirmed = nothing-zero keyLimit (zcOf s x) (formed .formed .sets Zc x is .narrow) (λ k l. wills-settled m k .0);
         propagated = nothing-zero keyLimit (zpOf s x) (formed .formed .sets Zp x is .narrow) (λ k l. wills-settled m k .1);
         guards = guards-await t s narrow x (d .guards) .1 g;

@@ -39,8 +39,8 @@ use Rattle.theorems.proofs.Enumerations.{enumerated-length, enumerated-
 abbrev pub Derives : Table → Term → Relation Tree
 Derives t P T d = Moves t T P (d .label) (d .guards) (d .leaving)
 
-abbrev pub Does : Table → Term → Derivation → Type 0
-Does t P d = (T : Tree) × Derives t P T d
+abbrev pub Derivable : Table → Term → Derivation → Type 0
+Derivable t P d = (T : Tree) × Derives t P T d
 
 -- WHAT THE RULES DERIVE FROM A FORM
 abbrev Renamed : (Tree → Tree) → Relation Tree → Relation Tree
@@ -282,8 +282,8 @@ module _ (t : Table) (ok : Checked t) where
       }
 
   -- what a tree derives is a derivation, and a derivation is what some tree derives
-  pub moves-in : (P : Term) (d : Derivation) → Does t P d → In d (derivations (process t P))
+  pub moves-in : (P : Term) (d : Derivation) → Derivable t P d → In d (derivations (process t P))
   moves-in P d m = enumerated-in (listed-term P) (m .1)
 
-  pub moves-chosen : (P : Term) (c : ℕ) (d : Derivation) → getElem? (derivations (process t P)) c ≡ some d → Does t P d
+  pub moves-chosen : (P : Term) (c : ℕ) (d : Derivation) → getElem? (derivations (process t P)) c ≡ some d → Derivable t P d
   moves-chosen P c d e = enumerated-some (listed-term P) (place-in (derivations (process t P)) c e)

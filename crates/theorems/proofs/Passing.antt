@@ -46,17 +46,17 @@ older-or-newer none t p q = q
 older-or-newer (some f) t p q = omega arith
 
 -- an agent that takes the entry, and one that answers
-abbrev taken : Message → Agent → Stigmergy → Agent
-taken m a L′ = ⟨ a .I ⸴ L′ ⸴ a .P ⸴ a .Zc ∖｛ m .x ｝ ⸴ a .Zp ∪｛ m .x ｝ ⟩
+abbrev tookEntry : Message → Agent → Stigmergy → Agent
+tookEntry m a L′ = ⟨ a .I ⸴ L′ ⸴ a .P ⸴ a .Zc ∖｛ m .x ｝ ⸴ a .Zp ∪｛ m .x ｝ ⟩
 
 abbrev answered : Message → Agent → Agent
 answered m a = ⟨ a .I ⸴ a .L ⸴ a .P ⸴ a .Zc ⸴ a .Zp ∪｛ m .x ｝ ⟩
 
 module _ {t : Table} {E : Interface} {m : Message} {a : Agent} where
   when-older : {L′ : Stigmergy} {took : Bool} {b : Agent} → Linked t E m a → Older (a .L (m .x)) (m .entry .time) → Inserted (a .L) (m .x) (m .entry) L′ →
-      Receives t E m a took b → (true ≡ took) × (taken m a L′ ≡ b)
-  when-older l o i (PUT _ _ _ j) = (refl, ap (taken m a) (inserted-unique i j))
-  when-older l o i (QRY₁ _ _ _ j) = (refl, ap (taken m a) (inserted-unique i j))
+      Receives t E m a took b → (true ≡ took) × (tookEntry m a L′ ≡ b)
+  when-older l o i (PUT _ _ _ j) = (refl, ap (tookEntry m a) (inserted-unique i j))
+  when-older l o i (QRY₁ _ _ _ j) = (refl, ap (tookEntry m a) (inserted-unique i j))
   when-older l o i (QRY₂ _ _ n) = absurd (older-or-newer (a .L (m .x)) (m .entry .time) o n)
   when-older l o i (STAY u _) = absurd (u l o)
 

@@ -14,7 +14,7 @@ use Rattle.labs.specs.Expressions.{Expr, E⟦_⟧_⇓_, K⟦_⟧}
 use Rattle.labs.specs.Processes.{attribute, stigmergy, environment, Action, assign, actionOf}
 use Rattle.labs.specs.Systems.{Settled, Will, ε, _▹_, onward, Wills, SKIP, ATTR, LSTIG, ENV, alone, awaited, Acts, EPSILON, EVAL-I, EVAL-L, EVAL-E, Acted}
 use Rattle.theorems.specs.Demand2.{Same}
-use Rattle.theorems.proofs.Moves.{Does}
+use Rattle.theorems.proofs.Moves.{Derivable}
 use Rattle.theorems.proofs.Expressions.{one-value}
 use Rattle.theorems.proofs.Actions.{labelKeys}
 use Rattle.theorems.proofs.Passing.{inserted-unique}
@@ -44,11 +44,11 @@ module _ {t : Table} {a : Agent} where
   wills-on (LSTIG {P′ = P′} m k s) = ap (λ (e : Expr). onward a P′ K⟦ e ⟧) (sym (ap expressionIn k))
   wills-on (ENV {P′ = P′} m k s) = ap (λ (e : Expr). onward a P′ K⟦ e ⟧) (sym (ap expressionIn k))
 
-  pub wills-does : {d : Derivation} {w : Will} {a′ : Agent} → Wills t a d w a′ → Does t (a .P) d
-  wills-does (SKIP m s) = (_, m)
-  wills-does (ATTR m k s) = (_, m)
-  wills-does (LSTIG m k s) = (_, m)
-  wills-does (ENV m k s) = (_, m)
+  pub wills-derivable : {d : Derivation} {w : Will} {a′ : Agent} → Wills t a d w a′ → Derivable t (a .P) d
+  wills-derivable (SKIP m s) = (_, m)
+  wills-derivable (ATTR m k s) = (_, m)
+  wills-derivable (LSTIG m k s) = (_, m)
+  wills-derivable (ENV m k s) = (_, m)
 
   pub wills-settled : {d : Derivation} {w : Will} {a′ : Agent} → Wills t a d w a′ → Settled a
   wills-settled (SKIP m s) = s

@@ -18,11 +18,11 @@ here a = table (a .args .sizes) (now (a .args .kinds)) (now (a .args .operands))
 taking : (c : tie.Else2) → let a = c .before .before .before .before .before .before .before .before .before .before .before in Taking (here a) (residualTerm (a .args .size) (now (a .args .words))) (a .args .c)
 taking c =
     let a = c .before .before .before .before .before .before .before .before .before .before .before in
-    let k = c .before .before .before .before .choices in
+    let k = c .before .before .before .before .count-choices in
     agent-taking (a .pre .0) (k .result) (k .ensures) (not-false (k .result .few) (c .before .before .if1 .left)) (a .args .c) (omega arith)
 
-choices-requires : tie.Need-choices-requires
-choices-requires c κs = let a = c .before .before .before .before .before .before in (a .pre .0 .ready, whole-residual (a .pre .0))
+count-choices-requires : tie.Need-count-choices-requires
+count-choices-requires c κs = let a = c .before .before .before .before .before .before in (a .pre .0 .ready, whole-residual (a .pre .0))
 
 refused-requires : tie.Need-refused-requires
 refused-requires c κs = search needs
@@ -30,7 +30,7 @@ refused-requires c κs = search needs
 returns : tie.Need-returns
 returns c =
     let a = c .before .before .before .before .before .before .before .before .before .before in
-    let k = c .before .before .before .choices in
+    let k = c .before .before .before .count-choices in
     agent-12 (a .pre .0) (k .result) (k .ensures) (not-true (k .result .few) (c .before .if1 .taken)) (a .args .c) _ (c .refused .result) (c .refused .ensures)
 
 refused-requires-2 : tie.Need-refused-requires-2
@@ -39,7 +39,7 @@ refused-requires-2 c κs = search needs
 returns-2 : tie.Need-returns-2
 returns-2 c =
     let a = c .before .before .before .before .before .before .before .before .before .before .before .before in
-    let k = c .before .before .before .before .before .choices in
+    let k = c .before .before .before .before .before .count-choices in
     agent-13 (a .pre .0) (k .result) (k .ensures) (not-false (k .result .few) (c .before .before .before .if1 .left)) (a .args .c) (omega arith) _ (c .refused2 .result) (c .refused2 .ensures)
 
 collect-requires : tie.Need-collect-requires
@@ -82,7 +82,7 @@ pub judge-choice-spec : {M : Type 1} → statement M
 judge-choice-spec =
     tie.close
     (tie.spec
-    choices-requires
+    count-choices-requires
     refused-requires
     returns
     refused-requires-2

@@ -5,7 +5,7 @@ use native.Mathlib.Omega.{arith}
 use denote.Ref.{now}
 use Rattle.table.specs.Tables.{table}
 use Rattle.steps.specs.Offers.{linked}
-use Rattle.offering.proofs.Turns.{unlinked, taken, holds-newer, level, not-confirming}
+use Rattle.offering.proofs.Turns.{unlinked, entry-taken, holds-newer, level, not-confirming}
 use borrow.Author.Tests.{not-true, not-false}
 use borrow.Author.Needs.{needs}
 use Rattle.offering.proofs.offers.offer.Statement.{statement}
@@ -45,7 +45,7 @@ returns-2 : tie.Need-returns-2
 returns-2 c =
     let second = c .before .before .before .before .before .before .before in
     let first = second .before .before in
-    taken _ _ _ _ _ _ (is-linked (first .before .before)) _ _ (first .stamp-of .ensures) (second .stamp-of2 .ensures)
+    entry-taken _ _ _ _ _ _ (is-linked (first .before .before)) _ _ (first .stamp-of .ensures) (second .stamp-of2 .ensures)
     (omega (arith, c .before .before .before .before .before .before .if2 .taken)) _ (c .before .before .before .before .word-of .ensures) _ (c .before .before .take-entry .ensures)
 
 zp-at-requires : tie.Need-zp-at-requires

@@ -60,8 +60,8 @@ module _ (t : ℕ) where
   StandsAt c T = Stands (tb c) (start c .args .mode) T (start c .args .c) (start c .args .at) (ws c)
 
   -- a term that stands there, and what is found of any such term
-  abbrev some : (c : At) → (T : Term) × StandsAt c T
-  some c = start c .pre .1 .1 .1 .0
+  abbrev here : (c : At) → (T : Term) × StandsAt c T
+  here c = start c .pre .1 .1 .1 .0
 
   abbrev kept : (c : At) → WalkMarks (tb c) (ms c)
   kept c = start c .pre .1 .1 .1 .1
@@ -73,7 +73,7 @@ module _ (t : ℕ) where
   step c T st r e = subst (StepAt c T) e (c .step-at .ensures (tb c) (sym (c .before .first-root .ensures)) (ready c .counted) T _ (st .begins) (st .choosable))
 
   low : (c : At) → (start c .args .at < length (ws c)) × (length (ws c) ≤ 65535)
-  low c = (stands-here (tb c) (start c .args .mode) (some c .0) (start c .args .c) (start c .args .at) (ws c) (some c .1), start c .pre .1 .1 .0)
+  low c = (stands-here (tb c) (start c .args .mode) (here c .0) (start c .args .c) (start c .args .at) (ws c) (here c .1), start c .pre .1 .1 .0)
 
   first-root-requires : mark-at-lts.Need-first-root-requires claims (mark-at-at t) mark-at.Post
   first-root-requires c κs = c .before .before .before .before .before .pre .1 .0 .checked .sound .shaped .limits
@@ -94,9 +94,9 @@ module _ (t : ℕ) where
   mark-node-requires : mark-at-lts.Need-mark-node-requires claims (mark-at-at t) mark-at.Post
   mark-node-requires c κs =
       let z = c .before .before .before .before in
-      let X = some z .0 in
-      let e = step z X (some z .1) _ (c .before .before .step .given .1) in
-      (ready z, (reached-node (tb z) (ready z .checked .sound) (start z .args .mode) _ (start z .args .c) X e (some z .1 .choosable), kept z))
+      let X = here z .0 in
+      let e = step z X (here z .1) _ (c .before .before .step .given .1) in
+      (ready z, (reached-node (tb z) (ready z .checked .sound) (start z .args .mode) _ (start z .args .c) X e (here z .1 .choosable), kept z))
 
   enum-known-step-2 : mark-at-lts.Need-enum-known-step-2 claims (mark-at-at t) mark-at.Post
   enum-known-step-2 c = c .match .keys3
@@ -107,9 +107,9 @@ module _ (t : ℕ) where
   mark-at-requires : mark-at-lts.Need-mark-at-requires claims (mark-at-at t) mark-at.Post
   mark-at-requires c κs =
       let z = c .before .before .before .before in
-      let X = some z .0 in
-      let e = step z X (some z .1) _ (c .before .before .step2 .given .1) in
-      (omega (arith, low z, start z .pre .0), (ready z, (start z .pre .1 .1 .0, ((e .p, stands-left (tb z) (start z .args .mode) X (start z .args .c) (start z .args .at) (ws z) (some z .1) _ (e .p) (e .q) (e .term) _ _ (e .choosable)), kept z))))
+      let X = here z .0 in
+      let e = step z X (here z .1) _ (c .before .before .step2 .given .1) in
+      (omega (arith, low z, start z .pre .0), (ready z, (start z .pre .1 .1 .0, ((e .p, stands-left (tb z) (start z .args .mode) X (start z .args .c) (start z .args .at) (ws z) (here z .1) _ (e .p) (e .q) (e .term) _ _ (e .choosable)), kept z))))
 
   enum-known-step-3 : mark-at-lts.Need-enum-known-step-3 claims (mark-at-at t) mark-at.Post
   enum-known-step-3 c = c .match .keys4
@@ -120,16 +120,16 @@ module _ (t : ℕ) where
   mark-at-requires-2 : mark-at-lts.Need-mark-at-requires-2 claims (mark-at-at t) mark-at.Post
   mark-at-requires-2 c κs =
       let z = c .before .before .before .before in
-      let X = some z .0 in
-      let e = step z X (some z .1) _ (c .before .before .step3 .given .1) in
-      (omega (arith, low z, start z .pre .0), (ready z, (start z .pre .1 .1 .0, ((e .p, stands-left (tb z) (start z .args .mode) X (start z .args .c) (start z .args .at) (ws z) (some z .1) _ (e .p) (e .q) (e .term) _ _ (e .tick)), kept z))))
+      let X = here z .0 in
+      let e = step z X (here z .1) _ (c .before .before .step3 .given .1) in
+      (omega (arith, low z, start z .pre .0), (ready z, (start z .pre .1 .1 .0, ((e .p, stands-left (tb z) (start z .args .mode) X (start z .args .c) (start z .args .at) (ws z) (here z .1) _ (e .p) (e .q) (e .term) _ _ (e .tick)), kept z))))
 
   mark-at-requires-3 : mark-at-lts.Need-mark-at-requires-3 claims (mark-at-at t) mark-at.Post
   mark-at-requires-3 c κs =
       let z = c .before .before .before .before .before .before .before .before in
-      let X = some z .0 in
-      let e = step z X (some z .1) _ (c .before .before .before .before .before .before .step3 .given .1) in
-      (omega (arith, low z, start z .pre .0, e .place), (ready z, (start z .pre .1 .1 .0, ((e .q, stands-right (tb z) (start z .args .mode) X (start z .args .c) (start z .args .at) (ws z) (some z .1) _ (e .p) (e .q) (e .term) _ _ _ (e .place) (e .choosable)), c .before .before .before .mark-at2 .ensures (e .p) (stands-left (tb z) (start z .args .mode) X (start z .args .c) (start z .args .at) (ws z) (some z .1) _ (e .p) (e .q) (e .term) _ _ (e .tick)) .marks))))
+      let X = here z .0 in
+      let e = step z X (here z .1) _ (c .before .before .before .before .before .before .step3 .given .1) in
+      (omega (arith, low z, start z .pre .0, e .place), (ready z, (start z .pre .1 .1 .0, ((e .q, stands-right (tb z) (start z .args .mode) X (start z .args .c) (start z .args .at) (ws z) (here z .1) _ (e .p) (e .q) (e .term) _ _ _ (e .place) (e .choosable)), c .before .before .before .mark-at2 .ensures (e .p) (stands-left (tb z) (start z .args .mode) X (start z .args .c) (start z .args .at) (ws z) (here z .1) _ (e .p) (e .q) (e .term) _ _ (e .tick)) .marks))))
 
   enum-known-step-4 : mark-at-lts.Need-enum-known-step-4 claims (mark-at-at t) mark-at.Post
   enum-known-step-4 c = c .match .keys5
@@ -137,16 +137,16 @@ module _ (t : ℕ) where
   add-q : mark-at-lts.Need-add-q claims (mark-at-at t) mark-at.Post
   add-q c =
       let z = c .before .before .before in
-      let X = some z .0 in
-      let e = step z X (some z .1) _ (c .before .step4 .given .1) in
-      omega (arith, e .size, stands-within (tb z) (start z .args .mode) X (start z .args .c) (start z .args .at) (ws z) (some z .1), stands-size (tb z) (start z .args .mode) X (start z .args .c) (start z .args .at) (ws z) (some z .1) _ (e .p) (e .q) (e .term), low z)
+      let X = here z .0 in
+      let e = step z X (here z .1) _ (c .before .step4 .given .1) in
+      omega (arith, e .size, stands-within (tb z) (start z .args .mode) X (start z .args .c) (start z .args .at) (ws z) (here z .1), stands-size (tb z) (start z .args .mode) X (start z .args .c) (start z .args .at) (ws z) (here z .1) _ (e .p) (e .q) (e .term), low z)
 
   mark-at-requires-4 : mark-at-lts.Need-mark-at-requires-4 claims (mark-at-at t) mark-at.Post
   mark-at-requires-4 c κs =
       let z = c .before .before .before .before in
-      let X = some z .0 in
-      let e = step z X (some z .1) _ (c .before .before .step4 .given .1) in
-      (omega (arith, low z, start z .pre .0, e .size), (ready z, (start z .pre .1 .1 .0, ((e .q, stands-right (tb z) (start z .args .mode) X (start z .args .c) (start z .args .at) (ws z) (some z .1) _ (e .p) (e .q) (e .term) _ _ _ (omega (arith, e .size)) (e .choosable)), kept z))))
+      let X = here z .0 in
+      let e = step z X (here z .1) _ (c .before .before .step4 .given .1) in
+      (omega (arith, low z, start z .pre .0, e .size), (ready z, (start z .pre .1 .1 .0, ((e .q, stands-right (tb z) (start z .args .mode) X (start z .args .c) (start z .args .at) (ws z) (here z .1) _ (e .p) (e .q) (e .term) _ _ _ (omega (arith, e .size)) (e .choosable)), kept z))))
 
   enum-known-step-5 : mark-at-lts.Need-enum-known-step-5 claims (mark-at-at t) mark-at.Post
   enum-known-step-5 c = c .match .keys6
@@ -157,16 +157,16 @@ module _ (t : ℕ) where
   add-q-3 : mark-at-lts.Need-add-q-3 claims (mark-at-at t) mark-at.Post
   add-q-3 c =
       let z = c .before .before .before in
-      let X = some z .0 in
-      let e = step z X (some z .1) _ (c .before .step5 .given .1) in
-      omega (arith, e .size, stands-within (tb z) (start z .args .mode) X (start z .args .c) (start z .args .at) (ws z) (some z .1), stands-size (tb z) (start z .args .mode) X (start z .args .c) (start z .args .at) (ws z) (some z .1) _ (e .p) (e .q) (e .term), low z)
+      let X = here z .0 in
+      let e = step z X (here z .1) _ (c .before .step5 .given .1) in
+      omega (arith, e .size, stands-within (tb z) (start z .args .mode) X (start z .args .c) (start z .args .at) (ws z) (here z .1), stands-size (tb z) (start z .args .mode) X (start z .args .c) (start z .args .at) (ws z) (here z .1) _ (e .p) (e .q) (e .term), low z)
 
   mark-at-requires-5 : mark-at-lts.Need-mark-at-requires-5 claims (mark-at-at t) mark-at.Post
   mark-at-requires-5 c κs =
       let z = c .before .before .before .before in
-      let X = some z .0 in
-      let e = step z X (some z .1) _ (c .before .before .step5 .given .1) in
-      (omega (arith, low z, start z .pre .0), (ready z, (start z .pre .1 .1 .0, ((e .q, stands-right (tb z) (start z .args .mode) X (start z .args .c) (start z .args .at) (ws z) (some z .1) _ (e .p) (e .q) (e .term) _ _ _ (omega (arith, e .size)) (e .tick)), kept z))))
+      let X = here z .0 in
+      let e = step z X (here z .1) _ (c .before .before .step5 .given .1) in
+      (omega (arith, low z, start z .pre .0), (ready z, (start z .pre .1 .1 .0, ((e .q, stands-right (tb z) (start z .args .mode) X (start z .args .c) (start z .args .at) (ws z) (here z .1) _ (e .p) (e .q) (e .term) _ _ _ (omega (arith, e .size)) (e .tick)), kept z))))
 
   add-p-3 : mark-at-lts.Need-add-p-3 claims (mark-at-at t) mark-at.Post
   add-p-3 c = let z = c .before .before .before .before .before .before .before in omega (arith, low z)
@@ -174,9 +174,9 @@ module _ (t : ℕ) where
   mark-at-requires-6 : mark-at-lts.Need-mark-at-requires-6 claims (mark-at-at t) mark-at.Post
   mark-at-requires-6 c κs =
       let z = c .before .before .before .before .before .before .before .before in
-      let X = some z .0 in
-      let e = step z X (some z .1) _ (c .before .before .before .before .before .before .step5 .given .1) in
-      (omega (arith, low z, start z .pre .0), (ready z, (start z .pre .1 .1 .0, ((e .p, stands-left (tb z) (start z .args .mode) X (start z .args .c) (start z .args .at) (ws z) (some z .1) _ (e .p) (e .q) (e .term) _ _ (e .choosable)), c .before .before .before .mark-at5 .ensures (e .q) (stands-right (tb z) (start z .args .mode) X (start z .args .c) (start z .args .at) (ws z) (some z .1) _ (e .p) (e .q) (e .term) _ _ _ (omega (arith, e .size)) (e .tick)) .marks))))
+      let X = here z .0 in
+      let e = step z X (here z .1) _ (c .before .before .before .before .before .before .step5 .given .1) in
+      (omega (arith, low z, start z .pre .0), (ready z, (start z .pre .1 .1 .0, ((e .p, stands-left (tb z) (start z .args .mode) X (start z .args .c) (start z .args .at) (ws z) (here z .1) _ (e .p) (e .q) (e .term) _ _ (e .choosable)), c .before .before .before .mark-at5 .ensures (e .q) (stands-right (tb z) (start z .args .mode) X (start z .args .c) (start z .args .at) (ws z) (here z .1) _ (e .p) (e .q) (e .term) _ _ _ (omega (arith, e .size)) (e .tick)) .marks))))
 
   returns : mark-at-lts.Need-returns claims (mark-at-at t) mark-at.Post
   returns c = λ X st.
@@ -195,9 +195,9 @@ module _ (t : ℕ) where
   same-length-2 : mark-at-lts.Need-same-length-2 claims (mark-at-at t) mark-at.Post
   same-length-2 c =
       let z = c .before .before .before .before .before .before .before in
-      let X = some z .0 in
-      let e = step z X (some z .1) _ (c .before .before .before .before .before .step2 .given .1) in
-      c .before .before .mark-at .ensures (e .p) (stands-left (tb z) (start z .args .mode) X (start z .args .c) (start z .args .at) (ws z) (some z .1) _ (e .p) (e .q) (e .term) _ _ (e .choosable)) .same
+      let X = here z .0 in
+      let e = step z X (here z .1) _ (c .before .before .before .before .before .step2 .given .1) in
+      c .before .before .mark-at .ensures (e .p) (stands-left (tb z) (start z .args .mode) X (start z .args .c) (start z .args .at) (ws z) (here z .1) _ (e .p) (e .q) (e .term) _ _ (e .choosable)) .same
 
   returns-3 : mark-at-lts.Need-returns-3 claims (mark-at-at t) mark-at.Post
   returns-3 c = λ X st.
@@ -208,9 +208,9 @@ module _ (t : ℕ) where
   same-length-3 : mark-at-lts.Need-same-length-3 claims (mark-at-at t) mark-at.Post
   same-length-3 c =
       let z = c .before .before .before .before .before .before .before .before .before .before .before in
-      let X = some z .0 in
-      let e = step z X (some z .1) _ (c .before .before .before .before .before .before .before .before .before .step3 .given .1) in
-      c .before .before .mark-at3 .ensures (e .q) (stands-right (tb z) (start z .args .mode) X (start z .args .c) (start z .args .at) (ws z) (some z .1) _ (e .p) (e .q) (e .term) _ _ _ (e .place) (e .choosable)) .same ∙ c .before .before .before .before .before .before .mark-at2 .ensures (e .p) (stands-left (tb z) (start z .args .mode) X (start z .args .c) (start z .args .at) (ws z) (some z .1) _ (e .p) (e .q) (e .term) _ _ (e .tick)) .same
+      let X = here z .0 in
+      let e = step z X (here z .1) _ (c .before .before .before .before .before .before .before .before .before .step3 .given .1) in
+      c .before .before .mark-at3 .ensures (e .q) (stands-right (tb z) (start z .args .mode) X (start z .args .c) (start z .args .at) (ws z) (here z .1) _ (e .p) (e .q) (e .term) _ _ _ (e .place) (e .choosable)) .same ∙ c .before .before .before .before .before .before .mark-at2 .ensures (e .p) (stands-left (tb z) (start z .args .mode) X (start z .args .c) (start z .args .at) (ws z) (here z .1) _ (e .p) (e .q) (e .term) _ _ (e .tick)) .same
 
   returns-4 : mark-at-lts.Need-returns-4 claims (mark-at-at t) mark-at.Post
   returns-4 c = λ X st.
@@ -221,9 +221,9 @@ module _ (t : ℕ) where
   same-length-4 : mark-at-lts.Need-same-length-4 claims (mark-at-at t) mark-at.Post
   same-length-4 c =
       let z = c .before .before .before .before .before .before .before in
-      let X = some z .0 in
-      let e = step z X (some z .1) _ (c .before .before .before .before .before .step4 .given .1) in
-      c .before .before .mark-at4 .ensures (e .q) (stands-right (tb z) (start z .args .mode) X (start z .args .c) (start z .args .at) (ws z) (some z .1) _ (e .p) (e .q) (e .term) _ _ _ (omega (arith, e .size)) (e .choosable)) .same
+      let X = here z .0 in
+      let e = step z X (here z .1) _ (c .before .before .before .before .before .step4 .given .1) in
+      c .before .before .mark-at4 .ensures (e .q) (stands-right (tb z) (start z .args .mode) X (start z .args .c) (start z .args .at) (ws z) (here z .1) _ (e .p) (e .q) (e .term) _ _ _ (omega (arith, e .size)) (e .choosable)) .same
 
   returns-5 : mark-at-lts.Need-returns-5 claims (mark-at-at t) mark-at.Post
   returns-5 c = λ X st.
@@ -234,9 +234,9 @@ module _ (t : ℕ) where
   same-length-5 : mark-at-lts.Need-same-length-5 claims (mark-at-at t) mark-at.Post
   same-length-5 c =
       let z = c .before .before .before .before .before .before .before .before .before .before .before in
-      let X = some z .0 in
-      let e = step z X (some z .1) _ (c .before .before .before .before .before .before .before .before .before .step5 .given .1) in
-      c .before .before .mark-at6 .ensures (e .p) (stands-left (tb z) (start z .args .mode) X (start z .args .c) (start z .args .at) (ws z) (some z .1) _ (e .p) (e .q) (e .term) _ _ (e .choosable)) .same ∙ c .before .before .before .before .before .before .mark-at5 .ensures (e .q) (stands-right (tb z) (start z .args .mode) X (start z .args .c) (start z .args .at) (ws z) (some z .1) _ (e .p) (e .q) (e .term) _ _ _ (omega (arith, e .size)) (e .tick)) .same
+      let X = here z .0 in
+      let e = step z X (here z .1) _ (c .before .before .before .before .before .before .before .before .before .step5 .given .1) in
+      c .before .before .mark-at6 .ensures (e .p) (stands-left (tb z) (start z .args .mode) X (start z .args .c) (start z .args .at) (ws z) (here z .1) _ (e .p) (e .q) (e .term) _ _ (e .choosable)) .same ∙ c .before .before .before .before .before .before .mark-at5 .ensures (e .q) (stands-right (tb z) (start z .args .mode) X (start z .args .c) (start z .args .at) (ws z) (here z .1) _ (e .p) (e .q) (e .term) _ _ _ (omega (arith, e .size)) (e .tick)) .same
 
   returns-6 : mark-at-lts.Need-returns-6 claims (mark-at-at t) mark-at.Post
   returns-6 c = λ X st.

@@ -59,8 +59,8 @@ module _ (t : ℕ) where
   StandsAt c T = Stands (tb c) (start c .args .mode) T (start c .args .c) (start c .args .at) (ws c)
 
   -- a term that stands there, and what is found of any such term
-  abbrev some : (c : At) → (T : Term) × StandsAt c T
-  some c = start c .pre .1 .1 .1
+  abbrev here : (c : At) → (T : Term) × StandsAt c T
+  here c = start c .pre .1 .1 .1
 
   abbrev StepAt : At → Term → Step → Type 0
   StepAt c T r = Stepped (tb c) (start c .args .mode) T (start c .args .c) (start c .args .at) r
@@ -69,7 +69,7 @@ module _ (t : ℕ) where
   step c T st r e = subst (StepAt c T) e (c .step-at .ensures (tb c) (sym (c .before .first-root .ensures)) (ready c .counted) T _ (st .begins) (st .choosable))
 
   low : (c : At) → (start c .args .at < length (ws c)) × (length (ws c) ≤ 65535)
-  low c = (stands-here (tb c) (start c .args .mode) (some c .0) (start c .args .c) (start c .args .at) (ws c) (some c .1), start c .pre .1 .1 .0)
+  low c = (stands-here (tb c) (start c .args .mode) (here c .0) (start c .args .c) (start c .args .at) (ws c) (here c .1), start c .pre .1 .1 .0)
 
   most-words : (c : At) → furthest (tb c) ≤ 532609
   most-words c = omega (arith, ready c .checked .sound .shaped .limits .nodes, ready c .checked .sound .shaped .limits .definitions)
@@ -93,8 +93,8 @@ module _ (t : ℕ) where
   node-outcome-requires : outcome-at-lts.Need-node-outcome-requires claims (outcome-at-at t) outcome-at.Post
   node-outcome-requires c κs =
       let z = c .before .before .before in
-      let X = some z .0 in
-      (ready z, reached-node (tb z) (ready z .checked .sound) (start z .args .mode) _ (start z .args .c) X (step z X (some z .1) _ (c .before .step .given .1)) (some z .1 .choosable))
+      let X = here z .0 in
+      (ready z, reached-node (tb z) (ready z .checked .sound) (start z .args .mode) _ (start z .args .c) X (step z X (here z .1) _ (c .before .step .given .1)) (here z .1 .choosable))
 
   enum-known-step-2 : outcome-at-lts.Need-enum-known-step-2 claims (outcome-at-at t) outcome-at.Post
   enum-known-step-2 c = c .match .keys3
@@ -105,24 +105,24 @@ module _ (t : ℕ) where
   outcome-at-requires : outcome-at-lts.Need-outcome-at-requires claims (outcome-at-at t) outcome-at.Post
   outcome-at-requires c κs =
       let z = c .before .before .before in
-      let X = some z .0 in
-      let e = step z X (some z .1) _ (c .before .step2 .given .1) in
-      (omega (arith, low z, start z .pre .0), (ready z, (start z .pre .1 .1 .0, (e .p, stands-left (tb z) (start z .args .mode) X (start z .args .c) (start z .args .at) (ws z) (some z .1) _ (e .p) (e .q) (e .term) _ _ (e .choosable)))))
+      let X = here z .0 in
+      let e = step z X (here z .1) _ (c .before .step2 .given .1) in
+      (omega (arith, low z, start z .pre .0), (ready z, (start z .pre .1 .1 .0, (e .p, stands-left (tb z) (start z .args .mode) X (start z .args .c) (start z .args .at) (ws z) (here z .1) _ (e .p) (e .q) (e .term) _ _ (e .choosable)))))
 
   add-grown : outcome-at-lts.Need-add-grown claims (outcome-at-at t) outcome-at.Post
   add-grown c =
       let z = c .before .before .before .before in
-      let X = some z .0 in
-      let e = step z X (some z .1) _ (c .before .before .step2 .given .1) in
-      omega (arith, e .size, stands-size (tb z) (start z .args .mode) X (start z .args .c) (start z .args .at) (ws z) (some z .1) _ (e .p) (e .q) (e .term), stands-within (tb z) (start z .args .mode) X (start z .args .c) (start z .args .at) (ws z) (some z .1), low z)
+      let X = here z .0 in
+      let e = step z X (here z .1) _ (c .before .before .step2 .given .1) in
+      omega (arith, e .size, stands-size (tb z) (start z .args .mode) X (start z .args .c) (start z .args .at) (ws z) (here z .1) _ (e .p) (e .q) (e .term), stands-within (tb z) (start z .args .mode) X (start z .args .c) (start z .args .at) (ws z) (here z .1), low z)
 
   grown-requires : outcome-at-lts.Need-grown-requires claims (outcome-at-at t) outcome-at.Post
   grown-requires c κs =
       let z = c .before .before .before .before in
-      let X = some z .0 in
-      let e = step z X (some z .1) _ (c .before .before .step2 .given .1) in
-      let o = c .outcome-at .ensures (e .p) (stands-left (tb z) (start z .args .mode) X (start z .args .c) (start z .args .at) (ws z) (some z .1) _ (e .p) (e .q) (e .term) _ _ (e .choosable)) in
-      omega (arith, o .bound, most-words z, e .size, stands-size (tb z) (start z .args .mode) X (start z .args .c) (start z .args .at) (ws z) (some z .1) _ (e .p) (e .q) (e .term), stands-within (tb z) (start z .args .mode) X (start z .args .c) (start z .args .at) (ws z) (some z .1), low z)
+      let X = here z .0 in
+      let e = step z X (here z .1) _ (c .before .before .step2 .given .1) in
+      let o = c .outcome-at .ensures (e .p) (stands-left (tb z) (start z .args .mode) X (start z .args .c) (start z .args .at) (ws z) (here z .1) _ (e .p) (e .q) (e .term) _ _ (e .choosable)) in
+      omega (arith, o .bound, most-words z, e .size, stands-size (tb z) (start z .args .mode) X (start z .args .c) (start z .args .at) (ws z) (here z .1) _ (e .p) (e .q) (e .term), stands-within (tb z) (start z .args .mode) X (start z .args .c) (start z .args .at) (ws z) (here z .1), low z)
 
   enum-known-step-3 : outcome-at-lts.Need-enum-known-step-3 claims (outcome-at-at t) outcome-at.Post
   enum-known-step-3 c = c .match .keys4
@@ -130,9 +130,9 @@ module _ (t : ℕ) where
   outcome-at-requires-2 : outcome-at-lts.Need-outcome-at-requires-2 claims (outcome-at-at t) outcome-at.Post
   outcome-at-requires-2 c κs =
       let z = c .before .before .before in
-      let X = some z .0 in
-      let e = step z X (some z .1) _ (c .before .step3 .given .1) in
-      (omega (arith, low z, start z .pre .0, e .place), (ready z, (start z .pre .1 .1 .0, (e .q, stands-right (tb z) (start z .args .mode) X (start z .args .c) (start z .args .at) (ws z) (some z .1) _ (e .p) (e .q) (e .term) _ _ _ (e .place) (e .choosable)))))
+      let X = here z .0 in
+      let e = step z X (here z .1) _ (c .before .step3 .given .1) in
+      (omega (arith, low z, start z .pre .0, e .place), (ready z, (start z .pre .1 .1 .0, (e .q, stands-right (tb z) (start z .args .mode) X (start z .args .c) (start z .args .at) (ws z) (here z .1) _ (e .p) (e .q) (e .term) _ _ _ (e .place) (e .choosable)))))
 
   enum-known-step-4 : outcome-at-lts.Need-enum-known-step-4 claims (outcome-at-at t) outcome-at.Post
   enum-known-step-4 c = c .match .keys5
@@ -140,24 +140,24 @@ module _ (t : ℕ) where
   add-outcome-at-2 : outcome-at-lts.Need-add-outcome-at-2 claims (outcome-at-at t) outcome-at.Post
   add-outcome-at-2 c =
       let z = c .before .before .before in
-      let X = some z .0 in
-      let e = step z X (some z .1) _ (c .before .step4 .given .1) in
-      omega (arith, e .size, stands-size (tb z) (start z .args .mode) X (start z .args .c) (start z .args .at) (ws z) (some z .1) _ (e .p) (e .q) (e .term), stands-within (tb z) (start z .args .mode) X (start z .args .c) (start z .args .at) (ws z) (some z .1), low z)
+      let X = here z .0 in
+      let e = step z X (here z .1) _ (c .before .step4 .given .1) in
+      omega (arith, e .size, stands-size (tb z) (start z .args .mode) X (start z .args .c) (start z .args .at) (ws z) (here z .1) _ (e .p) (e .q) (e .term), stands-within (tb z) (start z .args .mode) X (start z .args .c) (start z .args .at) (ws z) (here z .1), low z)
 
   outcome-at-requires-3 : outcome-at-lts.Need-outcome-at-requires-3 claims (outcome-at-at t) outcome-at.Post
   outcome-at-requires-3 c κs =
       let z = c .before .before .before in
-      let X = some z .0 in
-      let e = step z X (some z .1) _ (c .before .step4 .given .1) in
-      (omega (arith, low z, start z .pre .0, e .size), (ready z, (start z .pre .1 .1 .0, (e .q, stands-right (tb z) (start z .args .mode) X (start z .args .c) (start z .args .at) (ws z) (some z .1) _ (e .p) (e .q) (e .term) _ _ _ (omega (arith, e .size)) (e .choosable)))))
+      let X = here z .0 in
+      let e = step z X (here z .1) _ (c .before .step4 .given .1) in
+      (omega (arith, low z, start z .pre .0, e .size), (ready z, (start z .pre .1 .1 .0, (e .q, stands-right (tb z) (start z .args .mode) X (start z .args .c) (start z .args .at) (ws z) (here z .1) _ (e .p) (e .q) (e .term) _ _ _ (omega (arith, e .size)) (e .choosable)))))
 
   grown-requires-2 : outcome-at-lts.Need-grown-requires-2 claims (outcome-at-at t) outcome-at.Post
   grown-requires-2 c κs =
       let z = c .before .before .before .before in
-      let X = some z .0 in
-      let e = step z X (some z .1) _ (c .before .before .step4 .given .1) in
-      let o = c .outcome-at3 .ensures (e .q) (stands-right (tb z) (start z .args .mode) X (start z .args .c) (start z .args .at) (ws z) (some z .1) _ (e .p) (e .q) (e .term) _ _ _ (omega (arith, e .size)) (e .choosable)) in
-      omega (arith, o .bound, most-words z, e .size, stands-size (tb z) (start z .args .mode) X (start z .args .c) (start z .args .at) (ws z) (some z .1) _ (e .p) (e .q) (e .term), stands-within (tb z) (start z .args .mode) X (start z .args .c) (start z .args .at) (ws z) (some z .1), low z)
+      let X = here z .0 in
+      let e = step z X (here z .1) _ (c .before .before .step4 .given .1) in
+      let o = c .outcome-at3 .ensures (e .q) (stands-right (tb z) (start z .args .mode) X (start z .args .c) (start z .args .at) (ws z) (here z .1) _ (e .p) (e .q) (e .term) _ _ _ (omega (arith, e .size)) (e .choosable)) in
+      omega (arith, o .bound, most-words z, e .size, stands-size (tb z) (start z .args .mode) X (start z .args .c) (start z .args .at) (ws z) (here z .1) _ (e .p) (e .q) (e .term), stands-within (tb z) (start z .args .mode) X (start z .args .c) (start z .args .at) (ws z) (here z .1), low z)
 
   enum-known-step-5 : outcome-at-lts.Need-enum-known-step-5 claims (outcome-at-at t) outcome-at.Post
   enum-known-step-5 c = c .match .keys6
@@ -168,9 +168,9 @@ module _ (t : ℕ) where
   outcome-at-requires-4 : outcome-at-lts.Need-outcome-at-requires-4 claims (outcome-at-at t) outcome-at.Post
   outcome-at-requires-4 c κs =
       let z = c .before .before .before in
-      let X = some z .0 in
-      let e = step z X (some z .1) _ (c .before .step5 .given .1) in
-      (omega (arith, low z, start z .pre .0), (ready z, (start z .pre .1 .1 .0, (e .p, stands-left (tb z) (start z .args .mode) X (start z .args .c) (start z .args .at) (ws z) (some z .1) _ (e .p) (e .q) (e .term) _ _ (e .choosable)))))
+      let X = here z .0 in
+      let e = step z X (here z .1) _ (c .before .step5 .given .1) in
+      (omega (arith, low z, start z .pre .0), (ready z, (start z .pre .1 .1 .0, (e .p, stands-left (tb z) (start z .args .mode) X (start z .args .c) (start z .args .at) (ws z) (here z .1) _ (e .p) (e .q) (e .term) _ _ (e .choosable)))))
 
   returns : outcome-at-lts.Need-returns claims (outcome-at-at t) outcome-at.Post
   returns c = λ X st.

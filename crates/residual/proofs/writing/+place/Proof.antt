@@ -59,8 +59,8 @@ module _ (t : ℕ) where
   SpotAt c T = Spot (tb c) (start c .args .mode) T (start c .args .c) (start c .args .front) (start c .args .at) (ws c)
 
   -- a term that stands there, and what is found of any such term
-  abbrev some : (c : At) → (T : Term) × SpotAt c T
-  some c = start c .pre .1 .1 .1
+  abbrev here : (c : At) → (T : Term) × SpotAt c T
+  here c = start c .pre .1 .1 .1
 
   abbrev StepAt : At → Term → Step → Type 0
   StepAt c T r = Stepped (tb c) (start c .args .mode) T (start c .args .c) (start c .args .at) r
@@ -70,7 +70,7 @@ module _ (t : ℕ) where
 
   low : (c : At) → (start c .args .front ≤ start c .args .at) × (start c .args .at < length (ws c)) × (length (ws c) ≤ 65535)
   low c =
-      let w = spot-low (tb c) (start c .args .mode) (some c .0) (start c .args .c) (start c .args .front) (start c .args .at) (ws c) (some c .1) in
+      let w = spot-low (tb c) (start c .args .mode) (here c .0) (start c .args .c) (start c .args .front) (start c .args .at) (ws c) (here c .1) in
       (w .0, w .1, start c .pre .1 .1 .0)
 
   first-root-requires : place-lts.Need-first-root-requires claims (place-at t) place.Post
@@ -106,9 +106,9 @@ module _ (t : ℕ) where
   write-node-requires : place-lts.Need-write-node-requires claims (place-at t) place.Post
   write-node-requires c κs =
       let z = c .before .before .before .before in
-      let X = some z .0 in
-      let e = step z X (some z .1) _ (c .before .before .step .given .1) in
-      (ready z, room-leaf (tb z) (start z .args .mode) X (start z .args .c) (start z .args .front) (start z .args .at) (ws z) (some z .1) (now (start z .args .scratch)) (ready z) _ e)
+      let X = here z .0 in
+      let e = step z X (here z .1) _ (c .before .before .step .given .1) in
+      (ready z, room-leaf (tb z) (start z .args .mode) X (start z .args .c) (start z .args .front) (start z .args .at) (ws z) (here z .1) (now (start z .args .scratch)) (ready z) _ e)
 
   enum-known-step-2 : place-lts.Need-enum-known-step-2 claims (place-at t) place.Post
   enum-known-step-2 c = c .match .keys3
@@ -125,10 +125,10 @@ module _ (t : ℕ) where
   place-requires : place-lts.Need-place-requires claims (place-at t) place.Post
   place-requires c κs =
       let z = c .before .before .before .before .before .before .before .before in
-      let X = some z .0 in
-      let e = step z X (some z .1) _ (c .before .before .before .before .before .before .step2 .given .1) in
+      let X = here z .0 in
+      let e = step z X (here z .1) _ (c .before .before .before .before .before .before .step2 .given .1) in
       let y : length (c .before .before .before .put2 .last .0) ≡ length (ws z) = ap length (c .before .before .before .put2 .ensures) ∙ simp length-set in
-      (omega (arith, low z, start z .pre .0), (ready z, (omega (arith, low z), (e .p, spot-in (tb z) (start z .args .mode) X (start z .args .c) (start z .args .front) (start z .args .at) (ws z) (some z .1) _ _ _ e _ (c .before .before .before .put2 .ensures)))))
+      (omega (arith, low z, start z .pre .0), (ready z, (omega (arith, low z), (e .p, spot-in (tb z) (start z .args .mode) X (start z .args .c) (start z .args .front) (start z .args .at) (ws z) (here z .1) _ _ _ e _ (c .before .before .before .put2 .ensures)))))
 
   enum-known-step-3 : place-lts.Need-enum-known-step-3 claims (place-at t) place.Post
   enum-known-step-3 c = c .match .keys4
@@ -136,9 +136,9 @@ module _ (t : ℕ) where
   place-requires-2 : place-lts.Need-place-requires-2 claims (place-at t) place.Post
   place-requires-2 c κs =
       let z = c .before .before .before .before in
-      let X = some z .0 in
-      let e = step z X (some z .1) _ (c .before .before .step3 .given .1) in
-      (omega (arith, low z, start z .pre .0, e .place), (ready z, (start z .pre .1 .1 .0, (e .q, spot-jump (tb z) (start z .args .mode) X (start z .args .c) (start z .args .front) (start z .args .at) (ws z) (some z .1) _ _ _ e))))
+      let X = here z .0 in
+      let e = step z X (here z .1) _ (c .before .before .step3 .given .1) in
+      (omega (arith, low z, start z .pre .0, e .place), (ready z, (start z .pre .1 .1 .0, (e .q, spot-jump (tb z) (start z .args .mode) X (start z .args .c) (start z .args .front) (start z .args .at) (ws z) (here z .1) _ _ _ e))))
 
   enum-known-step-4 : place-lts.Need-enum-known-step-4 claims (place-at t) place.Post
   enum-known-step-4 c = c .match .keys5
@@ -146,32 +146,32 @@ module _ (t : ℕ) where
   move-down-requires : place-lts.Need-move-down-requires claims (place-at t) place.Post
   move-down-requires c κs =
       let z = c .before .before .before .before in
-      let X = some z .0 in
-      let e = step z X (some z .1) _ (c .before .before .step4 .given .1) in
-      (low z .0, copy-bound (tb z) (start z .args .mode) X (start z .args .c) (start z .args .front) (start z .args .at) (ws z) (some z .1) _ _ e .1)
+      let X = here z .0 in
+      let e = step z X (here z .1) _ (c .before .before .step4 .given .1) in
+      (low z .0, copy-bound (tb z) (start z .args .mode) X (start z .args .c) (start z .args .front) (start z .args .at) (ws z) (here z .1) _ _ e .1)
 
   add-next-3 : place-lts.Need-add-next-3 claims (place-at t) place.Post
   add-next-3 c =
       let z = c .before .before .before .before .before .before .before in
-      let X = some z .0 in
-      let e = step z X (some z .1) _ (c .before .before .before .before .before .step4 .given .1) in
-      omega (arith, low z, copy-bound (tb z) (start z .args .mode) X (start z .args .c) (start z .args .front) (start z .args .at) (ws z) (some z .1) _ _ e)
+      let X = here z .0 in
+      let e = step z X (here z .1) _ (c .before .before .before .before .before .step4 .given .1) in
+      omega (arith, low z, copy-bound (tb z) (start z .args .mode) X (start z .args .c) (start z .args .front) (start z .args .at) (ws z) (here z .1) _ _ e)
 
   add-q : place-lts.Need-add-q claims (place-at t) place.Post
   add-q c =
       let z = c .before .before .before .before .before .before .before in
-      let X = some z .0 in
-      let e = step z X (some z .1) _ (c .before .before .before .before .before .step4 .given .1) in
-      omega (arith, low z, copy-bound (tb z) (start z .args .mode) X (start z .args .c) (start z .args .front) (start z .args .at) (ws z) (some z .1) _ _ e)
+      let X = here z .0 in
+      let e = step z X (here z .1) _ (c .before .before .before .before .before .step4 .given .1) in
+      omega (arith, low z, copy-bound (tb z) (start z .args .mode) X (start z .args .c) (start z .args .front) (start z .args .at) (ws z) (here z .1) _ _ e)
 
   place-requires-3 : place-lts.Need-place-requires-3 claims (place-at t) place.Post
   place-requires-3 c κs =
       let z = c .before .before .before .before .before .before .before .before in
-      let X = some z .0 in
-      let e = step z X (some z .1) _ (c .before .before .before .before .before .before .step4 .given .1) in
+      let X = here z .0 in
+      let e = step z X (here z .1) _ (c .before .before .before .before .before .before .step4 .given .1) in
       let v = c .before .before .before .move-down .ensures in
-      let w = copy-bound (tb z) (start z .args .mode) X (start z .args .c) (start z .args .front) (start z .args .at) (ws z) (some z .1) _ _ e in
-      (omega (arith, low z, start z .pre .0, v .same), (ready z, (omega (arith, low z, v .same), (e .q, spot-copy (tb z) (start z .args .mode) X (start z .args .c) (start z .args .front) (start z .args .at) (ws z) (some z .1) _ _ e _ v))))
+      let w = copy-bound (tb z) (start z .args .mode) X (start z .args .c) (start z .args .front) (start z .args .at) (ws z) (here z .1) _ _ e in
+      (omega (arith, low z, start z .pre .0, v .same), (ready z, (omega (arith, low z, v .same), (e .q, spot-copy (tb z) (start z .args .mode) X (start z .args .c) (start z .args .front) (start z .args .at) (ws z) (here z .1) _ _ e _ v))))
 
   enum-known-step-5 : place-lts.Need-enum-known-step-5 claims (place-at t) place.Post
   enum-known-step-5 c = c .match .keys6
@@ -182,18 +182,18 @@ module _ (t : ℕ) where
   move-up-requires : place-lts.Need-move-up-requires claims (place-at t) place.Post
   move-up-requires c κs =
       let z = c .before .before .before .before in
-      let X = some z .0 in
-      let e = step z X (some z .1) _ (c .before .before .step5 .given .1) in
-      drop-bound (tb z) (start z .args .mode) X (start z .args .c) (start z .args .front) (start z .args .at) (ws z) (some z .1) _ _ _ _ e
+      let X = here z .0 in
+      let e = step z X (here z .1) _ (c .before .before .step5 .given .1) in
+      drop-bound (tb z) (start z .args .mode) X (start z .args .c) (start z .args .front) (start z .args .at) (ws z) (here z .1) _ _ _ _ e
 
   place-requires-4 : place-lts.Need-place-requires-4 claims (place-at t) place.Post
   place-requires-4 c κs =
       let z = c .before .before .before .before .before .before .before .before in
-      let X = some z .0 in
-      let e = step z X (some z .1) _ (c .before .before .before .before .before .before .step5 .given .1) in
+      let X = here z .0 in
+      let e = step z X (here z .1) _ (c .before .before .before .before .before .before .step5 .given .1) in
       let v = c .before .before .before .move-up .ensures in
-      let w = drop-bound (tb z) (start z .args .mode) X (start z .args .c) (start z .args .front) (start z .args .at) (ws z) (some z .1) _ _ _ _ e in
-      (omega (arith, low z, start z .pre .0, v .same), (ready z, (omega (arith, low z, v .same), (e .p, spot-drop (tb z) (start z .args .mode) X (start z .args .c) (start z .args .front) (start z .args .at) (ws z) (some z .1) _ _ _ _ e _ v))))
+      let w = drop-bound (tb z) (start z .args .mode) X (start z .args .c) (start z .args .front) (start z .args .at) (ws z) (here z .1) _ _ _ _ e in
+      (omega (arith, low z, start z .pre .0, v .same), (ready z, (omega (arith, low z, v .same), (e .p, spot-drop (tb z) (start z .args .mode) X (start z .args .c) (start z .args .front) (start z .args .at) (ws z) (here z .1) _ _ _ _ e _ v))))
 
   same-length : place-lts.Need-same-length claims (place-at t) place.Post
   same-length c = rw (c .before .before .put .ensures) (simp length-set)
@@ -215,9 +215,9 @@ module _ (t : ℕ) where
   same-length-3 : place-lts.Need-same-length-3 claims (place-at t) place.Post
   same-length-3 c =
       let z = c .before .before .before .before .before .before .before .before .before .before .before in
-      let X = some z .0 in
-      let e = step z X (some z .1) _ (c .before .before .before .before .before .before .before .before .before .step2 .given .1) in
-      c .before .before .place .ensures (e .p) (spot-in (tb z) (start z .args .mode) X (start z .args .c) (start z .args .front) (start z .args .at) (ws z) (some z .1) _ _ _ e _ (c .before .before .before .before .before .before .put2 .ensures)) .same ∙ ap length (c .before .before .before .before .before .before .put2 .ensures) ∙ simp length-set
+      let X = here z .0 in
+      let e = step z X (here z .1) _ (c .before .before .before .before .before .before .before .before .before .step2 .given .1) in
+      c .before .before .place .ensures (e .p) (spot-in (tb z) (start z .args .mode) X (start z .args .c) (start z .args .front) (start z .args .at) (ws z) (here z .1) _ _ _ e _ (c .before .before .before .before .before .before .put2 .ensures)) .same ∙ ap length (c .before .before .before .before .before .before .put2 .ensures) ∙ simp length-set
 
   returns-3 : place-lts.Need-returns-3 claims (place-at t) place.Post
   returns-3 c = λ X sp.
@@ -228,9 +228,9 @@ module _ (t : ℕ) where
   same-length-4 : place-lts.Need-same-length-4 claims (place-at t) place.Post
   same-length-4 c =
       let z = c .before .before .before .before .before .before .before in
-      let X = some z .0 in
-      let e = step z X (some z .1) _ (c .before .before .before .before .before .step3 .given .1) in
-      c .before .before .place2 .ensures (e .q) (spot-jump (tb z) (start z .args .mode) X (start z .args .c) (start z .args .front) (start z .args .at) (ws z) (some z .1) _ _ _ e) .same
+      let X = here z .0 in
+      let e = step z X (here z .1) _ (c .before .before .before .before .before .step3 .given .1) in
+      c .before .before .place2 .ensures (e .q) (spot-jump (tb z) (start z .args .mode) X (start z .args .c) (start z .args .front) (start z .args .at) (ws z) (here z .1) _ _ _ e) .same
 
   returns-4 : place-lts.Need-returns-4 claims (place-at t) place.Post
   returns-4 c = λ X sp.
@@ -241,10 +241,10 @@ module _ (t : ℕ) where
   same-length-5 : place-lts.Need-same-length-5 claims (place-at t) place.Post
   same-length-5 c =
       let z = c .before .before .before .before .before .before .before .before .before .before .before in
-      let X = some z .0 in
-      let e = step z X (some z .1) _ (c .before .before .before .before .before .before .before .before .before .step4 .given .1) in
+      let X = here z .0 in
+      let e = step z X (here z .1) _ (c .before .before .before .before .before .before .before .before .before .step4 .given .1) in
       let v = c .before .before .before .before .before .before .move-down .ensures in
-      c .before .before .place3 .ensures (e .q) (spot-copy (tb z) (start z .args .mode) X (start z .args .c) (start z .args .front) (start z .args .at) (ws z) (some z .1) _ _ e _ v) .same ∙ v .same
+      c .before .before .place3 .ensures (e .q) (spot-copy (tb z) (start z .args .mode) X (start z .args .c) (start z .args .front) (start z .args .at) (ws z) (here z .1) _ _ e _ v) .same ∙ v .same
 
   returns-5 : place-lts.Need-returns-5 claims (place-at t) place.Post
   returns-5 c = λ X sp.
@@ -256,10 +256,10 @@ module _ (t : ℕ) where
   same-length-6 : place-lts.Need-same-length-6 claims (place-at t) place.Post
   same-length-6 c =
       let z = c .before .before .before .before .before .before .before .before .before .before .before in
-      let X = some z .0 in
-      let e = step z X (some z .1) _ (c .before .before .before .before .before .before .before .before .before .step5 .given .1) in
+      let X = here z .0 in
+      let e = step z X (here z .1) _ (c .before .before .before .before .before .before .before .before .before .step5 .given .1) in
       let v = c .before .before .before .before .before .before .move-up .ensures in
-      c .before .before .place4 .ensures (e .p) (spot-drop (tb z) (start z .args .mode) X (start z .args .c) (start z .args .front) (start z .args .at) (ws z) (some z .1) _ _ _ _ e _ v) .same ∙ v .same
+      c .before .before .place4 .ensures (e .p) (spot-drop (tb z) (start z .args .mode) X (start z .args .c) (start z .args .front) (start z .args .at) (ws z) (here z .1) _ _ _ _ e _ v) .same ∙ v .same
 
   returns-6 : place-lts.Need-returns-6 claims (place-at t) place.Post
   returns-6 c = λ X sp.

@@ -33,15 +33,15 @@ abbrev term : At → Term
 term c = residualTerm 1 (now (start c .args .words))
 
 -- the last one may be taken
-taking : (c : At) → Taking (tb c) (term c) (c .before .before .before .choices .result .count - 1)
+taking : (c : At) → Taking (tb c) (term c) (c .before .before .before .count-choices .result .count - 1)
 taking c =
-    let o = c .before .before .before .choices .ensures in
-    let f = sym (o .few) ∙ not-false (c .before .before .before .choices .result .few) (c .before .before .if1 .left) in
+    let o = c .before .before .before .count-choices .ensures in
+    let f = sym (o .few) ∙ not-false (c .before .before .before .count-choices .result .few) (c .before .before .if1 .left) in
     let n = o .count f in
     record { few = f; choice = omega (arith, n, c .if2 .left) }
 
-choices-requires : tie.Need-choices-requires
-choices-requires c κs = search needs
+count-choices-requires : tie.Need-count-choices-requires
+count-choices-requires c κs = search needs
 
 same-length : tie.Need-same-length
 same-length c = search needs
@@ -116,7 +116,7 @@ pub print-last-choice-spec : {M : Type 1} → statement M
 print-last-choice-spec =
     tie.close
     (tie.spec
-    choices-requires
+    count-choices-requires
     same-length
     returns
     print-number-requires
