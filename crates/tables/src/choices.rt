@@ -1,6 +1,6 @@
 // The last choice of a residual: what it does, under how many guards, and what it leaves.
-use residual::choosing::count_choices;
 use residual::choosing::collect;
+use residual::choosing::count_choices;
 use residual::choosing::outcome;
 use residual::choosing::rewrite;
 use table::Sizes;
