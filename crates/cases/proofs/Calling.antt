@@ -24,12 +24,12 @@ none-taken (refuses number place) was s = refl
 
 module _ (o : Outcome) (after answers : List ℕ) where
   step-alone : (r : Stepped) → Steps o r after → Runs (alone o answers) (ofStep r) after answers
-  step-alone (StepDone taken) s = record { check = s .check; goes = record { totals = ap (totals 0 0) (s .taken); state = s .state; answers = refl } }
-  step-alone (StepRefused number place) s = record { check = s .check; goes = record { totals = ap (totals 0 0) (s .taken); state = s .state; answers = refl } }
+  step-alone (StepDone taken) s = record { check = s .check; reports = record { totals = ap (totals 0 0) (s .taken); state = s .state; answers = refl } }
+  step-alone (StepRefused number place) s = record { check = s .check; reports = record { totals = ap (totals 0 0) (s .taken); state = s .state; answers = refl } }
 
   load-alone : (r : Loaded) → Loads o r after → o .taken ≡ 0 → Runs (alone o answers) (ofLoad r) after answers
-  load-alone LoadDone s e = record { check = s .check; goes = record { totals = ap (totals 0 0) (sym e); state = s .state; answers = refl } }
-  load-alone (LoadRefused number place) s e = record { check = s .check; goes = record { totals = ap (totals 0 0) (sym e); state = s .state; answers = refl } }
+  load-alone LoadDone s e = record { check = s .check; reports = record { totals = ap (totals 0 0) (sym e); state = s .state; answers = refl } }
+  load-alone (LoadRefused number place) s e = record { check = s .check; reports = record { totals = ap (totals 0 0) (sym e); state = s .state; answers = refl } }
 
 -- a call of a case, by the number of its call
 module _ (header table was : List ℕ) (scratch : ℕ) (schedule answers : List ℕ) where

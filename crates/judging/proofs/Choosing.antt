@@ -49,9 +49,9 @@ module _ (t : Table) (was : List ℕ) (x zc zp : ℕ) (confirm : zc ≡ zcAt x) 
   agent-11 e c = judges-11 t was x c (sym waits-is ∙ e)
 
   -- the length is read, and the words are lent
-  pub agent-posed : (not (eqb (getD was zc 0) 0) || not (eqb (getD was zp 0) 0)) ≡ false → {scratch : List ℕ} → Prepared t scratch → Proper t was → x < t .sizes .agents
+  pub agent-given : (not (eqb (getD was zc 0) 0) || not (eqb (getD was zp 0) 0)) ≡ false → {scratch : List ℕ} → Prepared t scratch → Proper t was → x < t .sizes .agents
       → (place : ℕ) → place ≡ lengthAt x → (at : ℕ) → at ≡ residualAt x → ResidualGiven t scratch was x (getD was place 0) (take (at + residualWords - at) (drop at was))
-  agent-posed e ready proper agent place p at q =
+  agent-given e ready proper agent place p at q =
       let idle = not-false (eqb (zcOf was x) 0 && eqb (zpOf was x) 0) (sym waits-is ∙ e) in
       let n : at + residualWords - at ≡ residualWords = omega arith in
       record {
@@ -65,37 +65,37 @@ module _ (t : Table) (was : List ℕ) (x zc zp : ℕ) (confirm : zc ≡ zcAt x) 
       }
 
 -- 12 and 13, by what is found of the residual's choices
-module _ {t : Table} {scratch was : List ℕ} {x size : ℕ} {ws : List ℕ} (posed : ResidualGiven t scratch was x size ws) where
+module _ {t : Table} {scratch was : List ℕ} {x size : ℕ} {ws : List ℕ} (given : ResidualGiven t scratch was x size ws) where
   formed : ResidualFormed t was x
-  formed = proper-facts t (posed .ready .checked .sound .shaped .limits) was (posed .proper) .formed .formed .residuals x (posed .agent)
+  formed = proper-facts t (given .ready .checked .sound .shaped .limits) was (given .proper) .formed .formed .residuals x (given .agent)
 
   there : x < 32
-  there = omega (arith, posed .agent, posed .ready .checked .sound .shaped .limits .agents)
+  there = omega (arith, given .agent, given .ready .checked .sound .shaped .limits .agents)
 
   situated : Situated t was x x
-  situated = record { shaped = posed .ready .checked .sound .shaped; words = posed .proper .whole; sends = there; receives = there }
+  situated = record { shaped = given .ready .checked .sound .shaped; words = given .proper .whole; sends = there; receives = there }
 
   term-is : residualTerm size ws ≡ termIn was x
-  term-is = ap₂ (λ (n : ℕ) (vs : List ℕ). termOf (take n vs)) (posed .long) (posed .words)
+  term-is = ap₂ (λ (n : ℕ) (vs : List ℕ). termOf (take n vs)) (given .long) (given .words)
 
   pub whole-residual : Whole t size ws
   whole-residual =
-      let few : firstRoot t ≤ 65532 = omega (arith, posed .ready .checked .sound .shaped .limits .nodes) in
-      formed-whole t was x (posed .proper .whole) there (residual-test t few was (posed .proper .whole) x there formed) size ws (posed .long) (posed .words)
+      let few : firstRoot t ≤ 65532 = omega (arith, given .ready .checked .sound .shaped .limits .nodes) in
+      formed-whole t was x (given .proper .whole) there (residual-test t few was (given .proper .whole) x there formed) size ws (given .long) (given .words)
 
   module _ (all : Choices) (offered : Offered t (residualTerm size ws) all) where
     offers : Offered t (termIn was x) all
     offers = subst (λ (T : Term). Offered t T all) term-is offered
 
     pub agent-12 : all .few ≡ false → (c : ℕ) (marks : List ℕ) (r : Judgement) → r ≡ refusedBy 12 → Judges t was x c marks r
-    agent-12 e c = judges-12 t was x c (posed .confirmed) (posed .propagated) (sym (offers .few) ∙ e)
+    agent-12 e c = judges-12 t was x c (given .confirmed) (given .propagated) (sym (offers .few) ∙ e)
 
     module _ (few : all .few ≡ true) where
       all-few : allFew t (termIn was x) ≡ true
       all-few = sym (offers .few) ∙ few
 
       pub agent-13 : (c : ℕ) → all .count ≤ c → (marks : List ℕ) (r : Judgement) → r ≡ refusedBy 13 → Judges t was x c marks r
-      agent-13 c h = judges-13 t was x c (posed .confirmed) (posed .propagated) all-few (omega (arith, offers .count all-few))
+      agent-13 c h = judges-13 t was x c (given .confirmed) (given .propagated) all-few (omega (arith, offers .count all-few))
 
       -- and c is a choice
       pub agent-taking : (c : ℕ) → c < all .count → Taking t (residualTerm size ws) c
@@ -110,23 +110,23 @@ module _ {t : Table} {scratch was : List ℕ} {x size : ℕ} {ws : List ℕ} (po
     taken-is = ap (λ (T : Term). derivationAt (process t T) c) term-is
 
     inside : Inside t (chosen t was x c)
-    inside = chosen-inside t was x (posed .ready .checked .sound) (formed .over) c (takes .choice)
+    inside = chosen-inside t was x (given .ready .checked .sound) (formed .over) c (takes .choice)
 
     module _ {ms out : List ℕ} (unmarked : Unmarked t ms) (marked : Marked t (derivationAt (process t (residualTerm size ws)) c .guards) ms out) where
-      pub agent-asks : GuardsGiven t was x out
-      agent-asks = record { situated = situated; room = marked .marks .room }
+      pub agent-guards : GuardsGiven t was x out
+      agent-guards = record { situated = situated; room = marked .marks .room }
 
       guards : GuardsMarked t (chosen t was x c .guards) out
       guards = collected t (chosen t was x c .guards) ms out (inside .guards) unmarked (subst (λ (d : Derivation). Marked t (d .guards) ms out) taken-is marked)
 
       module _ (held : Bool) (asked : (gs : List ℕ) → GuardsMarked t gs out → held ≡ allHold t was x gs) where
         pub agent-14 : held ≡ false → (r : Judgement) → r ≡ refusedBy 14 → Judges t was x c out r
-        agent-14 e = judges-14 t was x c (posed .confirmed) (posed .propagated) (takes .few) (takes .choice) (sym (asked (chosen t was x c .guards) guards) ∙ e) out
+        agent-14 e = judges-14 t was x c (given .confirmed) (given .propagated) (takes .few) (takes .choice) (sym (asked (chosen t was x c .guards) guards) ∙ e) out
 
         pub agent-last : held ≡ true → {limit : ℕ} (o : Effect) → Tells (derivationAt (process t (residualTerm size ws)) c) limit o
             → (r : Judgement) → r ≡ ended t was x (o .label) (o .size) → Judges t was x c out r
         agent-last e {limit} o tells =
-            judges-last t was x c (posed .confirmed) (posed .propagated) (takes .few) (takes .choice) (sym (asked (chosen t was x c .guards) guards) ∙ e) out guards o
+            judges-last t was x c (given .confirmed) (given .propagated) (takes .few) (takes .choice) (sym (asked (chosen t was x c .guards) guards) ∙ e) out guards o
             (subst (λ (d : Derivation). Tells d limit o) taken-is tells)
 
     pub agent-doing : {limit : ℕ} (o : Effect) → Tells (derivationAt (process t (residualTerm size ws)) c) limit o → Doing t was x (o .label)

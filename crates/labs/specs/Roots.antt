@@ -1,4 +1,4 @@
--- The nodes that roots name. "The last D + S + A nodes are roots: bodies, links, starting processes, in that order": the last A name the
+-- The nodes that roots name. The last D + S + A nodes are roots, of bodies, links and starting processes in that order: the last A name the
 -- agents' starting processes, the S before them the links of keys, the D before those the bodies of definitions.
 use Prim.Native.Nat.{ℕ, _+_, _-_}
 use Rattle.table.specs.Tables.{Table, pAt}

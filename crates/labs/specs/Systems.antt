@@ -118,8 +118,9 @@ between S x y = record { E = S .E; sender = S .agent x; receiver = S .agent y }
 abbrev pub Linked : Table → Interface → Message → Agent → Type 0
 Linked t E m a = record { E = E; sender = m .sender; receiver = a } ⊨ φ t (m .x)
 
--- `Receives t E m a took a′`: message m makes another agent a into a′, which took the entry or did not. Table 8 as printed has neither that a
--- is linked nor that its entry is older or newer, nor what QRY₂ leaves: these are from 2.3's prose and from the paper
+-- `Receives t E m a took a′`: message m makes another agent a into a′, which took the entry or did not. Table 8 as printed labels
+-- PUT's conclusion qry, prints QRY₁ in QRY₂'s place, and has neither that a is linked nor that its entry is older or newer: these are from
+-- 2.3's prose and from the paper
 pub data Receives (t : Table) (E : Interface) (m : Message) (a : Agent) : Bool → Agent → Type 0 where
   PUT : {L′ : Stigmergy} → m .kind ≡ put → Linked t E m a → Older (a .L (m .x)) (m .entry .time) → Inserted (a .L) (m .x) (m .entry) L′ →
       Receives t E m a true ⟨ a .I ⸴ L′ ⸴ a .P ⸴ a .Zc ∖｛ m .x ｝ ⸴ a .Zp ∪｛ m .x ｝ ⟩

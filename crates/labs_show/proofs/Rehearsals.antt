@@ -61,7 +61,7 @@ module _ (table schedule was : List ℕ) (scratch : ℕ) (answers : List ℕ) {r
         let g = subst (λ (n : ℕ). Runs (runOf table mid n schedule answers) x after bytes) same h in
         record {
           runs = subst (λ (o : Rehearsal). Runs o x after bytes) (sym rehearsed-is) g;
-          fleet = λ counts f. subst Fleet (sym (g .goes .state)) (ran-fleet (sym (g .check) ∙ ap (λ (y : Ran). runCheck y) f));
+          fleet = λ counts f. subst Fleet (sym (g .reports .state)) (ran-fleet (sym (g .check) ∙ ap (λ (y : Ran). runCheck y) f));
         }
 
   module _ {number place : ℕ} (e : r ≡ LoadRefused number place) where
@@ -81,7 +81,7 @@ module _ (table schedule was : List ℕ) (scratch : ℕ) (answers : List ℕ) {r
         record {
           runs = record {
             check = rw (rehearsed, f);
-            goes = record { totals = rw (rehearsed, f); state = rw (rehearsed, f) kept; answers = rw (rehearsed, f) };
+            reports = record { totals = rw (rehearsed, f); state = rw (rehearsed, f) kept; answers = rw (rehearsed, f) };
           };
           fleet = λ counts d. let z : _≡_ {A = ℕ} 0 1 = cc in absurd (omega arith);
         }

@@ -48,10 +48,10 @@ fn put_sizes(
 fn put_node(table: &mut [u8], nodes: usize, node: usize, kind: u8, p: usize, q: usize)
     requires { ⌜ (12 + 5 * nodes ≤ length (now table)) × (node < nodes) ⌝ }
 {
-    let at = 12 + nodes + 4 * node;
+    let at = table::HEADER_BYTES + nodes + 4 * node;
     put_u16(table, at, p);
     put_u16(table, at + 2, q);
-    table[12 + node] = kind;
+    table[table::HEADER_BYTES + node] = kind;
 }
 
 // Agents that tick, all of them by the same node. A table of 1 + agents nodes.

@@ -74,7 +74,7 @@ fn show_agents(table: &mut [u8], state: &mut [u32], scratch: &mut [u32], agents:
     io::write_all(OUTPUT, b"agents");
     print_number(agents);
     ticking(table, agents);
-    let size = 12 + 5 * (1 + agents);
+    let size = table::HEADER_BYTES + 5 * (1 + agents);
     show_load(&table[..size], state, scratch);
 }
 
@@ -185,13 +185,13 @@ fn show_residual(table: &mut [u8], state: &mut [u32], scratch: &mut [u32], depth
     requires { ⌜ (length (now table) ≡ 347) × (length (now state) ≡ stateWords) × (depth ≤ 32) ⌝ }
 {
     nested(table, depth);
-    let size = 12 + 5 * (2 * depth + 3);
+    let size = table::HEADER_BYTES + 5 * (2 * depth + 3);
     show_nested(&table[..size], state, scratch, 2 * depth + 1);
 }
 
 fn main() {
     let mut table = [0u8; 347];
-    let mut state = [0u32; 4194];
+    let mut state = [0u32; term::STATE_WORDS];
     let mut scratch = [0u32; 8192];
     show_agents(&mut table, &mut state, &mut scratch, 32);
     show_agents(&mut table, &mut state, &mut scratch, 33);

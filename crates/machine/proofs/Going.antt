@@ -15,7 +15,7 @@ use Rattle.state.specs.WellFormed.{Proper}
 use Rattle.state.proofs.Formed.{proper-facts, facts-proper}
 use Rattle.steps.specs.Offers.{takes}
 use Rattle.steps.specs.Steps.{Outcome, outcome, outOfRange, ownChecks, takenBy, after, stepIn}
-use Rattle.steps.specs.Runs.{Progress, begun, ran, kindOf, agentOf, numberIn, added}
+use Rattle.steps.specs.Runs.{Progress, begun, ran, kindIn, agentIn, numberIn, added}
 use Rattle.steps.proofs.Proper.{step-proper}
 use Rattle.machine.specs.declared.Stepped.{Stepped}
 use Rattle.machine.specs.declared.Totals.{Totals}
@@ -39,7 +39,7 @@ module _ (t : Table) (was : List ℕ) where
 
 -- i steps of a schedule are done
 pub record Halfway (t : Table) (schedule was bytes : List ℕ) (i : ℕ) (s out : List ℕ) (c : Totals) : Type 0 where
-  pub goes : Reports (ran t schedule i (begun was bytes)) c s out
+  pub reports : Reports (ran t schedule i (begun was bytes)) c s out
   pub proper : Proper t s
   pub within : TotalsWithin i c
   pub same : length out ≡ length bytes
@@ -49,7 +49,7 @@ module _ (t : Table) (schedule was bytes : List ℕ) where
   unfolding ran forEach
   none-done p =
       record {
-        goes = record { totals = refl; state = refl; answers = refl };
+        reports = record { totals = refl; state = refl; answers = refl };
         proper = p;
         within = record { done = omega arith; refused = omega arith; taken = omega arith };
         same = refl;
@@ -60,18 +60,18 @@ module _ (t : Table) (schedule was bytes : List ℕ) where
     p = ran t schedule i (begun was bytes)
 
     abbrev stepped : List ℕ → Outcome
-    stepped u = stepIn t u (kindOf schedule i) (agentOf schedule i) (numberIn schedule i)
+    stepped u = stepIn t u (kindIn schedule i) (agentIn schedule i) (numberIn schedule i)
 
     one-more : ran t schedule (i + 1) (begun was bytes) ≡ added i p (stepped (p .state))
     unfolding ran
-    one-more = forEach-more (λ (j : ℕ) (q : Progress). added j q (stepIn t (q .state) (kindOf schedule j) (agentOf schedule j) (numberIn schedule j))) i (begun was bytes)
+    one-more = forEach-more (λ (j : ℕ) (q : Progress). added j q (stepIn t (q .state) (kindIn schedule j) (agentIn schedule j) (numberIn schedule j))) i (begun was bytes)
 
     same-step : stepped s ≡ stepped (p .state)
-    same-step = ap (λ (u : List ℕ). stepped u) (h .goes .state)
+    same-step = ap (λ (u : List ℕ). stepped u) (h .reports .state)
 
-    module _ (r : Stepped) (u : List ℕ) (e : Steps (stepIn t s (kindOf schedule i) (agentOf schedule i) (numberIn schedule i)) r u) where
+    module _ (r : Stepped) (u : List ℕ) (e : Steps (stepIn t s (kindIn schedule i) (agentIn schedule i) (numberIn schedule i)) r u) where
       pub taken-few : t .sizes .agents ≤ 32 → stepTaken r ≤ 32
-      taken-few l = let f = e .taken in let g = step-bound t s (kindOf schedule i) (agentOf schedule i) (numberIn schedule i) in omega arith
+      taken-few l = let f = e .taken in let g = step-bound t s (kindIn schedule i) (agentIn schedule i) (numberIn schedule i) in omega arith
 
       check-is : stepCheck r ≡ stepped (p .state) .check
       check-is = e .check ∙ ap (λ (o : Outcome). o .check) same-step
@@ -81,20 +81,20 @@ module _ (t : Table) (schedule was bytes : List ℕ) where
 
       totals-is : tallied c r ≡ totals (added i p (stepped (p .state)) .done) (added i p (stepped (p .state)) .refused) (added i p (stepped (p .state)) .taken)
       totals-is =
-          ap (λ (d : Totals). tallied d r) (h .goes .totals)
+          ap (λ (d : Totals). tallied d r) (h .reports .totals)
           ∙ (λ j. totals (p .done + cond (passed (check-is j)) 1 0) (p .refused + cond (passed (check-is j)) 0 1) (p .taken + taken-is j))
 
       pub next-done : Sound t → ((j : ℕ) → getD (t .operands) j 0 < 256) → t .sizes .agents ≤ 32
           → Halfway t schedule was bytes (i + 1) u (set out i (numberOf (stepCheck r))) (tallied c r)
       next-done sound narrow l =
           record {
-            goes = subst (λ (q : Progress). Reports q (tallied c r) u (set out i (numberOf (stepCheck r)))) (sym one-more) (record {
+            reports = subst (λ (q : Progress). Reports q (tallied c r) u (set out i (numberOf (stepCheck r)))) (sym one-more) (record {
               totals = totals-is;
               state = e .state ∙ ap (λ (o : Outcome). o .state) same-step;
-              answers = (λ j. set (h .goes .answers j) i (numberOf (check-is j)));
+              answers = (λ j. set (h .reports .answers j) i (numberOf (check-is j)));
             });
             proper = subst (λ (v : List ℕ). Proper t v) (sym (e .state)) (facts-proper t (sound .shaped .limits) (stepped s .state)
-                (step-proper t sound narrow s (proper-facts t (sound .shaped .limits) s (h .proper)) (kindOf schedule i) (agentOf schedule i) (numberIn schedule i)));
+                (step-proper t sound narrow s (proper-facts t (sound .shaped .limits) s (h .proper)) (kindIn schedule i) (agentIn schedule i) (numberIn schedule i)));
             within = added-within c i (h .within) r (taken-few l);
             same = length-set out i (numberOf (stepCheck r)) ∙ h .same;
           }

@@ -70,7 +70,7 @@ module _ {bytes was before after : List ℕ} {r : Acceptance} (a : Opens bytes w
 
     refused-run : {number place : ℕ} → whole ≡ refuses number place → Runs (runOf bytes was (length before) schedule answers) (RunRefused number place) was answers
     unfolding runOf
-    refused-run e = record { check = sym e; goes = record { totals = rw (runOf, e); state = rw (runOf, e); answers = rw (runOf, e) } }
+    refused-run e = record { check = sym e; reports = record { totals = rw (runOf, e); state = rw (runOf, e); answers = rw (runOf, e) } }
 
     pub run-refused : {number place : ℕ} → r ≡ Refused number place → Runs (runOf bytes was (length before) schedule answers) (RunRefused number place) was answers
     run-refused {number} {place} e = refused-run (append-refuses (stateChecks bytes was (length before)) (scheduleChecks schedule answers) (opens-is (Refused number place) e))
@@ -89,6 +89,6 @@ module _ {bytes was before after : List ℕ} {r : Acceptance} (a : Opens bytes w
       run-opened {c} {left} {out} f g =
           record {
             check = sym (later ∙ f);
-            goes = subst (λ (p : Progress). Reports p c left out)
+            reports = subst (λ (p : Progress). Reports p c left out)
                 (ap (λ (t : Table). ran t schedule (stepsOf schedule) (begun was answers)) (parts-table (a .opened n e)) ∙ sym (run-passes (later ∙ f))) g;
           }

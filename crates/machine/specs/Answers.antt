@@ -58,4 +58,4 @@ pub record Reports (p : Progress) (counts : Totals) (after bytes : List ℕ) : T
 -- and of a whole run
 pub record Runs (o : Rehearsal) (r : Ran) (after bytes : List ℕ) : Type 0 where
   pub check : runCheck r ≡ o .check
-  pub goes : Reports (o .progress) (runTotals r) after bytes
+  pub reports : Reports (o .progress) (runTotals r) after bytes

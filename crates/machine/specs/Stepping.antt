@@ -10,6 +10,6 @@ use Rattle.steps.specs.Steps.{Outcome, outcome, ownChecks, takenBy, after}
 abbrev pub ownStep : Table → List ℕ → ℕ → ℕ → ℕ → Outcome
 ownStep t was kind x number = outcome (firstOf (ownChecks t was kind x number)) was (takenBy t was kind x number) (after t was kind x number)
 
--- an offer that asks is a confirm, one that does not is a propagate
+-- the kind of an offer: 2 for a confirm, 1 for a propagate
 abbrev pub offerKind : Bool → ℕ
 offerKind confirming = cond confirming 2 1

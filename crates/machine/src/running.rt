@@ -12,7 +12,7 @@ ghost use Rattle.table.specs.Tables.{table, agentLimit};
 ghost use Rattle.choice.specs.Turns.{Prepared};
 ghost use Rattle.state.specs.WellFormed.{Proper};
 ghost use Rattle.steps.specs.Steps.{stepIn};
-ghost use Rattle.steps.specs.Runs.{stepsOf, kindOf, agentOf, numberIn, scheduleChecks, begun, ran, stepLimit};
+ghost use Rattle.steps.specs.Runs.{stepsOf, kindIn, agentIn, numberIn, scheduleChecks, begun, ran, stepLimit};
 ghost use Rattle.machine.specs.Answers.{stepCheck, stepTaken, Steps, Reports};
 ghost use Rattle.machine.specs.Running.{Runnable, TotalsWithin, tallied};
 
@@ -53,7 +53,7 @@ fn step_at(
     requires { ⌜ Prepared (table sizes (now kinds) (now operands)) (now scratch) ⌝ }
     requires { ⌜ Proper (table sizes (now kinds) (now operands)) (now state) ⌝ }
     requires { ⌜ (length (now schedule) ≡ 2 + 5 * n) × (n ≡ stepsOf (now schedule)) × (i < n) ⌝ }
-    ensures { λ r. ⌜ Steps (stepIn (table sizes (now (kinds .entry)) (now (operands .entry))) (now (state .entry)) (kindOf (now (schedule .entry)) i) (agentOf (now (schedule .entry)) i) (numberIn (now (schedule .entry)) i)) r (now (state .exit)) ⌝ }
+    ensures { λ r. ⌜ Steps (stepIn (table sizes (now (kinds .entry)) (now (operands .entry))) (now (state .entry)) (kindIn (now (schedule .entry)) i) (agentIn (now (schedule .entry)) i) (numberIn (now (schedule .entry)) i)) r (now (state .exit)) ⌝ }
 {
     let kind = schedule[2 + i];
     let at = 2 + n + 4 * i;

@@ -58,7 +58,7 @@ fn act_step(
     Stepped::Refused(refusal, 0)
 }
 
-// The set that an offer takes its key from: Zc where it asks, else Zp.
+// The set that a step takes its key from: Zc for a confirm, else Zp.
 fn pending(state: &[u32], agent: usize, confirming: bool) -> u32
     requires { ⌜ (length (now state) ≡ stateWords) × (agent < agentLimit) ⌝ }
     ensures { λ r. ⌜ r ≡ cond confirming (zcOf (now (state .entry)) agent) (zpOf (now (state .entry)) agent) ⌝ }
@@ -69,7 +69,7 @@ fn pending(state: &[u32], agent: usize, confirming: bool) -> u32
     state[zp_at(agent)]
 }
 
-// Propagate, or confirm where it asks.
+// Propagate, or confirm.
 fn offer_step(
     sizes: Sizes,
     kinds: &[u8],

@@ -28,7 +28,7 @@ pub fn propagate(
     taken
 }
 
-// The agent offers its entry, asks for a newer one, and no longer has to confirm the key: how many agents took the entry.
+// The agent offers its entry, agents with a newer one will propagate theirs, and it no longer has to confirm the key: how many agents took the entry.
 pub fn confirm(
     sizes: Sizes,
     kinds: &[u8],

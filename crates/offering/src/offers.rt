@@ -32,7 +32,7 @@ fn linked(
     link_holds(sizes, kinds, operands, state, key, agent, other)
 }
 
-// Offers an agent's entry to another: whether that one takes it. Where the agent asks, one that has a newer entry has to propagate it.
+// Offers an agent's entry to another: whether that one takes it. In a confirm, one that has a newer entry has to propagate it.
 fn offer(
     sizes: Sizes,
     kinds: &[u8],

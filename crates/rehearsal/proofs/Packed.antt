@@ -44,7 +44,7 @@ packedOf c = packedTotals (c .done) (c .refused) (c .taken)
 
 pub run-packs : {o : Rehearsal} {x : Ran} {after bytes : List ℕ} {r : ℕ} → Runs o x after bytes → r ≡ packed (runCheck x) (packedOf (runTotals x)) → RunPacked o r after bytes
 run-packs a e =
-    record { answer = e ∙ (λ i. packed (a .check i) (packedOf (a .goes .totals i))); state = a .goes .state; answers = a .goes .answers }
+    record { answer = e ∙ (λ i. packed (a .check i) (packedOf (a .reports .totals i))); state = a .reports .state; answers = a .reports .answers }
 
 pub run-place : {o : Rehearsal} {x : Ran} {after bytes : List ℕ} {number place : ℕ} → Runs o x after bytes → x ≡ RunRefused number place → Near (o .check) → place ≤ 4096
 run-place a e l = place-near (sym (ap (λ (y : Ran). runCheck y) e) ∙ a .check) l
@@ -52,4 +52,4 @@ run-place a e l = place-near (sym (ap (λ (y : Ran). runCheck y) e) ∙ a .check
 pub run-totals : {o : Rehearsal} {x : Ran} {after bytes : List ℕ} {counts : Totals} → Runs o x after bytes → x ≡ RunDone counts
     → (o .check ≡ passes → TotalsWithin 8192 (totalsOf (o .progress))) → TotalsWithin 8192 counts
 run-totals a e w =
-    subst (λ (c : Totals). TotalsWithin 8192 c) (sym (a .goes .totals) ∙ ap (λ (y : Ran). runTotals y) e) (w (sym (a .check) ∙ ap (λ (y : Ran). runCheck y) e))
+    subst (λ (c : Totals). TotalsWithin 8192 c) (sym (a .reports .totals) ∙ ap (λ (y : Ran). runTotals y) e) (w (sym (a .check) ∙ ap (λ (y : Ran). runCheck y) e))

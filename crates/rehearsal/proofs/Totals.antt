@@ -9,7 +9,7 @@ use Rattle.table.specs.Checks.{Check, passes, refuses, firstOf}
 use Rattle.table.specs.Tables.{Table, tableOf}
 use Rattle.table.proofs.Checks.{append-passes}
 use Rattle.steps.specs.Steps.{Outcome, stateChecks, stepIn, stepOf}
-use Rattle.steps.specs.Runs.{Progress, begun, added, ran, kindOf, agentOf, numberIn, stepsOf, scheduleChecks, runOf}
+use Rattle.steps.specs.Runs.{Progress, begun, added, ran, kindIn, agentIn, numberIn, stepsOf, scheduleChecks, runOf}
 use Rattle.steps.proofs.Steps.{state-checks, step-in, step-stopped}
 use Rattle.machine.specs.declared.Totals.{Totals}
 use Rattle.machine.specs.Answers.{totals}
@@ -36,8 +36,8 @@ module _ (t : Table) (few : t .sizes .agents ≤ 32) (schedule was answers : Lis
   ran-within zero = record { done = omega arith; refused = omega arith; taken = omega arith }
   ran-within (suc n) =
       let p : Progress = ran t schedule n (begun was answers) in
-      let b = step-bound t (p .state) (kindOf schedule n) (agentOf schedule n) (numberIn schedule n) in
-      added-within n n p (stepIn t (p .state) (kindOf schedule n) (agentOf schedule n) (numberIn schedule n)) (ran-within n) (omega arith)
+      let b = step-bound t (p .state) (kindIn schedule n) (agentIn schedule n) (numberIn schedule n) in
+      added-within n n p (stepIn t (p .state) (kindIn schedule n) (agentIn schedule n) (numberIn schedule n)) (ran-within n) (omega arith)
 
 module _ (bytes was : List ℕ) (scratch : ℕ) (schedule answers : List ℕ) where
   pub run-within : runOf bytes was scratch schedule answers .check ≡ passes → TotalsWithin 8192 (totalsOf (runOf bytes was scratch schedule answers .progress))

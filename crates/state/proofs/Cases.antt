@@ -43,7 +43,7 @@ faulty =
     ∷ addKey (zcAt 1) 0 (withEntry 3)  -- a key to confirm without an entry
     ∷ addKey (zpAt 1) 0 (withEntry 3)  -- a key to propagate without an entry
     ∷ set (loaded t) (residualAt 1) 4  -- node 4 is no process
-    ∷ set (loaded t) (lengthAt 1) 2  -- two terms
+    ∷ set (loaded t) (lengthAt 1) 2  -- a word too many
     ∷ set (loaded t) (lengthAt 1) 0  -- none
     ∷ set (loaded t) (residualAt 1 + 1) 3  -- a word after the residual
     ∷ set (loaded t) (blockAt 2) 1  -- a word of an agent past the last

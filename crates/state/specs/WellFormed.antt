@@ -19,7 +19,7 @@ allZero [] = true
 allZero (w ∷ ws) = eqb w 0 && allZero ws
 
 module _ (s : List ℕ) where
-  -- pair k of a store of so many keys: no mark is over the highest, absent has value 0, a key that there is not is absent
+  -- pair k of a store of so many keys: no mark is over the highest, absent has value 0, a key that the table does not have is absent
   unfoldable pub pairFormed : Store → ℕ → ℕ → ℕ → Bool
   pairFormed store highest keys k =
       leb (markOf s store k) highest

@@ -3,12 +3,16 @@
 use mathlib.Core.Path.{_≡_, refl, sym, ap, _∙_}
 use mathlib.Core.List.{List, _++_}
 use Prim.Native.Nat.{ℕ}
+use lib.ListN.{length}
 use Rattle.table.specs.Checks.{Check, passes, refuses, firstOf}
 use Rattle.table.specs.Tables.{tableOf}
 use Rattle.table.proofs.Checks.{append-later, append-refuses}
+use Rattle.term.specs.Acceptance.{tableChecks}
+use Rattle.state.specs.WellFormed.{loaded}
 use Rattle.steps.specs.Steps.{Outcome, stateChecks, stepChecks, stepOf}
 use Rattle.steps.specs.Orders.{InOrder}
-use Rattle.steps.proofs.Steps.{step-in, in-check, step-stopped}
+use Rattle.steps.specs.Runs.{runOf}
+use Rattle.steps.proofs.Steps.{outcome-check, step-in, in-check, step-stopped}
 
 step-first : (bytes was : List ℕ) (scratch kind x number : ℕ)
     → stepOf bytes was scratch kind x number .check ≡ firstOf (stateChecks bytes was scratch ++ stepChecks (tableOf bytes) was kind x number)
@@ -24,6 +28,7 @@ step-first bytes was scratch kind x number = by (firstOf (stateChecks bytes was 
         ∙ sym (append-refuses (stateChecks bytes was scratch) (stepChecks (tableOf bytes) was kind x number) e)
 
 pub in-order : InOrder
+unfolding runOf
 in-order =
     record {
       load = λ bytes stateLength scratch. refl;
@@ -32,5 +37,7 @@ in-order =
       propagate = λ t was x k. refl;
       confirm = λ t was x k. refl;
       run = λ schedule answers. refl;
-      step = step-first;
+      of-load = λ bytes was scratch. outcome-check was 0 (loaded (tableOf bytes)) (firstOf (tableChecks bytes (length was) scratch));
+      of-step = step-first;
+      of-run = λ bytes was scratch schedule answers. refl;
     }

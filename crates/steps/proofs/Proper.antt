@@ -24,7 +24,7 @@ use Rattle.state.proofs.Formed.{ProperFacts, well-formed-read, well-formed-test
 use Rattle.state.proofs.Load.{loaded-proper}
 use Rattle.steps.specs.Acts.{chosen, actChecks, acted}
 use Rattle.steps.specs.Offers.{offered}
-use Rattle.steps.specs.Runs.{Progress, ran, kindOf, agentOf, numberIn, added}
+use Rattle.steps.specs.Runs.{Progress, ran, kindIn, agentIn, numberIn, added}
 use Rattle.term.specs.Acceptance.{tableChecks}
 use Rattle.steps.specs.Steps.{outcome, outOfRange, ownChecks, after, takenBy, stepIn, stateChecks}
 use Rattle.steps.proofs.Steps.{InRange, in-range, act-able, propagates, confirms, state-checks}
@@ -68,9 +68,9 @@ pub ran-proper : (t : Table) → Sound t → ((i : ℕ) → getD (t .operands) i
     → ProperFacts t (start .state) → ProperFacts t (ran t schedule n start .state)
 unfolding ran
 ran-proper t sound bytes schedule n start h =
-    forEach-keeps (λ (i : ℕ) (p : Progress). added i p (stepIn t (p .state) (kindOf schedule i) (agentOf schedule i) (numberIn schedule i)))
+    forEach-keeps (λ (i : ℕ) (p : Progress). added i p (stepIn t (p .state) (kindIn schedule i) (agentIn schedule i) (numberIn schedule i)))
     (λ (p : Progress). ProperFacts t (p .state)) n
-    (λ i l p q. step-proper t sound bytes (p .state) q (kindOf schedule i) (agentOf schedule i) (numberIn schedule i)) start h
+    (λ i l p q. step-proper t sound bytes (p .state) q (kindIn schedule i) (agentIn schedule i) (numberIn schedule i)) start h
 
 -- CALLS. A load that is done
 pub load-proper : (bytes : List ℕ) (stateLength scratch : ℕ) → firstOf (tableChecks bytes stateLength scratch) ≡ passes → ProperFacts (tableOf bytes) (loaded (tableOf bytes))

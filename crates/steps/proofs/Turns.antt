@@ -37,9 +37,9 @@ module _ (t : Table) (was : List ℕ) (x k : ℕ) (confirming : Bool) (key : k <
       (record { attributes = values (Attributes x) (λ p h e f. mine p h f); entries = values (Entries x) (λ p h e f. mine p h f) })
       (record { attributes = values (Attributes y) (λ p h e f. theirs p h f); entries = values (Entries y) (λ p h e f. theirs p h f) }) k
 
-  pub hears-judged : linked t now x k y ≡ linked t was x k y
+  pub linked-judged : linked t now x k y ≡ linked t was x k y
   unfolding linked
-  hears-judged = rw link-judged
+  linked-judged = rw link-judged
 
   my-stamp : stampOf now x k ≡ stampOf was x k
   my-stamp = mine (Mark (Entries x) k) key refl
@@ -49,11 +49,11 @@ module _ (t : Table) (was : List ℕ) (x k : ℕ) (confirming : Bool) (key : k <
 
   pub takes-judged : takes t now x k y ≡ takes t was x k y
   unfolding takes
-  takes-judged = rw (hears-judged, my-stamp, their-stamp)
+  takes-judged = rw (linked-judged, my-stamp, their-stamp)
 
   pub answers-judged : holdsNewer t now x k y ≡ holdsNewer t was x k y
   unfolding holdsNewer
-  answers-judged = rw (hears-judged, my-stamp, their-stamp)
+  answers-judged = rw (linked-judged, my-stamp, their-stamp)
 
   pub offer-judged : (s : List ℕ) → offer t now x k confirming y s ≡ offer t was x k confirming y s
   unfolding offer

@@ -98,7 +98,7 @@ module _ (t : Table) (was : List ℕ) (x : ℕ) where
       ∷ refuseIf 14 (not (allHold (chosen c .guards)))
       ∷ lastChecks (chosen c .label) (length (words (chosen c .leaving)))
 
-  -- what Zc gains: those that had an entry before (house rule: a key without one could never be confirmed)
+  -- Zc gains the stigmergy keys of the guards and the expression that had an entry before (house rule: a key without one could never be confirmed)
   abbrev pub toConfirm : Derivation → ℕ → Bool
   toConfirm d k = (guardsRead t (d .guards) k || labelReads t (d .label) k) && ltb 0 (stampOf was x k)
 

@@ -8,7 +8,7 @@ use Rattle.value.specs.declared.Value.{Value}
 use Rattle.value.specs.declared.Value.the-variants.{Absent, Present}
 use Rattle.table.specs.Checks.{numberOf}
 use Rattle.table.specs.Tables.{Table, tableOf}
-use Rattle.term.specs.Terms.{Node, words}
+use Rattle.term.specs.Terms.{Node, parWord, tickWord, words}
 use Rattle.term.specs.Processes.{Derivation, derivations, process}
 use Rattle.term.specs.Acceptance.{stateWords}
 use Rattle.state.specs.declared.Store.the-variants.{Attributes, Entries}
@@ -38,7 +38,7 @@ abbrev pub scratch : ℕ
 scratch = 64
 
 -- the loaded state at clock 4, where agent 0 has attribute 0 = 1, so that its link to agent 1 holds and the other way doesn't,
--- agent 0 holds (v, u) and agent 1 holds (w, z) for key 0, which is in the set of agent 0 at a place
+-- agent 0 holds (v, u) and agent 1 holds (w, z) for key 0, which is in agent 0's set that stands at a place
 abbrev pub holding : ℕ → ℕ → ℕ → ℕ → ℕ → List ℕ
 holding at v u w z =
     set (addKey at 0 (put (Entries 1) 0 w z (put (Entries 0) 0 v u (put (Attributes 0) 0 1 1 (loaded t))))) clockAt 4
@@ -68,9 +68,9 @@ leftBy (d ∷ ds) = length (words (d .leaving)) ∷ (words (d .leaving) ++ leftB
 abbrev pub leaving : ℕ → List ℕ
 leaving n = leftBy (derivations (process t (Node n)))
 
--- guard n holds, and expression n's value, present or not, and the word: in the loaded state
-abbrev pub holding? : ℕ → ℕ
-holding? n = bit (holds t (loaded t) 0 0 n)
+-- in the loaded state: whether guard n holds; expression n's value as two words, present and the word
+abbrev pub guardBit : ℕ → ℕ
+guardBit n = bit (holds t (loaded t) 0 0 n)
 
 abbrev pub valueWords : Value → List ℕ
 valueWords Absent = 0 ∷ 0 ∷ []
@@ -96,9 +96,9 @@ examples =
     ∷ (propagating 9 4 5 3 gives 0 ∷ 1 ∷ 9 ∷ 4 ∷ 0 ∷ 0 ∷ 9 ∷ 4 ∷ 0 ∷ 1 ∷ [])  -- (b) offered (9, 4): taken
     ∷ (propagating 5 3 0 0 gives 0 ∷ 1 ∷ 5 ∷ 3 ∷ 0 ∷ 0 ∷ 5 ∷ 3 ∷ 0 ∷ 1 ∷ [])  -- (c) none stored, offered (5, 3): taken
     ∷ (length (derivations (process t (Node 8))) ∷ [] gives 2 ∷ [])  -- (d) tick|tick has 2 choices
-    ∷ (leaving 12 gives 3 ∷ 65534 ∷ 65533 ∷ 11 ∷ 1 ∷ 65533 ∷ [])  -- (e) action|tick has 2, leaving 3 words and 1 word
-    ∷ (leaving 17 gives 3 ∷ 65534 ∷ 65533 ∷ 16 ∷ 3 ∷ 65534 ∷ 14 ∷ 65533 ∷ [])  -- (f) a|b leaves tick|b, then a|tick
-    ∷ (holding? 3 ∷ holding? 5 ∷ [] gives 0 ∷ 1 ∷ [])  -- (g) not (attribute = 1), attribute absent: doesn't hold; the same or true: holds
+    ∷ (leaving 12 gives 3 ∷ parWord ∷ tickWord ∷ 11 ∷ 1 ∷ tickWord ∷ [])  -- (e) action|tick has 2, leaving 3 words and 1 word
+    ∷ (leaving 17 gives 3 ∷ parWord ∷ tickWord ∷ 16 ∷ 3 ∷ parWord ∷ 14 ∷ tickWord ∷ [])  -- (f) a|b leaves tick|b, then a|tick
+    ∷ (guardBit 3 ∷ guardBit 5 ∷ [] gives 0 ∷ 1 ∷ [])  -- (g) not (attribute = 1), attribute absent: doesn't hold; the same or true: holds
     ∷ (value 24 gives 0 ∷ 0 ∷ [])  -- (h) 2,147,483,647 + 1 is absent
     ∷ (value 27 gives 1 ∷ (2 ^ 32 - 1) ∷ [])  -- (i) -7 remainder 3 is -1
     ∷ (confirming 5 3 9 4 gives 0 ∷ 0 ∷ 5 ∷ 3 ∷ 0 ∷ 0 ∷ 9 ∷ 4 ∷ 0 ∷ 1 ∷ [])  -- (j) asker (5, 3), other (9, 4): nobody's entry changes, the other gains the key in Zp

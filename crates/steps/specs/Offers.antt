@@ -29,7 +29,7 @@ module _ (t : Table) (was : List ℕ) (x k : ℕ) where
   unfoldable pub holdsNewer : ℕ → Bool
   holdsNewer y = linked y && newer was k y x
 
-  -- what an offer does to y; where it asks, a newer one only gains the key in Zp
+  -- what an offer does to y; in a confirm, a linked agent with a newer entry only gains the key in Zp
   unfoldable pub offer : Bool → ℕ → List ℕ → List ℕ
   offer confirming y s =
       cond (takes y) (takeEntry k (wordOf was (Entries x) k) (stampOf was x k) y s)

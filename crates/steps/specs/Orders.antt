@@ -2,11 +2,12 @@
 use Prim.Native.Nat.{ℕ}
 use mathlib.Core.Path.{_≡_}
 use mathlib.Core.List.{List, [], _∷_, _++_, map}
+use lib.ListN.{length}
 use Rattle.table.specs.Checks.{Refusal, firstOf}
 use Rattle.table.specs.Tables.{Table, tableOf}
 use Rattle.term.specs.Acceptance.{tableChecks}
-use Rattle.steps.specs.Steps.{stepChecks, stateChecks, stepOf}
-use Rattle.steps.specs.Runs.{scheduleChecks}
+use Rattle.steps.specs.Steps.{stepChecks, stateChecks, loadOf, stepOf}
+use Rattle.steps.specs.Runs.{scheduleChecks, runOf}
 
 abbrev pub numbers : List Refusal → List ℕ
 numbers rs = map (λ (r : Refusal). r .number) rs
@@ -18,6 +19,9 @@ pub record InOrder : Type 0 where
   pub propagate : (t : Table) (was : List ℕ) (x k : ℕ) → numbers (stepChecks t was 1 x k) ≡ 10 ∷ 18 ∷ []
   pub confirm : (t : Table) (was : List ℕ) (x k : ℕ) → numbers (stepChecks t was 2 x k) ≡ 10 ∷ 18 ∷ []
   pub run : (schedule answers : List ℕ) → numbers (scheduleChecks schedule answers) ≡ 19 ∷ 20 ∷ []
-  -- a step's checks are one list, and the first that refuses decides
-  pub step : (bytes was : List ℕ) (scratch kind x number : ℕ) →
+  -- each call's checks are one list, and the first that refuses decides: load's, a step's, and run's
+  pub of-load : (bytes was : List ℕ) (scratch : ℕ) → loadOf bytes was scratch .check ≡ firstOf (tableChecks bytes (length was) scratch)
+  pub of-step : (bytes was : List ℕ) (scratch kind x number : ℕ) →
       stepOf bytes was scratch kind x number .check ≡ firstOf (stateChecks bytes was scratch ++ stepChecks (tableOf bytes) was kind x number)
+  pub of-run : (bytes was : List ℕ) (scratch : ℕ) (schedule answers : List ℕ) →
+      runOf bytes was scratch schedule answers .check ≡ firstOf (stateChecks bytes was scratch ++ scheduleChecks schedule answers)

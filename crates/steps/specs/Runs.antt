@@ -17,11 +17,11 @@ stepLimit = 8192
 abbrev pub stepsOf : List ℕ → ℕ
 stepsOf schedule = u16At schedule 0
 
-abbrev pub kindOf : List ℕ → ℕ → ℕ
-kindOf schedule i = getD schedule (2 + i) 0
+abbrev pub kindIn : List ℕ → ℕ → ℕ
+kindIn schedule i = getD schedule (2 + i) 0
 
-abbrev pub agentOf : List ℕ → ℕ → ℕ
-agentOf schedule i = u16At schedule (2 + stepsOf schedule + 4 * i)
+abbrev pub agentIn : List ℕ → ℕ → ℕ
+agentIn schedule i = u16At schedule (2 + stepsOf schedule + 4 * i)
 
 abbrev pub numberIn : List ℕ → ℕ → ℕ
 numberIn schedule i = u16At schedule (2 + stepsOf schedule + 4 * i + 2)
@@ -59,7 +59,7 @@ added i p o =
 -- steps 0 to n - 1
 unfoldable pub ran : Table → List ℕ → ℕ → Progress → Progress
 ran t schedule n start =
-    forEach (λ (i : ℕ) (p : Progress). added i p (stepIn t (p .state) (kindOf schedule i) (agentOf schedule i) (numberIn schedule i))) n start
+    forEach (λ (i : ℕ) (p : Progress). added i p (stepIn t (p .state) (kindIn schedule i) (agentIn schedule i) (numberIn schedule i))) n start
 
 -- what a run comes to: its check and totals, the state and the answer bytes after. A refused run changes neither
 pub record Rehearsal : Type 0 where

@@ -76,7 +76,7 @@ module _ (t : Table) where
   rules (PAR₂-COMM e m n) = rw e (inr (inr (inr (_, _, _, _, (m, refl), n, refl, refl))))
   rules (AWAIT e m) = rw e (_, _, m, refl, refl)
 
-  -- an action's label is one, and a tick's is ticks
+  -- a label that does not tick is `Acting n`, and one that does is `Ticking`
   of-action : (l : Label) (A B : Label → Type 0) → ((n : ℕ) → A (Acting n) → B (Acting n)) → not (labelTicks l) ≡ true → A l → B l
   of-action Ticking A B f h = absurd (not-both h refl)
   of-action (Acting n) A B f h = f n

@@ -77,7 +77,7 @@ pub record Covered : Type 0 where
   pub loads : loadOf (ranged 3 1) (replicate stateWords 0) 24 .check ≡ passes
   pub not-always : HeldBeforeSteps (ranged 3 1) inRange 0 0 1 → ⊥
   pub held : HeldBeforePropagates (ranged 3 1) (loaded (tableOf (ranged 3 1))) inRange 0 0 1
-  pub taken : pairOf (stateAfter (ranged 3 1) inRange) 0 1 ≡ record { value = 7; stamp = 1 }
+  pub has-entry : pairOf (stateAfter (ranged 3 1) inRange) 0 1 ≡ record { value = 7; stamp = 1 }
 
 pub covered : Covered
 unfolding below someBelow every lowest howMany forEach has plus minus plusAll firstOf withinLimits processRows guardRows expressionRows rowOf fieldsHere fits fitting named namesAgain badNode reachStep reachedFrom wrongKey words termsOf areTerms keep joins derivations nodeStep nodeWith defined nodeProcess process allFew canTick callsBelow valueIn put addKey dropKey valueStep truthStep readsStep allZero pairFormed pendingFormed residualFormed agentFormed wellFormed loaded leave setKey acted takeEntry linked takes holdsNewer offer outcome stepIn stepOf
@@ -85,5 +85,5 @@ covered = record {
   loads = refl;
   not-always = λ h. not-both (h .0) refl;
   held = (λ p. absurd (omega arith), (λ p. absurd (omega arith), (λ p. refl, tt)));
-  taken = refl;
+  has-entry = refl;
 }

@@ -1,5 +1,5 @@
--- What agents can rely on whose links do not always hold, beside demand 3: the key's link is asked before the done propagates of the key by its sender,
--- and before no other step.
+-- Beside demand 3: what agents can rely on where the link between them does not always hold. It has to hold before each done propagate of the
+-- key by its sender, and before no other step.
 use Prim.Native.Nat.{ℕ, _<_}
 use mathlib.Core.Bool.{true, false}
 use mathlib.Core.Path.{_≡_}

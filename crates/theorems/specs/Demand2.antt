@@ -21,8 +21,8 @@ use Rattle.labs.specs.Systems.{Acted, Passed, put, qry, between}
 use Rattle.labs.specs.Reading.{systemOf, initial}
 use Rattle.theorems.specs.Run.{Run}
 
--- The step (kind, agent, number) may take S to S′, and this many agents take an entry: a rule gives it, and so do the limits,
--- 65,535 derivations of every subterm of the residual, the clock at most 65,535, and 63 words of what is left
+-- The step (kind, agent, number) may take S to S′, and this many agents take an entry: a rule gives it and the limits allow it:
+-- at most 65,535 derivations of every subterm of the residual, a clock of at most 65,535, at most 63 words left
 pub data Allowed (t : Table) (S S′ : System) : ℕ → ℕ → ℕ → ℕ → Type 0 where
   act : {x c : ℕ} {d : Derivation} → Acted t (t .sizes .agents) x d S S′ → getElem? (derivations (process t (S .agent x .P))) c ≡ some d →
       ((P : Term) → Subterm P (S .agent x .P) → length (derivations (process t P)) ≤ 65535) →

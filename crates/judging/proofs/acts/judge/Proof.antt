@@ -4,7 +4,7 @@ use native.Mathlib.Omega.{arith}
 use borrow.Author.Needs.{needs}
 use denote.Ref.{now}
 use Rattle.table.specs.Tables.{Table, table}
-use Rattle.judging.proofs.Choosing.{agent-11, agent-posed}
+use Rattle.judging.proofs.Choosing.{agent-11, agent-given}
 use Rattle.judging.proofs.acts.judge.Statement.{statement}
 use Rattle.judging.proofs.acts.judge.Tie as tie
 
@@ -70,7 +70,7 @@ part-judge-choice-end c = search needs
 judge-choice-requires : tie.Need-judge-choice-requires
 judge-choice-requires c κs =
     let a = c .before .before .before .before .before .before .before .before .before .before .before .before .before .before .before in (
-      agent-posed (here a) (now (a .args .state)) (a .args .agent) _ _ (c .before .before .before .before .before .before .before .before .before .zc-at .ensures .is) (c .before .before .before .before .before .before .before .before .zp-at .ensures .is) (c .before .before .before .before .before .if1 .left) (a .pre .0) (a .pre .1 .0) (a .pre .1 .1 .0) _ (c .before .before .before .before .length-at .ensures .is) _ (c .before .before .residual-at .ensures .is),
+      agent-given (here a) (now (a .args .state)) (a .args .agent) _ _ (c .before .before .before .before .before .before .before .before .before .zc-at .ensures .is) (c .before .before .before .before .before .before .before .before .zp-at .ensures .is) (c .before .before .before .before .before .if1 .left) (a .pre .0) (a .pre .1 .0) (a .pre .1 .1 .0) _ (c .before .before .before .before .length-at .ensures .is) _ (c .before .before .residual-at .ensures .is),
       a .pre .1 .1 .1,
     )
 

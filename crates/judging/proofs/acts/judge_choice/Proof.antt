@@ -7,7 +7,7 @@ use denote.Ref.{now}
 use Rattle.table.specs.Tables.{Table, table}
 use Rattle.residual.specs.Wholes.{Taking, residualTerm}
 use Rattle.judging.proofs.Asking.{unmarked-marks}
-use Rattle.judging.proofs.Choosing.{whole-residual, agent-12, agent-13, agent-taking, agent-asks, agent-14, agent-doing, agent-last}
+use Rattle.judging.proofs.Choosing.{whole-residual, agent-12, agent-13, agent-taking, agent-guards, agent-14, agent-doing, agent-last}
 use Rattle.judging.proofs.acts.judge_choice.Statement.{statement}
 use Rattle.judging.proofs.acts.judge_choice.Tie as tie
 
@@ -48,7 +48,7 @@ collect-requires c κs =
     (a .pre .0 .ready, (whole-residual (a .pre .0), (taking (c .before), unmarked-marks (here a) (now (a .args .marks)) (a .pre .1))))
 
 all-hold-requires : tie.Need-all-hold-requires
-all-hold-requires c κs = let a = c .before .before .before .before .before .before .before .before .before .before .before .before .before .before .before .before in agent-asks (a .pre .0) (a .args .c) (taking (c .before .before .before .before .before)) (a .pre .1) (c .before .before .before .collect .ensures)
+all-hold-requires c κs = let a = c .before .before .before .before .before .before .before .before .before .before .before .before .before .before .before .before in agent-guards (a .pre .0) (a .args .c) (taking (c .before .before .before .before .before)) (a .pre .1) (c .before .before .before .collect .ensures)
 
 refused-requires-3 : tie.Need-refused-requires-3
 refused-requires-3 c κs = search needs

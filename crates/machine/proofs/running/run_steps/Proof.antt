@@ -111,7 +111,7 @@ returns c =
     let h = c .before .loop .inv in
     let u : c .before .before .u16-at .result ≡ stepsOf (schedule a) = c .before .before .u16-at .ensures .is in
     let e : c .before .loop .i ≡ stepsOf (schedule a) = omega arith in
-    subst (λ (i : ℕ). Reports (ran (T a) (schedule a) i (begun (was a) (bytes a))) (c .before .loop .totals) (c .before .loop .state) (c .before .loop .answers)) e (h .0 .goes)
+    subst (λ (i : ℕ). Reports (ran (T a) (schedule a) i (begun (was a) (bytes a))) (c .before .loop .totals) (c .before .loop .state) (c .before .loop .answers)) e (h .0 .reports)
 
 pub run-steps-spec : {M : Type 1} → statement M
 run-steps-spec =

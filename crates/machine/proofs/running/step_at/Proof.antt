@@ -7,7 +7,7 @@ use denote.Ref.{now}
 use Rattle.basis.specs.Bytes.{u16At}
 use Rattle.table.specs.Tables.{Table, table}
 use Rattle.steps.specs.Steps.{stepIn}
-use Rattle.steps.specs.Runs.{stepsOf, kindOf, agentOf, numberIn}
+use Rattle.steps.specs.Runs.{stepsOf, kindIn, agentIn, numberIn}
 use Rattle.machine.specs.Answers.{Steps}
 use borrow.Author.Needs.{needs}
 use Rattle.machine.proofs.running.step_at.Statement.{statement}
@@ -20,7 +20,7 @@ abbrev schedule : tie.Start → List ℕ
 schedule a = now (a .args .schedule)
 
 -- the agent and the number, as they are read
-agent-is : (a : tie.Start) {r : ℕ} → r ≡ u16At (schedule a) (2 + a .args .n + 4 * a .args .i) → r ≡ agentOf (schedule a) (a .args .i)
+agent-is : (a : tie.Start) {r : ℕ} → r ≡ u16At (schedule a) (2 + a .args .n + 4 * a .args .i) → r ≡ agentIn (schedule a) (a .args .i)
 agent-is a e = e ∙ ap (λ (n : ℕ). u16At (schedule a) (2 + n + 4 * a .args .i)) (a .pre .1 .1 .1)
 
 number-is : (a : tie.Start) {r : ℕ} → r ≡ u16At (schedule a) (2 + a .args .n + 4 * a .args .i + 2) → r ≡ numberIn (schedule a) (a .args .i)
@@ -61,8 +61,8 @@ returns c =
     let a = c .before .before .before .before .before .before .before .before .before .before .before .before in
     let x = agent-is a (c .before .before .before .before .before .u16-at .ensures .is) in
     let k = number-is a (c .before .before .before .before .u16-at2 .ensures .is) in
-    subst (λ (m : ℕ). Steps (stepIn (T a) (now (a .args .state)) (kindOf (schedule a) (a .args .i)) (agentOf (schedule a) (a .args .i)) m) (c .before .before .step-in .result) (c .before .before .step-in .last .1 .1 .1 .1 .0)) k
-    (subst (λ (y : ℕ). Steps (stepIn (T a) (now (a .args .state)) (kindOf (schedule a) (a .args .i)) y (c .before .before .before .before .u16-at2 .result)) (c .before .before .step-in .result) (c .before .before .step-in .last .1 .1 .1 .1 .0)) x
+    subst (λ (m : ℕ). Steps (stepIn (T a) (now (a .args .state)) (kindIn (schedule a) (a .args .i)) (agentIn (schedule a) (a .args .i)) m) (c .before .before .step-in .result) (c .before .before .step-in .last .1 .1 .1 .1 .0)) k
+    (subst (λ (y : ℕ). Steps (stepIn (T a) (now (a .args .state)) (kindIn (schedule a) (a .args .i)) y (c .before .before .before .before .u16-at2 .result)) (c .before .before .step-in .result) (c .before .before .step-in .last .1 .1 .1 .1 .0)) x
     (c .before .before .step-in .ensures))
 
 pub step-at-spec : {M : Type 1} → statement M

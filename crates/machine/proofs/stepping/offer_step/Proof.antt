@@ -29,7 +29,7 @@ waits : (a : tie.Start) {keys : ℕ} {h : Bool} → keys ≡ cond (a .args .conf
     → has (cond (a .args .confirming) (zcOf (was a) (a .args .agent)) (zpOf (was a) (a .args .agent))) (a .args .key) ≡ h
 waits a e f = ap (λ (w : ℕ). has w (a .args .key)) (sym e) ∙ sym f
 
--- an offer that asks, or does not
+-- a confirm, or a propagate
 abbrev Steps-as : tie.Start → Bool → Stepped → List ℕ → Type 0
 Steps-as a confirming r left = Steps (ownStep (T a) (was a) (offerKind confirming) (a .args .agent) (a .args .key)) r left
 
