@@ -1,26 +1,26 @@
 -- Answers of checks in order.
 -- Assumes nothing.
-use Prim.Native.Nat.{ℕ, _+_, _-_, _*_, _≤_, _<_}
-use mathlib.Core.Bool.{Bool, true, false, cond, not, _||_}
-use mathlib.Core.Path.{_≡_, refl, sym, ap, subst, _∙_}
+use Prim.Native.Nat.{ℕ, _+_, _-_, _≤_, _<_}
+use mathlib.Core.Bool.{Bool, true, false, not, _||_}
+use mathlib.Core.Path.{_≡_, refl, sym, ap, _∙_}
 use mathlib.Core.List.{List, [], _∷_}
 use native.Mathlib.Omega.{arith}
-use lib.Dec.{ltb, eqb}
+use lib.Dec.{ltb}
 use lib.ListN.{length, take, drop}
-use borrow.Author.Tests.{lt-ltb, le-ltb, eq-eqb, ne-eqb}
+use borrow.Author.Tests.{lt-ltb, le-ltb}
 use Rattle.basis.specs.Numbers.{lowest}
 use Rattle.basis.proofs.Lists.{take-rest}
 use Rattle.basis.proofs.Numbers.{lowest-before, lowest-bound}
 use Rattle.table.specs.declared.Sizes.{Sizes}
 use Rattle.table.specs.declared.Measured.{Measured}
 use Rattle.table.specs.declared.Measured.the-variants.{Fine as MeasuredFine, Refused as MeasuredRefused}
-use Rattle.table.specs.Checks.{Check, passes, refuses, Refusal, refuseAt, firstOf}
+use Rattle.table.specs.Checks.{passes, refuses, Refusal, refuseAt, firstOf}
 use Rattle.table.specs.Tables.{Table, table, sizesOf, tableOf}
 use Rattle.table.specs.Measuring.{kindsOf, operandsOf, measuredCheck, sizeChecks, Measure}
 use Rattle.table.proofs.Checks.{first-later, first-refuses, append-later, append-refuses}
 use Rattle.table.proofs.Limits.{kinds-part}
 use Rattle.term.specs.Exposure.{badCall}
-use Rattle.term.specs.Acceptance.{stateWords}
+use Rattle.term.specs.Acceptance.{scratchWords}
 use Rattle.term.specs.Parts.{contentChecks, lentCheck}
 use Rattle.term.specs.Accepted.{Acceptable}
 use Rattle.term.proofs.Acceptance.{passes-accepted}
@@ -74,18 +74,18 @@ lent-table bytes n e =
     ap (λ (m : Sizes). table m (kindsOf bytes (m .nodes)) (operandsOf bytes (m .nodes))) e
 
 -- 8
-module _ (bytes : List ℕ) (stateLength scratchLength : ℕ) where
+module _ (bytes : List ℕ) (fits : Bool) (scratchLength : ℕ) where
   abbrev short : Bool
-  short = not (eqb stateLength stateWords) || ltb scratchLength (2 * sizesOf bytes .nodes)
+  short = not fits || ltb scratchLength (scratchWords (sizesOf bytes))
 
-  pub lent-state : (stateLength ≡ stateWords → ⊥) → short ≡ true
-  lent-state h = rw (ne-eqb stateLength stateWords h)
+  pub lent-not : fits ≡ false → short ≡ true
+  lent-not e = rw e
 
-  pub lent-short : stateLength ≡ stateWords → scratchLength < 2 * sizesOf bytes .nodes → short ≡ true
-  lent-short e h = rw (eq-eqb stateLength stateWords e, lt-ltb scratchLength (2 * sizesOf bytes .nodes) h)
+  pub lent-short : fits ≡ true → scratchLength < scratchWords (sizesOf bytes) → short ≡ true
+  lent-short e h = rw (e, lt-ltb scratchLength (scratchWords (sizesOf bytes)) h)
 
-  pub lent-enough : stateLength ≡ stateWords → 2 * sizesOf bytes .nodes ≤ scratchLength → short ≡ false
-  lent-enough e h = rw (eq-eqb stateLength stateWords e, le-ltb scratchLength (2 * sizesOf bytes .nodes) h)
+  pub lent-enough : fits ≡ true → scratchWords (sizesOf bytes) ≤ scratchLength → short ≡ false
+  lent-enough e h = rw (e, le-ltb scratchLength (scratchWords (sizesOf bytes)) h)
 
 -- 1 to 3
 module _ {bytes : List ℕ} {m : Measured} (measured : Measure bytes m) where
@@ -96,27 +96,27 @@ module _ {bytes : List ℕ} {m : Measured} (measured : Measure bytes m) where
   size-passes {n} e = measured-is (MeasuredFine n) e
 
   -- the whole
-  module _ (stateLength : ℕ) {before after : List ℕ} (same : length after ≡ length before) where
-    pub accepts-refused : {number place : ℕ} → m ≡ MeasuredRefused number place → Accepts bytes stateLength before after (Refused number place)
+  module _ (fits : Bool) {before after : List ℕ} (same : length after ≡ length before) where
+    pub accepts-refused : {number place : ℕ} → m ≡ MeasuredRefused number place → Accepts bytes fits before after (Refused number place)
     accepts-refused {number} {place} e =
         record {
-          check = sym (append-refuses (sizeChecks bytes) (lentCheck bytes stateLength (length before) ∷ contentChecks (tableOf bytes)) (measured-is (MeasuredRefused number place) e));
+          check = sym (append-refuses (sizeChecks bytes) (lentCheck bytes fits (length before) ∷ contentChecks (tableOf bytes)) (measured-is (MeasuredRefused number place) e));
           sizes = λ n f. absurd (not-accepted f);
           counted = λ n f. absurd (not-accepted f);
           same-length = same;
         }
 
     pub accepts-judged : {n : Sizes} {r : Acceptance} → m ≡ MeasuredFine n
-        → Judged (tableOf bytes) (lentCheck bytes stateLength (length before) ∷ contentChecks (tableOf bytes)) after r → Accepts bytes stateLength before after r
+        → Judged (tableOf bytes) (lentCheck bytes fits (length before) ∷ contentChecks (tableOf bytes)) after r → Accepts bytes fits before after r
     accepts-judged e j =
         record {
-          check = j .check ∙ sym (append-later (sizeChecks bytes) (lentCheck bytes stateLength (length before) ∷ contentChecks (tableOf bytes)) (size-passes e));
+          check = j .check ∙ sym (append-later (sizeChecks bytes) (lentCheck bytes fits (length before) ∷ contentChecks (tableOf bytes)) (size-passes e));
           sizes = j .sizes;
           counted = j .counted;
           same-length = same;
         }
 
 -- what may be relied on of an accepted table
-pub accepted-table : {bytes : List ℕ} {stateLength : ℕ} {before after : List ℕ} {r : Acceptance} {n : Sizes}
-    → Accepts bytes stateLength before after r → r ≡ Accepted n → Acceptable bytes stateLength (length before)
-accepted-table {bytes} {stateLength} {before} a e = passes-accepted bytes stateLength (length before) (sym (a .check) ∙ ap (λ (r : Acceptance). acceptanceCheck r) e)
+pub accepted-table : {bytes : List ℕ} {fits : Bool} {before after : List ℕ} {r : Acceptance} {n : Sizes}
+    → Accepts bytes fits before after r → r ≡ Accepted n → Acceptable bytes fits (length before)
+accepted-table {bytes} {fits} {before} a e = passes-accepted bytes fits (length before) (sym (a .check) ∙ ap (λ (r : Acceptance). acceptanceCheck r) e)

@@ -10,6 +10,7 @@ use lib.Seq.{getD-set-same, getD-set-other}
 use Rattle.basis.proofs.Tests.{below-or-last}
 use Rattle.table.specs.Tables.{Table, firstRoot, bodyAt}
 use Rattle.table.specs.Sound.{Sound}
+use Rattle.term.specs.Acceptance.{scratchWords}
 use Rattle.term.specs.Processes.{defined, processAt}
 use Rattle.term.proofs.Calls.{defined-body}
 use Rattle.accept.specs.Counts.{countsOf, Capped}
@@ -48,7 +49,7 @@ stored-other s n c k d = λ i. record { actions = a i; ticks = t i }
         getD-set-other s (2 * n) (2 * k + 1) (c .actions) 0 (λ e. omega arith)
 
 -- where nothing is held yet
-pub held-start : {t : Table} {s : List ℕ} → Sound t → 2 * t .sizes .nodes ≤ length s → Held t 0 0 s
+pub held-start : {t : Table} {s : List ℕ} → Sound t → scratchWords (t .sizes) ≤ length s → Held t 0 0 s
 held-start sound h =
     record {
       sound = sound;

@@ -1,5 +1,6 @@
 -- What judging a table answers.
 use Prim.Native.Nat.{ℕ}
+use mathlib.Core.Bool.{Bool}
 use mathlib.Core.Path.{_≡_}
 use mathlib.Core.List.{List}
 use lib.ListN.{length}
@@ -23,8 +24,8 @@ pub record Judged (t : Table) (checks : List Refusal) (s : List ℕ) (r : Accept
   pub counted : (n : Sizes) → r ≡ Accepted n → Counted t s
 
 -- the answer r by all of them; the words before and after
-pub record Accepts (bytes : List ℕ) (stateLength : ℕ) (before after : List ℕ) (r : Acceptance) : Type 0 where
-  pub check : acceptanceCheck r ≡ firstOf (tableChecks bytes stateLength (length before))
+pub record Accepts (bytes : List ℕ) (fits : Bool) (before after : List ℕ) (r : Acceptance) : Type 0 where
+  pub check : acceptanceCheck r ≡ firstOf (tableChecks bytes fits (length before))
   pub sizes : (n : Sizes) → r ≡ Accepted n → n ≡ sizesOf bytes
   pub counted : (n : Sizes) → r ≡ Accepted n → Counted (tableOf bytes) after
   pub same-length : length after ≡ length before

@@ -7,6 +7,7 @@ use lib.Dec.{ltb}
 use lib.ListN.{length, getD, set}
 use Rattle.table.specs.Tables.{Table, firstRoot}
 use Rattle.table.specs.Sound.{Sound}
+use Rattle.term.specs.Acceptance.{scratchWords}
 use Rattle.term.specs.Processes.{derivationLimit, defined, processAt, nodeProcess}
 use Rattle.accept.specs.Counts.{counts, trueCounts, countsOf}
 use Rattle.accept.specs.declared.Counts.{Counts}
@@ -25,7 +26,7 @@ calledAt s roots level d = cond (ltb d level) (pairAt s (roots + d)) (counts 0 0
 -- The table is sound, and the words hold the counts of the definitions below a level, and of the nodes below n with calls of those.
 pub record Held (t : Table) (level n : ℕ) (s : List ℕ) : Type 0 where
   pub sound : Sound t
-  pub words : 2 * t .sizes .nodes ≤ length s
+  pub words : scratchWords (t .sizes) ≤ length s
   pub low : level ≤ t .sizes .definitions
   pub inner : n ≤ firstRoot t
   pub definitions : (d : ℕ) → d < level → pairAt s (firstRoot t + d) ≡ countsOf (defined t level d)
@@ -33,6 +34,6 @@ pub record Held (t : Table) (level n : ℕ) (s : List ℕ) : Type 0 where
 
 -- The words hold the true counts of every node that is no root, and they are few.
 pub record Counted (t : Table) (s : List ℕ) : Type 0 where
-  pub words : 2 * t .sizes .nodes ≤ length s
+  pub words : scratchWords (t .sizes) ≤ length s
   pub nodes : (n : ℕ) → n < firstRoot t → pairAt s n ≡ trueCounts (nodeProcess t n)
   pub few : (n : ℕ) → n < firstRoot t → pairAt s n .actions + pairAt s n .ticks ≤ derivationLimit

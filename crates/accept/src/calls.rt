@@ -8,10 +8,11 @@ use table::first_root;
 use table::p_at;
 use table::q_at;
 ghost use mathlib.Core.Path.{_≡_};
-ghost use Prim.Native.Nat.{_*_, _≤_, _<_};
+ghost use Prim.Native.Nat.{_≤_, _<_};
 ghost use lib.ListN.{length};
 ghost use Rattle.table.specs.Tables.{table, firstRoot};
 ghost use Rattle.table.specs.Sound.{Sound};
+ghost use Rattle.term.specs.Acceptance.{scratchWords};
 ghost use Rattle.term.specs.Exposure.{callsBelow};
 ghost use Rattle.term.specs.Processes.{processAt};
 ghost use Rattle.accept.specs.Scratch.{Held};
@@ -80,7 +81,7 @@ fn calls_below(
 // The lowest definition that exposes a call that is not lower, and the number of definitions where there is none.
 // For each definition the nodes up to its body are counted; the body's counts are kept at the definition's root.
 pub fn lowest_bad_call(sizes: Sizes, kinds: &[u8], operands: &[u8], scratch: &mut [u32]) -> usize
-    requires { ⌜ Sound (table sizes (now kinds) (now operands)) × (2 * sizes .nodes ≤ length (now scratch)) ⌝ }
+    requires { ⌜ Sound (table sizes (now kinds) (now operands)) × (scratchWords sizes ≤ length (now scratch)) ⌝ }
     ensures { λ r. ⌜ CallsJudged (table sizes (now (kinds .entry)) (now (operands .entry))) (now (scratch .exit)) r ⌝ }
 {
     let roots = first_root(sizes);

@@ -18,14 +18,16 @@ use table::lowest_bad;
 use table::lowest_wrong;
 use table::measure;
 pub use words::pair;
+use words::scratch_words;
 ghost use mathlib.Core.Path.{_≡_};
 ghost use mathlib.Core.List.{_∷_};
-ghost use Prim.Native.Nat.{_*_, _≤_};
+ghost use Prim.Native.Nat.{_≤_};
 ghost use lib.ListN.{length};
 ghost use Rattle.table.specs.Checks.{passes, firstOf};
 ghost use Rattle.table.specs.Measuring.{sizeChecks};
 ghost use Rattle.table.specs.Sound.{Shaped, Sound};
 ghost use Rattle.table.specs.Tables.{table as tableFrom, sizesOf, tableOf};
+ghost use Rattle.term.specs.Acceptance.{scratchWords};
 ghost use Rattle.term.specs.Parts.{lentCheck, termChecks, contentChecks};
 ghost use Rattle.accept.specs.Answers.{Judged, Accepts};
 
@@ -50,7 +52,7 @@ pub enum Acceptance {
 
 // Refusals 6 and 7.
 fn judge_terms(sizes: Sizes, kinds: &[u8], operands: &[u8], scratch: &mut [u32]) -> Acceptance
-    requires { ⌜ Sound (tableFrom sizes (now kinds) (now operands)) × (2 * sizes .nodes ≤ length (now scratch)) ⌝ }
+    requires { ⌜ Sound (tableFrom sizes (now kinds) (now operands)) × (scratchWords sizes ≤ length (now scratch)) ⌝ }
     ensures { λ r. ⌜ Judged (tableFrom sizes (now (kinds .entry)) (now (operands .entry))) (termChecks (tableFrom sizes (now (kinds .entry)) (now (operands .entry)))) (now (scratch .exit)) r ⌝ }
 {
     let call = lowest_bad_call(sizes, kinds, operands, scratch);
@@ -74,7 +76,7 @@ fn judge_terms(sizes: Sizes, kinds: &[u8], operands: &[u8], scratch: &mut [u32])
 
 // Refusals 4 to 7.
 fn judge(sizes: Sizes, kinds: &[u8], operands: &[u8], scratch: &mut [u32]) -> Acceptance
-    requires { ⌜ Shaped (tableFrom sizes (now kinds) (now operands)) × (2 * sizes .nodes ≤ length (now scratch)) ⌝ }
+    requires { ⌜ Shaped (tableFrom sizes (now kinds) (now operands)) × (scratchWords sizes ≤ length (now scratch)) ⌝ }
     ensures { λ r. ⌜ Judged (tableFrom sizes (now (kinds .entry)) (now (operands .entry))) (contentChecks (tableFrom sizes (now (kinds .entry)) (now (operands .entry)))) (now (scratch .exit)) r ⌝ }
 {
     let bad = lowest_bad(sizes, kinds, operands, scratch);
@@ -88,15 +90,15 @@ fn judge(sizes: Sizes, kinds: &[u8], operands: &[u8], scratch: &mut [u32]) -> Ac
     judge_terms(sizes, kinds, operands, scratch)
 }
 
-// Refusal 8, of a state of this length and the lent words, and then 4 to 7.
-fn judge_lent(table: &[u8], sizes: Sizes, state_length: usize, scratch: &mut [u32]) -> Acceptance
+// Refusal 8, where another lent buffer does not fit or the words are too few, and then 4 to 7.
+fn judge_lent(table: &[u8], sizes: Sizes, fits: bool, scratch: &mut [u32]) -> Acceptance
     requires { ⌜ (firstOf (sizeChecks (now table)) ≡ passes) × (sizes ≡ sizesOf (now table)) ⌝ }
-    ensures { λ r. ⌜ Judged (tableOf (now (table .entry))) (lentCheck (now (table .entry)) «state_length» (length (now (scratch .entry))) ∷ contentChecks (tableOf (now (table .entry)))) (now (scratch .exit)) r ⌝ }
+    ensures { λ r. ⌜ Judged (tableOf (now (table .entry))) (lentCheck (now (table .entry)) fits (length (now (scratch .entry))) ∷ contentChecks (tableOf (now (table .entry)))) (now (scratch .exit)) r ⌝ }
 {
-    if state_length != term::STATE_WORDS {
+    if !fits {
         return Acceptance::Refused(8, 0);
     }
-    if scratch.len() < 2 * sizes.nodes {
+    if scratch.len() < scratch_words(sizes) {
         return Acceptance::Refused(8, 0);
     }
     let operands = table::HEADER_BYTES + sizes.nodes;
@@ -108,14 +110,15 @@ fn judge_lent(table: &[u8], sizes: Sizes, state_length: usize, scratch: &mut [u3
     )
 }
 
-// Judges a table, for a state of this length and the lent words: refusals 1, 2, 3, 8, 4, 5, 6 and 7, in this order.
+// Judges a table, with lent words, and told whether the call's other buffers have their lengths: refusals 1, 2, 3, 8, 4, 5, 6 and 7, in this
+// order.
 // Where it is accepted, the words hold the counts of its nodes.
-pub fn accept(table: &[u8], state_length: usize, scratch: &mut [u32]) -> Acceptance
-    ensures { λ r. ⌜ Accepts (now (table .entry)) «state_length» (now (scratch .entry)) (now (scratch .exit)) r ⌝ }
+pub fn accept(table: &[u8], fits: bool, scratch: &mut [u32]) -> Acceptance
+    ensures { λ r. ⌜ Accepts (now (table .entry)) fits (now (scratch .entry)) (now (scratch .exit)) r ⌝ }
 {
     let measured = measure(table);
     match measured {
-        Measured::Fine(sizes) => judge_lent(table, sizes, state_length, scratch),
+        Measured::Fine(sizes) => judge_lent(table, sizes, fits, scratch),
         Measured::Refused(number, place) => Acceptance::Refused(number, place),
     }
 }

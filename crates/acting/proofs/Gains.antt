@@ -6,7 +6,6 @@ use mathlib.Core.Logic.{⊎-elim}
 use mathlib.Core.Path.{_≡_, refl, sym, ap, ap₂, _∙_}
 use mathlib.Core.List.{List, [], _∷_}
 use lib.Dec.{eqb, ltb}
-use lib.ListN.{getD}
 use borrow.Author.Tests.{eqb-true, eq-eqb}
 use Rattle.term.specs.declared.Label.{Label}
 use Rattle.term.specs.declared.Label.the-variants.{Ticking, Acting}
@@ -18,8 +17,9 @@ use Rattle.basis.proofs.Tests.{not-both, or-either, or-left, or-right, and-left
 use Rattle.table.specs.Tables.{Table, kindAt, qAt}
 use Rattle.table.specs.Nodes.{isGuard}
 use Rattle.choice.specs.Marking.{hasMark, isIn}
-use Rattle.state.specs.declared.Store.the-variants.{Entries}
-use Rattle.state.specs.Layout.{keyLimit, markAt, stampOf}
+use Rattle.state.specs.declared.Entry.{Entry}
+use Rattle.state.specs.Entries.{entryOf}
+use Rattle.state.specs.Layout.{keyLimit, stampOf}
 use Rattle.state.specs.Evaluation.{reads}
 use Rattle.evaluation.specs.Reading.{Adds}
 use Rattle.evaluation.proofs.Adding.{adds-none, adds-same, adds-both, all-adds}
@@ -28,9 +28,9 @@ use Rattle.judging.specs.Judging.{GuardsMarked}
 use Rattle.acting.specs.Gaining.{hasEntry, markedReadsAt, markedReads, Gains}
 
 -- one key more of those that have an entry
-pub entry-more : (s : List ℕ) (x keys key found at : ℕ) (h b : Bool) (next : ℕ) → h ≡ has keys key → at ≡ markAt (Entries x) key → found ≡ plusAll (hasEntry s x keys) key 0
-    → (h && ltb 0 (getD s at 0)) ≡ b → next ≡ cond b (plus found key) found → next ≡ plusAll (hasEntry s x keys) (key + 1) 0
-entry-more s x keys key found at h b next e f g i j =
+pub entry-more : (s : List ℕ) (x keys key found : ℕ) (entry : Entry) (h b : Bool) (next : ℕ) → h ≡ has keys key → entry ≡ entryOf s x key → found ≡ plusAll (hasEntry s x keys) key 0
+    → (h && ltb 0 (entry .stamp)) ≡ b → next ≡ cond b (plus found key) found → next ≡ plusAll (hasEntry s x keys) (key + 1) 0
+entry-more s x keys key found entry h b next e f g i j =
     j ∙ rw (← i, e, f, g) (sym (plusAll-more (hasEntry s x keys) key 0))
 
 -- a node that is a marked guard, or is not

@@ -21,14 +21,17 @@ use Rattle.state.specs.declared.Store.{Store}
 use Rattle.state.specs.Layout.{zcAt, keyLimit, residualWords, zcOf, termIn}
 use Rattle.state.proofs.Places.{Place, Zc, Zp, Clock, Mark, Word, Waits, Length, Residual, Inside, same}
 use Rattle.state.proofs.Frames.{SameAt, wordAt, set-other, term-same}
+use Rattle.state.specs.Standing.{HasBlocks}
 use Rattle.state.specs.WellFormed.{Proper}
 use Rattle.state.proofs.Formed.{ResidualFormed, proper-facts, residual-test}
 use Rattle.state.proofs.Keep.{residual-kept}
 use Rattle.steps.specs.Acts.{writesEntry, chosen, toConfirm, storeOf, setKey, leave, acted}
 use Rattle.steps.proofs.Steps.{Able, act-able}
 use Rattle.steps.proofs.Acts.{chosen-inside, action-key, set-tick, set-key-other, set-length}
+use Rattle.judging.specs.declared.Judgement.the-variants.{Allowed}
+use Rattle.judging.specs.Judging.{Judges}
 use Rattle.judging.specs.Outcomes.{wordFor}
-use Rattle.acting.specs.Acting.{Decided, Leaving, Setting}
+use Rattle.acting.specs.Acting.{Leaving, Setting}
 use Rattle.acting.specs.Gaining.{LabelKey, Gaining, Gains}
 
 -- a place that no setting of a key of agent x changes
@@ -43,6 +46,9 @@ module _ (t : Table) (scratch : List ℕ) (ready : Prepared t scratch) (was : Li
   low : x < 32
   low = omega (arith, ready .checked .sound .shaped .limits .agents)
 
+  blocks : HasBlocks was
+  blocks = omega (arith, proper .whole)
+
   few : firstRoot t ≤ 65532
   few = omega (arith, ready .checked .sound .shaped .limits .nodes)
 
@@ -54,39 +60,39 @@ module _ (t : Table) (scratch : List ℕ) (ready : Prepared t scratch) (was : Li
   label-other Ticking h q s = ap (λ (u : List ℕ). wordAt u q) (set-tick t was x)
   label-other (Acting n) h q s = set-key-other t was x n (action-key t was x (ready .checked .sound) n h) q (s .inside) (s .clock) (s .waits) (s .mark (storeOf t x n) (pAt t n)) (s .word (storeOf t x n) (pAt t n))
 
-  module _ (c : ℕ) (marks : List ℕ) (label : Label) (v : ℕ) (d : Decided t was x c marks label v) where
+  module _ (c : ℕ) (marks : List ℕ) (label : Label) (v : ℕ) (j : Judges t was x c marks (Allowed label v)) where
     abbrev D : Derivation
     D = chosen t was x c
 
     able : Able t was x c
-    able = act-able t was x c .0 (d .able)
+    able = act-able t was x c .0 (j .is .0)
 
     inside : InsideTable t D
     inside = chosen-inside t was x (ready .checked .sound) (formed .over) c (able .there)
 
     labelled : Labelled t label
-    labelled = subst (Labelled t) (sym (d .label)) (inside .label)
+    labelled = subst (Labelled t) (sym (j .is .1)) (inside .label)
 
     within : (e : Label) → Labelled t e → LabelKey t e
     within Ticking h = tt
     within (Acting n) h = omega arith
 
-    pub decided-gaining : Gaining t was x marks label
-    decided-gaining =
-        record { shaped = ready .checked .sound .shaped; whole = proper .whole; agent = low; room = d .guards .room; within = within label labelled }
+    pub allowed-gaining : Gaining t was x marks label
+    allowed-gaining =
+        record { shaped = ready .checked .sound .shaped; blocks = blocks; agent = low; room = j .guards (j .is .0) .room; within = within label labelled }
 
-    pub decided-setting : (n : ℕ) → label ≡ Acting n → Setting t was x n v
-    decided-setting n e =
-        let l : Acting n ≡ D .label = sym e ∙ d .label in
+    pub allowed-setting : (n : ℕ) → label ≡ Acting n → Setting t was x n v
+    allowed-setting n e =
+        let l : Acting n ≡ D .label = sym e ∙ j .is .1 in
         let a : ActionNode t n = subst (Labelled t) (sym l) (inside .label) in
         record {
           shaped = ready .checked .sound .shaped;
-          whole = proper .whole;
+          blocks = blocks;
           agent = low;
           action = a;
           key = action-key t was x (ready .checked .sound) n a;
           room = λ k. able .room (ap (writesEntry t) (sym l) ∙ eq-eqb (kindAt t n) kind.setStigmergy k);
-          value = d .value ∙ ap (wordFor t was x) (sym l);
+          value = j .is .2 ∙ ap (wordFor t was x) (sym l);
         }
 
     -- AFTER THE KEY AND ZC
@@ -112,11 +118,11 @@ module _ (t : Table) (scratch : List ℕ) (ready : Prepared t scratch) (was : Li
       same-chosen : chosen t s x c ≡ chosen t was x c
       same-chosen = ap (λ (T : Term). derivationAt (process t T) c) same-term
 
-      pub decided-leaving : Leaving t s x c
-      decided-leaving = record {
-        whole = long ∙ proper .whole;
+      pub allowed-leaving : Leaving t s x c
+      allowed-leaving = record {
+        blocks = omega (arith, long, blocks);
         agent = low;
-        formed = residual-test t few s (long ∙ proper .whole) x low (residual-kept t was s x long same-size same-words formed);
+        formed = residual-test t few s (omega (arith, long, blocks)) x low (residual-kept t was s x long same-size same-words formed);
         few = rw same-term (able .few);
         there = rw same-term (able .there);
         short = rw same-chosen (able .short);
@@ -126,12 +132,12 @@ module _ (t : Table) (scratch : List ℕ) (ready : Prepared t scratch) (was : Li
       zc-empty = key-still (Waits Zc x) (record { inside = tt; clock = refl; waits = refl; mark = λ store k. refl; word = λ store k. refl }) ∙ able .confirmed
 
       is-key-set : keySet ≡ setKey t was x (D .label)
-      is-key-set = set-key ∙ ap (setKey t was x) (d .label)
+      is-key-set = set-key ∙ ap (setKey t was x) (j .is .1)
 
       -- the residual comes last
-      pub decided-acted : Gains t was x marks label g → (out : List ℕ) → out ≡ leave x (words (chosen t s x c .leaving)) s → out ≡ acted t was x (chosen t was x c)
+      pub allowed-acted : Gains t was x marks label g → (out : List ℕ) → out ≡ leave x (words (chosen t s x c .leaving)) s → out ≡ acted t was x (chosen t was x c)
       unfolding acted
-      decided-acted gains out o =
-          let e : g ≡ plusAll (toConfirm t was x D) keyLimit (zcOf keySet x) = gains D (d .label) (d .guards) ∙ ap (plusAll (toConfirm t was x D) keyLimit) (sym zc-empty) in
+      allowed-acted gains out o =
+          let e : g ≡ plusAll (toConfirm t was x D) keyLimit (zcOf keySet x) = gains D (j .is .1) (j .guards (j .is .0)) ∙ ap (plusAll (toConfirm t was x D) keyLimit) (sym zc-empty) in
           o ∙ ap₂ (λ (e : Derivation) (u : List ℕ). leave x (words (e .leaving)) u) same-chosen
           (set-zc ∙ ap (set keySet (zcAt x)) e ∙ ap (λ (u : List ℕ). set u (zcAt x) (plusAll (toConfirm t was x D) keyLimit (zcOf u x))) is-key-set)

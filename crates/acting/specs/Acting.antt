@@ -3,41 +3,38 @@ use Prim.Native.Nat.{ℕ, _<_, _≤_}
 use mathlib.Core.Bool.{true}
 use mathlib.Core.Path.{_≡_}
 use mathlib.Core.List.{List}
-use lib.ListN.{length, set}
+use lib.ListN.{length}
 use Rattle.basis.specs.Kinds as kind
-use Rattle.table.specs.Checks.{passes, firstOf, refusalCheck}
+use Rattle.table.specs.Checks.{Check, passes, refuses, firstOf}
 use Rattle.table.specs.Tables.{Table, kindAt, pAt, agentLimit}
 use Rattle.table.specs.Sound.{Shaped}
-use Rattle.term.specs.declared.Label.{Label}
 use Rattle.term.specs.Terms.{words}
-use Rattle.term.specs.Acceptance.{stateWords}
 use Rattle.term.specs.Processes.{allFew}
 use Rattle.term.specs.Accepted.{ActionNode}
 use Rattle.state.specs.declared.Store.{Store}
-use Rattle.state.specs.declared.Store.the-variants.{Entries}
-use Rattle.state.specs.Layout.{clockAt, zpAt, keyLimit, residualWords, clockOf, termIn, put, addKey, clockLimit}
-use Rattle.state.specs.Standing.{storeAgent}
+use Rattle.state.specs.Layout.{keyLimit, residualWords, termIn}
+use Rattle.state.specs.Entries.{clockOf, clockLimit}
+use Rattle.state.specs.Standing.{storeAgent, HasBlocks}
 use Rattle.state.specs.WellFormed.{residualFormed}
-use Rattle.steps.specs.Acts.{nextStamp, wordIn, valueFor, choices, actChecks, chosen, storeOf, acted}
+use Rattle.steps.specs.Acts.{wordIn, valueFor, choices, actChecks, chosen, storeOf, acted}
+use Rattle.steps.specs.Tallies.{noTally}
 use Rattle.steps.specs.Steps.{outcome}
-use Rattle.judging.specs.Judging.{GuardsMarked}
-use Rattle.judging.specs.Outcomes.{wordFor}
+use Rattle.acting.specs.declared.Acted.{Acted}
+use Rattle.acting.specs.declared.Acted.the-variants.{Done, Refused}
+
+-- the check for each case of the answer
+abbrev pub actedCheck : Acted → Check
+actedCheck Done = passes
+actedCheck (Refused number) = refuses number 0
 
 -- choice c of agent x is done, or refused
-pub record Acts (t : Table) (was : List ℕ) (x c r : ℕ) (s : List ℕ) : Type 0 where
-  pub check : refusalCheck r ≡ firstOf (actChecks t was x c)
-  pub state : s ≡ outcome (firstOf (actChecks t was x c)) was 0 (acted t was x (chosen t was x c)) .state
-
--- choice c of agent x can be done: this is what it does, the word that it sets, and the marks of its guards
-pub record Decided (t : Table) (was : List ℕ) (x c : ℕ) (marks : List ℕ) (d : Label) (v : ℕ) : Type 0 where
-  pub able : firstOf (actChecks t was x c) ≡ passes
-  pub label : d ≡ chosen t was x c .label
-  pub value : v ≡ wordFor t was x (chosen t was x c .label)
-  pub guards : GuardsMarked t (chosen t was x c .guards) marks
+pub record Acts (t : Table) (was : List ℕ) (x c : ℕ) (r : Acted) (s : List ℕ) : Type 0 where
+  pub check : actedCheck r ≡ firstOf (actChecks t was x c)
+  pub state : s ≡ outcome (firstOf (actChecks t was x c)) was noTally (acted t was x (chosen t was x c)) .state
 
 -- what choice c of agent x's residual leaves has room
 pub record Leaving (t : Table) (s : List ℕ) (x c : ℕ) : Type 0 where
-  pub whole : length s ≡ stateWords
+  pub blocks : HasBlocks s
   pub agent : x < agentLimit
   pub formed : residualFormed t s x ≡ true
   pub few : allFew t (termIn s x) ≡ true
@@ -46,7 +43,7 @@ pub record Leaving (t : Table) (s : List ℕ) (x c : ℕ) : Type 0 where
 
 -- agent x can write to stigmergy key k
 pub record Entering (s : List ℕ) (x k : ℕ) : Type 0 where
-  pub whole : length s ≡ stateWords
+  pub blocks : HasBlocks s
   pub agent : x < agentLimit
   pub key : k < keyLimit
   pub room : clockOf s < clockLimit
@@ -59,7 +56,7 @@ pub record Stored (kind x : ℕ) (r : Store) : Type 0 where
 -- action n of agent x sets its key to word v
 pub record Setting (t : Table) (s : List ℕ) (x n v : ℕ) : Type 0 where
   pub shaped : Shaped t
-  pub whole : length s ≡ stateWords
+  pub blocks : HasBlocks s
   pub agent : x < agentLimit
   pub action : ActionNode t n
   pub key : pAt t n < keyLimit

@@ -12,10 +12,10 @@ use Rattle.table.specs.Nodes.{isGuard}
 use Rattle.table.specs.Sound.{Shaped}
 use Rattle.term.specs.declared.Label.{Label}
 use Rattle.term.specs.declared.Label.the-variants.{Ticking, Acting}
-use Rattle.term.specs.Acceptance.{stateWords}
 use Rattle.term.specs.Processes.{Derivation}
 use Rattle.choice.specs.Marking.{hasMark}
 use Rattle.state.specs.Layout.{keyLimit, stampOf}
+use Rattle.state.specs.Standing.{HasBlocks}
 use Rattle.state.specs.Evaluation.{reads}
 use Rattle.steps.specs.Acts.{toConfirm}
 use Rattle.judging.specs.Judging.{GuardsMarked}
@@ -37,10 +37,10 @@ abbrev pub LabelKey : Table → Label → Type 0
 LabelKey t Ticking = Unit {0}
 LabelKey t (Acting n) = n < t .sizes .nodes
 
--- a whole state, an agent that it has room for, a mark for each node
+-- a state with room for all blocks, an agent that has one, a mark for each node
 pub record Gaining (t : Table) (s : List ℕ) (x : ℕ) (marks : List ℕ) (label : Label) : Type 0 where
   pub shaped : Shaped t
-  pub whole : length s ≡ stateWords
+  pub blocks : HasBlocks s
   pub agent : x < agentLimit
   pub room : t .sizes .nodes ≤ length marks
   pub within : LabelKey t label

@@ -2,36 +2,34 @@
 use basis::has;
 use basis::plus;
 use evaluation::keys_read;
-use state::KEYS;
-use state::Store;
-use state::mark_at;
+use state::entry_of;
+use table::KEYS;
 use table::Sizes;
 use table::is_guard;
 use table::q_at;
 use term::Label;
 ghost use mathlib.Core.Path.{_≡_};
-ghost use mathlib.Core.List.{List};
-ghost use Prim.Native.Nat.{ℕ, _^_, _<_, _≤_};
+ghost use Prim.Native.Nat.{_^_, _<_, _≤_};
 ghost use lib.ListN.{length};
 ghost use Rattle.basis.specs.KeySets.{plusAll};
 ghost use Rattle.table.specs.Tables.{table, agentLimit};
 ghost use Rattle.table.specs.Sound.{Shaped};
-ghost use Rattle.term.specs.Acceptance.{stateWords};
 ghost use Rattle.state.specs.Layout.{keyLimit};
+ghost use Rattle.state.specs.Standing.{HasBlocks};
 ghost use Rattle.evaluation.specs.Reading.{Adds};
 ghost use Rattle.steps.specs.Acts.{labelReads};
 ghost use Rattle.acting.specs.Gaining.{hasEntry, markedReadsAt, markedReads, LabelKey, Gaining, Gains};
 
 // Of a set of keys, those that have an entry of an agent.
 fn with_entry(state: &[u32], agent: usize, keys: u32) -> u32
-    requires { ⌜ (length (now state) ≡ stateWords) × (agent < agentLimit) ⌝ }
+    requires { ⌜ HasBlocks (now state) × (agent < agentLimit) ⌝ }
     ensures { λ r. ⌜ r ≡ plusAll (hasEntry (now (state .entry)) agent keys) keyLimit 0 ⌝ }
 {
     let mut found = 0;
     let mut key = 0;
     while key < KEYS {
-        let at = mark_at(Store::Entries(agent), key);
-        if has(keys, key) & (0 < state[at]) {
+        let entry = entry_of(state, agent, key);
+        if has(keys, key) & (0 < entry.stamp) {
             found = plus(found, key);
         }
         key += 1;

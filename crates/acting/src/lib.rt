@@ -4,6 +4,7 @@ mod leaving; // leaving.rt: the residual
 mod setting; // setting.rt: the key that an action sets
 mod writing; // writing.rt: all that an act writes
 
+use judging::Judgement;
 use judging::judge;
 use table::Sizes;
 use writing::perform;
@@ -13,7 +14,13 @@ ghost use Rattle.choice.specs.Turns.{Prepared};
 ghost use Rattle.state.specs.WellFormed.{Proper};
 ghost use Rattle.acting.specs.Acting.{Acts};
 
-// Choice c of an agent is done, or refused: the answer is the refusal, or 0.
+// What an act answers.
+pub enum Acted {
+    Done,
+    Refused(u8),
+}
+
+// Choice c of an agent is done, or refused.
 pub fn act(
     sizes: Sizes,
     kinds: &[u8],
@@ -22,7 +29,7 @@ pub fn act(
     state: &mut [u32],
     agent: usize,
     c: u64,
-) -> u8
+) -> Acted
     requires { ⌜ Prepared (table sizes (now kinds) (now operands)) (now scratch) ⌝ }
     requires { ⌜ Proper (table sizes (now kinds) (now operands)) (now state) ⌝ }
     requires { ⌜ agent < sizes .agents ⌝ }
@@ -30,23 +37,22 @@ pub fn act(
 {
     let mut marks = [0u8; 4096];
     let found = judge(sizes, kinds, operands, scratch, state, &mut marks, agent, c);
-    let refusal = found.refusal;
-    if refusal != 0 {
-        return refusal;
+    match found {
+        Judgement::Refused(number) => Acted::Refused(number),
+        Judgement::Allowed { label, value } => {
+            perform(
+                sizes,
+                kinds,
+                operands,
+                scratch,
+                &marks,
+                state,
+                agent,
+                c,
+                label,
+                value,
+            );
+            Acted::Done
+        }
     }
-    let label = found.label;
-    let value = found.value;
-    perform(
-        sizes,
-        kinds,
-        operands,
-        scratch,
-        &marks,
-        state,
-        agent,
-        c,
-        label,
-        value,
-    );
-    refusal
 }

@@ -1,8 +1,11 @@
 // The key that an action sets.
-use state::CLOCK;
+use state::Entry;
 use state::Store;
 use state::add_key;
+use state::clock_of;
 use state::put;
+use state::put_entry;
+use state::set_clock;
 use state::zp_at;
 use table::Sizes;
 use table::p_at;
@@ -15,16 +18,13 @@ ghost use Rattle.term.specs.declared.Label.the-variants.{Acting};
 ghost use Rattle.steps.specs.Acts.{entered, setKey};
 ghost use Rattle.acting.specs.Acting.{Stored, Entering, Setting};
 
-// The store that an action of a kind sets.
+// The store that an action of a kind sets, which is no stigmergy write.
 fn store_of(kind: u8, agent: usize) -> Store
-    requires { ⌜ (kinds.setAttribute ≤ kind) × (kind ≤ kinds.setEnvironment) × (agent < agentLimit) ⌝ }
+    requires { ⌜ (kinds.setAttribute ≤ kind) × (kind ≤ kinds.setEnvironment) × (kind ≡ kinds.setStigmergy → ⊥) × (agent < agentLimit) ⌝ }
     ensures { λ r. ⌜ Stored kind agent r ⌝ }
 {
     if kind == basis::kinds::SET_ATTRIBUTE {
         return Store::Attributes(agent);
-    }
-    if kind == basis::kinds::SET_STIGMERGY {
-        return Store::Entries(agent);
     }
     Store::Environment
 }
@@ -35,10 +35,10 @@ fn write_entry(state: &mut [u32], agent: usize, key: usize, value: u32)
     ensures { λ _. ⌜ now (state .exit) ≡ entered (now (state .entry)) agent key value ⌝ }
 {
     let at = zp_at(agent);
-    let stamp = state[CLOCK] + 1;
-    put(state, Store::Entries(agent), key, value, stamp);
+    let stamp = clock_of(state) + 1;
+    put_entry(state, agent, key, Entry { value, stamp });
     add_key(state, at, key);
-    state[CLOCK] = stamp;
+    set_clock(state, stamp);
 }
 
 // An action's key is set.

@@ -7,25 +7,26 @@ use table::Sizes;
 use term::Label;
 ghost use mathlib.Core.Path.{_≡_};
 ghost use Prim.Native.Nat.{_<_};
-ghost use lib.ListN.{length, set};
+ghost use lib.ListN.{set};
 ghost use Rattle.table.specs.Tables.{table, agentLimit};
-ghost use Rattle.term.specs.Acceptance.{stateWords};
 ghost use Rattle.choice.specs.Turns.{Prepared};
 ghost use Rattle.state.specs.Layout.{zcAt};
+ghost use Rattle.state.specs.Standing.{HasBlocks};
 ghost use Rattle.state.specs.WellFormed.{Proper};
 ghost use Rattle.steps.specs.Acts.{chosen, acted};
-ghost use Rattle.acting.specs.Acting.{Decided};
+ghost use Rattle.judging.specs.declared.Judgement.the-variants.{Allowed};
+ghost use Rattle.judging.specs.Judging.{Judges};
 
 // An agent's Zc becomes a set of keys.
 fn set_zc(state: &mut [u32], agent: usize, keys: u32)
-    requires { ⌜ (length (now state) ≡ stateWords) × (agent < agentLimit) ⌝ }
+    requires { ⌜ HasBlocks (now state) × (agent < agentLimit) ⌝ }
     ensures { λ _. ⌜ now (state .exit) ≡ set (now (state .entry)) (zcAt agent) keys ⌝ }
 {
     let at = zc_at(agent);
     state[at] = keys;
 }
 
-// Choice c of an agent is done: what it does, the word that it sets, and its guards' marks are given.
+// Choice c of an agent is done, as it was judged: what it does, the word that it sets, and its guards' marks are given.
 pub fn perform(
     sizes: Sizes,
     kinds: &[u8],
@@ -41,7 +42,7 @@ pub fn perform(
     requires { ⌜ Prepared (table sizes (now kinds) (now operands)) (now scratch) ⌝ }
     requires { ⌜ Proper (table sizes (now kinds) (now operands)) (now state) ⌝ }
     requires { ⌜ agent < sizes .agents ⌝ }
-    requires { ⌜ Decided (table sizes (now kinds) (now operands)) (now state) agent c (now marks) label value ⌝ }
+    requires { ⌜ Judges (table sizes (now kinds) (now operands)) (now state) agent c (now marks) (Allowed label value) ⌝ }
     ensures { λ _. ⌜ now (state .exit) ≡ acted (table sizes (now (kinds .entry)) (now (operands .entry))) (now (state .entry)) agent (chosen (table sizes (now (kinds .entry)) (now (operands .entry))) (now (state .entry)) agent c) ⌝ }
 {
     let gains = gained(sizes, kinds, operands, marks, state, agent, label);

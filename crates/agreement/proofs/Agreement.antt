@@ -19,7 +19,7 @@ use Rattle.agreement.proofs.History.{write-of-stamp, entry-write, numbe
 use Rattle.agreement.proofs.Machine.{before-propagates, invariant-steps, view-split, fresh-steps, start-fresh, start-view, writes-numbered, history-entries}
 
 -- for any strict order of entries
-module _ {E : Type 0} {absent : E} {newer : E → E → Bool} (order : Order E newer) (M : Machine absent newer) (s : M .State) (start : Start M s) (xs : List (M .Step)) where
+module _ {E : Type 0} {newer : E → E → Bool} (order : Order E newer) (M : Machine newer) {absent : E} (s : M .State) (start : Start M absent s) (xs : List (M .Step)) where
   open Machine M using (State, Step, next, view, turn)
 
   abbrev turns : ℕ → List (Turn E)
@@ -45,7 +45,7 @@ module _ {E : Type 0} {absent : E} {newer : E → E → Bool} (order : Order E n
     pair-since k a b c = rw (later k, viewAfter)
         (pair-turns newer order (turnsOf next turn moment since k) (view moment k) a b (fresh-since k) (before-propagates next turn k a b moment since (c .link-held)) (c .newer-waits))
 
-  pub agreement : Agreement M s xs
+  pub agreement : Agreement M absent s xs
   agreement = record {
     written = λ k a. rw (final k, entryAfter) (blank-written newer order absent (turns k) (fresh k) a);
     equal = equal;
@@ -62,9 +62,9 @@ module _ {E : Type 0} {absent : E} {newer : E → E → Bool} (order : Order E n
       equal k = rw (final k, entryAfter) (blank-equal newer order absent (turns k) (fresh k))
 
 -- for stamps from one clock, which is 0 at the start; an absent entry has stamp 0
-module _ {E : Type 0} {absent : E} (stamp : E → ℕ) (absent-zero : stamp absent ≡ 0) (M : Machine absent (byStamp stamp)) (H : Writes stamp M)
-    (s : M .State) (start : Start M s) (clock-zero : H .clock s ≡ 0) (xs : List (M .Step)) where
-  all : Agreement M s xs
+module _ {E : Type 0} (stamp : E → ℕ) (M : Machine (byStamp stamp)) (H : Writes stamp M)
+    {absent : E} (absent-zero : stamp absent ≡ 0) (s : M .State) (start : Start M absent s) (clock-zero : H .clock s ≡ 0) (xs : List (M .Step)) where
+  all : Agreement M absent s xs
   all = agreement (stamp-order stamp) M s start xs
 
   numbered : Numbered (λ w. stamp (H .entry w)) 0 (allWrites H s xs)
@@ -83,7 +83,7 @@ module _ {E : Type 0} {absent : E} (stamp : E → ℕ) (absent-zero : stamp abse
       let w : writeAt d (allWrites H s xs) (stamp e) ≡ r .0 = rw q at (p .1) in
       record { in-history = omega arith; same-key = ap (H .key) w ∙ r .2; same-entry = ap (H .entry) w ∙ r .3 }
 
-  pub stamp-agreement : StampAgreement stamp M H s xs
+  pub stamp-agreement : StampAgreement stamp M H absent s xs
   stamp-agreement = record {
     agreement = all;
     numbered = numbered;

@@ -32,7 +32,7 @@ module _ {State Step : Type 0} (next : State → Step → State) where
   before-propagates turn k a b s [] h = tt
   before-propagates turn k a b s (x ∷ xs) h = (h .0, before-propagates turn k a b (next s x) xs (h .1))
 
-module _ {E : Type 0} {absent : E} {newer : E → E → Bool} (M : Machine absent newer) where
+module _ {E : Type 0} {newer : E → E → Bool} (M : Machine newer) where
   open Machine M using (State, Step, next, view, turn, Invariant)
 
   pub invariant-steps : (s : State) (xs : List Step) → Invariant s → Invariant (afterSteps next s xs)
@@ -59,7 +59,7 @@ module _ {E : Type 0} {absent : E} {newer : E → E → Bool} (M : Machine absen
       ∙ view-steps (afterSteps next s before) since k (invariant-steps s before g)
 
   -- from a start
-  module _ (s : State) (start : Start M s) where
+  module _ {absent : E} (s : State) (start : Start M absent s) where
     start-blank : (k : ℕ) → view s k ≡ blank absent
     start-blank k = λ i. record { entry = λ a. start .no-entry k a i; waits = λ a. start .no-waits k a i }
 
@@ -69,7 +69,7 @@ module _ {E : Type 0} {absent : E} {newer : E → E → Bool} (M : Machine absen
     pub start-view : (xs : List Step) (k : ℕ) → view (afterSteps next s xs) k ≡ afterTurns newer (turnsOf next turn s xs k) (blank absent)
     start-view xs k = rw (← start-blank k) (view-steps s xs k (start .invariant))
 
-module _ {E : Type 0} {absent : E} (stamp : E → ℕ) (M : Machine absent (byStamp stamp)) (H : Writes stamp M) where
+module _ {E : Type 0} (stamp : E → ℕ) (M : Machine (byStamp stamp)) (H : Writes stamp M) where
   -- the stamps of the writes count up from the clock
   pub writes-numbered : (s : M .State) (xs : List (M .Step)) → M .Invariant s → Numbered (λ w. stamp (H .entry w)) (H .clock s) (allWrites H s xs)
   writes-numbered s [] g = tt

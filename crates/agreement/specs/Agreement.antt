@@ -12,7 +12,7 @@ use Rattle.agreement.specs.History.{Numbered, WrittenAt}
 use Rattle.agreement.specs.Machine.{Machine, Writes, InContact, viewAfter, entryAfter, historyOf, allWrites}
 
 -- for any strict order of entries; that the entries written to a key are comparable is for the machine to show
-pub record Agreement {E : Type 0} {absent : E} {newer : E → E → Bool} (M : Machine absent newer) (s : M .State) (xs : List (M .Step)) : Type 0 where
+pub record Agreement {E : Type 0} {newer : E → E → Bool} (M : Machine newer) (absent : E) (s : M .State) (xs : List (M .Step)) : Type 0 where
   -- (i) an agent's entry was written
   pub written : (k a : ℕ) → (entryAfter M s xs k a ≡ absent) ⊎ List·Memᴰ (entryAfter M s xs k a) (historyOf M s xs k)
   -- (ii) two entries of which neither is newer are equal
@@ -30,8 +30,8 @@ pub record Agreement {E : Type 0} {absent : E} {newer : E → E → Bool} (M : M
       → (l : List ℕ) → Neighbours (InContact M s before since k) l → NoneWaits l (viewAfter M s xs k) → Agree l (viewAfter M s xs k)
 
 -- for entries ordered by a stamp, where one clock numbers the writes
-pub record StampAgreement {E : Type 0} {absent : E} (stamp : E → ℕ) (M : Machine absent (byStamp stamp)) (H : Writes stamp M) (s : M .State) (xs : List (M .Step)) : Type 0 where
-  pub agreement : Agreement M s xs
+pub record StampAgreement {E : Type 0} (stamp : E → ℕ) (M : Machine (byStamp stamp)) (H : Writes stamp M) (absent : E) (s : M .State) (xs : List (M .Step)) : Type 0 where
+  pub agreement : Agreement M absent s xs
   -- write n, counted from 1, bears stamp n
   pub numbered : Numbered (λ w. stamp (H .entry w)) 0 (allWrites H s xs)
   -- of two different entries written to a key one is newer

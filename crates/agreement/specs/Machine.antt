@@ -33,7 +33,7 @@ module _ {State Step : Type 0} (next : State → Step → State) where
   writesOf adds s (x ∷ xs) = adds s x ++ writesOf adds (next s x) xs
 
 -- a machine, and what it shows of one step: the key's view after the step is the view before it after the step's turn
-pub record Machine {E : Type 0} (absent : E) (newer : E → E → Bool) : Type 1 where
+pub record Machine {E : Type 0} (newer : E → E → Bool) : Type 1 where
   pub State : Type 0
   pub Step : Type 0
   pub next : State → Step → State
@@ -49,12 +49,12 @@ pub record Machine {E : Type 0} (absent : E) (newer : E → E → Bool) : Type 1
   pub fresh-next : (s : State) (x : Step) (k : ℕ) → Invariant s → Fresh newer (turn s x k .move) (view s k)
 
 -- a state to start from: no agent has an entry, and no key waits
-pub record Start {E : Type 0} {absent : E} {newer : E → E → Bool} (M : Machine absent newer) (s : M .State) : Type 0 where
+pub record Start {E : Type 0} {newer : E → E → Bool} (M : Machine newer) (absent : E) (s : M .State) : Type 0 where
   pub invariant : M .Invariant s
   pub no-entry : (k a : ℕ) → M .view s k .entry a ≡ absent
   pub no-waits : (k a : ℕ) → M .view s k .waits a ≡ false
 
-module _ {E : Type 0} {absent : E} {newer : E → E → Bool} (M : Machine absent newer) (s : M .State) (xs : List (M .Step)) where
+module _ {E : Type 0} {newer : E → E → Bool} (M : Machine newer) (s : M .State) (xs : List (M .Step)) where
   -- the view of a key after the steps, and an agent's entry in it
   abbrev pub viewAfter : ℕ → View E
   viewAfter k = M .view (afterSteps (M .next) s xs) k
@@ -71,12 +71,12 @@ module _ {E : Type 0} {absent : E} {newer : E → E → Bool} (M : Machine absen
   HeldBeforePropagates k a b = Before (M .next) (λ s x. M .turn s x k .move ≡ propagate a → T (M .turn s x k .link a b)) s xs
 
 -- after the steps `before` from s, a's entry for k was newer than b's only while k waited in a; in the steps `since` from there, the link held so
-pub record InContact {E : Type 0} {absent : E} {newer : E → E → Bool} (M : Machine absent newer) (s : M .State) (before since : List (M .Step)) (k a b : ℕ) : Type 0 where
+pub record InContact {E : Type 0} {newer : E → E → Bool} (M : Machine newer) (s : M .State) (before since : List (M .Step)) (k a b : ℕ) : Type 0 where
   pub newer-waits : NewerWaits newer (viewAfter M s before k) a b
   pub link-held : HeldBeforePropagates M (afterSteps (M .next) s before) since k a b
 
 -- the writes of a machine in which one clock numbers them: each write is one step of the clock, and its entry bears the new number
-pub record Writes {E : Type 0} {absent : E} (stamp : E → ℕ) (M : Machine absent (byStamp stamp)) : Type 1 where
+pub record Writes {E : Type 0} (stamp : E → ℕ) (M : Machine (byStamp stamp)) : Type 1 where
   pub Write : Type 0
   pub key : Write → ℕ
   pub entry : Write → E
@@ -88,5 +88,5 @@ pub record Writes {E : Type 0} {absent : E} (stamp : E → ℕ) (M : Machine abs
   pub adds-entries : (s : M .State) (x : M .Step) (k : ℕ) → M .Invariant s → wrote (M .turn s x k .move) ≡ entriesOf key entry k (adds s x)
 
 -- the history of all keys: the writes of a list of steps, the first first
-abbrev pub allWrites : {E : Type 0} {absent : E} {stamp : E → ℕ} {M : Machine absent (byStamp stamp)} (H : Writes stamp M) (s : M .State) (xs : List (M .Step)) → List (H .Write)
+abbrev pub allWrites : {E : Type 0} {stamp : E → ℕ} {M : Machine (byStamp stamp)} (H : Writes stamp M) (s : M .State) (xs : List (M .Step)) → List (H .Write)
 allWrites {M = M} H s xs = writesOf (M .next) (H .adds) s xs

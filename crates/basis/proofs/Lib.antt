@@ -3,3 +3,4 @@ pub mod Below
 pub mod Numbers
 pub mod KeySets
 pub mod Lists
+pub mod Writing

@@ -1,5 +1,6 @@
 // Little-endian reading of bytes, and sets of keys in a word.
 pub mod kinds; // kinds.rt: the node kinds by name
+pub mod words; // words.rt: words cleared and copied
 
 ghost use mathlib.Core.Path.{_≡_};
 ghost use Prim.Native.Nat.{_+_, _^_, _<_};

@@ -6,6 +6,7 @@ use mathlib.Core.List.{List}
 use lib.ListN.{getD}
 use Rattle.basis.specs.Bytes.{u16At}
 use Rattle.table.specs.Checks.{Check, passes, refuses}
+use Rattle.steps.specs.Tallies.{noTally}
 use Rattle.steps.specs.Steps.{Outcome, outcome, loadOf, stepOf}
 use Rattle.steps.specs.Runs.{runOf}
 use Rattle.machine.specs.declared.Loaded.{Loaded}
@@ -16,18 +17,18 @@ use Rattle.machine.specs.declared.Ran.{Ran}
 use Rattle.machine.specs.Answers.{totals, Loads, Steps, Runs}
 use Rattle.cases.specs.Calls.{ofLoad, ofStep, alone, callAs, callOf}
 
--- what is taken is 0 where it would be 0
-none-taken : (c : Check) (was s : List ℕ) → outcome c was 0 s .taken ≡ 0
+-- nothing is counted where nothing would be
+none-counted : (c : Check) (was s : List ℕ) → outcome c was noTally s .tally ≡ noTally
 unfolding outcome
-none-taken passes was s = refl
-none-taken (refuses number place) was s = refl
+none-counted passes was s = refl
+none-counted (refuses number place) was s = refl
 
 module _ (o : Outcome) (after answers : List ℕ) where
   step-alone : (r : Stepped) → Steps o r after → Runs (alone o answers) (ofStep r) after answers
-  step-alone (StepDone taken) s = record { check = s .check; reports = record { totals = ap (totals 0 0) (s .taken); state = s .state; answers = refl } }
-  step-alone (StepRefused number place) s = record { check = s .check; reports = record { totals = ap (totals 0 0) (s .taken); state = s .state; answers = refl } }
+  step-alone (StepDone tally) s = record { check = s .check; reports = record { totals = ap (totals 0 0) (s .tally); state = s .state; answers = refl } }
+  step-alone (StepRefused number place) s = record { check = s .check; reports = record { totals = ap (totals 0 0) (s .tally); state = s .state; answers = refl } }
 
-  load-alone : (r : Loaded) → Loads o r after → o .taken ≡ 0 → Runs (alone o answers) (ofLoad r) after answers
+  load-alone : (r : Loaded) → Loads o r after → o .tally ≡ noTally → Runs (alone o answers) (ofLoad r) after answers
   load-alone LoadDone s e = record { check = s .check; reports = record { totals = ap (totals 0 0) (sym e); state = s .state; answers = refl } }
   load-alone (LoadRefused number place) s e = record { check = s .check; reports = record { totals = ap (totals 0 0) (sym e); state = s .state; answers = refl } }
 
@@ -46,7 +47,7 @@ module _ (header table was : List ℕ) (scratch : ℕ) (schedule answers : List 
       → Runs (callOf header table was scratch schedule answers) q after answers
   called-load {q} {after} e r h f =
       subst (λ (a : Ran). Called (getD header 0 0) a after answers) (sym f)
-      (subst (λ (call : ℕ). Called call (ofLoad r) after answers) (sym e) (load-alone (loadOf table was scratch) after answers r h (none-taken _ was _)))
+      (subst (λ (call : ℕ). Called call (ofLoad r) after answers) (sym e) (load-alone (loadOf table was scratch) after answers r h (none-counted _ was _)))
 
   pub called-step : {q : Ran} {kind agent number : ℕ} {after : List ℕ} → getD header 0 0 ≡ 1 → kind ≡ getD header 1 0 → agent ≡ u16At header 2 → number ≡ u16At header 4
       → (r : Stepped) → Steps (stepOf table was scratch kind agent number) r after → q ≡ ofStep r

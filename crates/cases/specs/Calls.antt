@@ -3,6 +3,7 @@ use Prim.Native.Nat.{ℕ, zero, suc}
 use mathlib.Core.List.{List}
 use lib.ListN.{getD}
 use Rattle.basis.specs.Bytes.{u16At}
+use Rattle.steps.specs.Tallies.{noTally}
 use Rattle.steps.specs.Steps.{Outcome, loadOf, stepOf}
 use Rattle.steps.specs.Runs.{Rehearsal, runOf}
 use Rattle.machine.specs.declared.Loaded.{Loaded}
@@ -15,17 +16,17 @@ use Rattle.machine.specs.Answers.{totals}
 
 -- the answer of load, and of a step, with the totals that they have
 abbrev pub ofLoad : Loaded → Ran
-ofLoad LoadDone = RunDone (totals 0 0 0)
+ofLoad LoadDone = RunDone (totals 0 0 noTally)
 ofLoad (LoadRefused number place) = RunRefused number place
 
 abbrev pub ofStep : Stepped → Ran
-ofStep (StepDone taken) = RunDone (totals 0 0 taken)
+ofStep (StepDone tally) = RunDone (totals 0 0 tally)
 ofStep (StepRefused number place) = RunRefused number place
 
 -- a call that has no answer bytes
 abbrev pub alone : Outcome → List ℕ → Rehearsal
 alone o answers =
-    record { check = o .check; progress = record { state = o .state; answers = answers; done = 0; refused = 0; taken = o .taken } }
+    record { check = o .check; progress = record { state = o .state; answers = answers; done = 0; refused = 0; tally = o .tally } }
 
 -- call 0 is load, 1 a step, 2 a run
 module _ (header table was : List ℕ) (scratchLength : ℕ) (schedule answers : List ℕ) where

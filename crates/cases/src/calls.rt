@@ -4,6 +4,7 @@ use machine::Loaded;
 use machine::Ran;
 use machine::Stepped;
 use machine::Totals;
+use offering::no_tally;
 ghost use mathlib.Core.Path.{_≡_};
 ghost use Prim.Native.Nat.{_<_};
 ghost use lib.ListN.{length};
@@ -14,11 +15,14 @@ fn of_load(answer: Loaded) -> Ran
     ensures { λ r. ⌜ r ≡ ofLoad answer ⌝ }
 {
     match answer {
-        Loaded::Done => Ran::Done(Totals {
-            done: 0,
-            refused: 0,
-            taken: 0,
-        }),
+        Loaded::Done => {
+            let tally = no_tally();
+            Ran::Done(Totals {
+                done: 0,
+                refused: 0,
+                tally,
+            })
+        }
         Loaded::Refused(number, place) => Ran::Refused(number, place),
     }
 }
@@ -27,10 +31,10 @@ fn of_step(answer: Stepped) -> Ran
     ensures { λ r. ⌜ r ≡ ofStep answer ⌝ }
 {
     match answer {
-        Stepped::Done(taken) => Ran::Done(Totals {
+        Stepped::Done(tally) => Ran::Done(Totals {
             done: 0,
             refused: 0,
-            taken: taken,
+            tally,
         }),
         Stepped::Refused(number, place) => Ran::Refused(number, place),
     }

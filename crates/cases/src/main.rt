@@ -30,10 +30,11 @@ fn print_number(n: u64) {
 fn print_answer(answer: Ran) {
     match answer {
         Ran::Done(totals) => {
+            let tally = totals.tally;
             io::write_all(OUTPUT, b"done");
             print_number(totals.done as u64);
             print_number(totals.refused as u64);
-            print_number(totals.taken as u64);
+            print_number(tally.taken as u64);
         }
         Ran::Refused(number, place) => {
             io::write_all(OUTPUT, b"refused");

@@ -1,7 +1,7 @@
 -- Marks of the guards that a walk collects, and of the nodes whose only tick it has walked.
 -- Assumes nothing.
 use Prim.Native.Nat.{ℕ, _<_, _≤_}
-use mathlib.Core.Bool.{Bool, true, false, cond, _||_}
+use mathlib.Core.Bool.{Bool, true, false, cond, _||_, or-assoc, or-comm, or-false}
 use mathlib.Core.Logic.{⊎-elim}
 use mathlib.Core.Path.{_≡_, refl, sym, ap, subst, _∙_}
 use mathlib.Core.List.{List, [], _∷_, _++_}
@@ -16,10 +16,12 @@ use Rattle.table.specs.Nodes.{isProcess, isGuard}
 use Rattle.term.specs.declared.Mode.{Mode}
 use Rattle.term.specs.declared.Mode.the-variants.{Any, Actions, Ticks}
 use Rattle.term.specs.Processes.{Process, nodeProcess}
+use Rattle.term.specs.Accepted.{GuardNode}
 use Rattle.term.specs.Choices.{tickCount, countIn}
 use Rattle.term.proofs.Acceptance.{no-process}
 use Rattle.accept.specs.declared.Counts.{Counts}
 use Rattle.accept.specs.Counts.{trueCounts}
+use Rattle.choice.specs.declared.Goal.{Goal}
 use Rattle.choice.specs.Chosen.{chosenIn}
 use Rattle.choice.specs.Turns.{Reached}
 use Rattle.choice.specs.Marking.{onlyTick, hasMark, isIn, WalkMarks, Marked}
@@ -28,11 +30,7 @@ use Rattle.choice.proofs.Chosen.{no-idle}
 is-in-append : (b : ℕ) (xs ys : List ℕ) → isIn b (xs ++ ys) ≡ (isIn b xs || isIn b ys)
 unfolding isIn
 is-in-append b [] ys = refl
-is-in-append b (x ∷ xs) ys = rw (is-in-append b xs ys) (by (eqb b x) (isIn b xs) (isIn b ys))
-  where
-    by : (p q r : Bool) → (p || (q || r)) ≡ ((p || q) || r)
-    by true q r = refl
-    by false q r = refl
+is-in-append b (x ∷ xs) ys = rw (is-in-append b xs ys) (sym (or-assoc (eqb b x) (isIn b xs) (isIn b ys)))
 
 -- one mark more
 set-marked : (ms : List ℕ) (n b : ℕ) → n < length ms → hasMark (set ms n 1) b ≡ (eqb b n || hasMark ms b)
@@ -52,10 +50,11 @@ apart t b n g p =
     omega arith)
 
 -- a node that has a choice is a process
-pub reached-process : (t : Table) (level : ℕ) (m : Mode) (n c : ℕ) → Reached t level m n c → isProcess (kindAt t n) ≡ true
-reached-process t level m n c r =
-    ⊎-elim (λ (e : isProcess (kindAt t n) ≡ true). e)
-    (λ (e : isProcess (kindAt t n) ≡ false). absurd (no-idle m c (subst (λ (P : Process). c < countIn m P) (no-process t n e) (r .choice)))) (either (isProcess (kindAt t n)))
+pub reached-process : (t : Table) (g : Goal) → Reached t g → isProcess (kindAt t (g .node)) ≡ true
+reached-process t g r =
+    ⊎-elim (λ (e : isProcess (kindAt t (g .node)) ≡ true). e)
+    (λ (e : isProcess (kindAt t (g .node)) ≡ false). absurd (no-idle (g .mode) (g .choice) (subst (λ (P : Process). g .choice < countIn (g .mode) P) (no-process t (g .node) e) (r .choice))))
+    (either (isProcess (kindAt t (g .node))))
 
 -- where one tick is looked for and there is one only, that is the choice
 pub only-first : (m : Mode) (k : Counts) (P : Process) (c : ℕ) → onlyTick m k ≡ true → k ≡ trueCounts P → c < countIn m P → chosenIn m P c ≡ chosenIn Ticks P 0
@@ -82,29 +81,20 @@ module _ (t : Table) (ms : List ℕ) (marks : WalkMarks t ms) where
   -- no guard, or the same ones
   pub marked-none : Marked t [] ms ms
   unfolding isIn
-  marked-none = record { marks = marks; same = refl; guards = λ b e. by (hasMark ms b) }
-    where
-      by : (p : Bool) → p ≡ (p || false)
-      by true = refl
-      by false = refl
+  marked-none = record { marks = marks; same = refl; guards = λ b e. sym (or-false (hasMark ms b)) }
 
-  -- one guard, and then the others
-  pub mark-guard : (g : ℕ) → isGuard (kindAt t g) ≡ true → g < t .sizes .nodes → (vs : List ℕ) → vs ≡ set ms g 1 → WalkMarks t vs
-  mark-guard g e h vs f = subst (WalkMarks t) (sym f) (marks-guard g e (omega (arith, marks .room)))
-
-  pub marked-guard : (g : ℕ) → g < t .sizes .nodes → (vs : List ℕ) → vs ≡ set ms g 1 → (gs out : List ℕ) → Marked t gs vs out → Marked t (g ∷ gs) ms out
+  -- one guard
+  pub marked-guard : (g : ℕ) → GuardNode t g → (vs : List ℕ) → vs ≡ set ms g 1 → Marked t (g ∷ []) ms vs
   unfolding isIn
-  marked-guard g h vs f gs out m =
-      record {
-        marks = m .marks;
-        same = m .same ∙ ap length f ∙ length-set ms g 1;
-        guards = λ b e. m .guards b e ∙ ap (λ (x : Bool). x || isIn b gs) (ap (λ (l : List ℕ). hasMark l b) f ∙ set-marked ms g b (omega (arith, marks .room))) ∙ by (eqb b g) (hasMark ms b) (isIn b gs);
+  marked-guard g e vs f =
+      subst (λ (v : List ℕ). Marked t (g ∷ []) ms v) (sym f) record {
+        marks = marks-guard g (e .1) inside;
+        same = length-set ms g 1;
+        guards = λ b h. set-marked ms g b inside ∙ or-comm (eqb b g) (hasMark ms b) ∙ ap (λ (x : Bool). hasMark ms b || x) (sym (or-false (eqb b g)));
       }
     where
-      by : (p q r : Bool) → ((p || q) || r) ≡ (q || (p || r))
-      by true true r = refl
-      by true false r = refl
-      by false q r = refl
+      inside : g < length ms
+      inside = omega (arith, e .0, marks .room)
 
   -- a tick's guards, and then those of what it joins
   pub marked-join : (us gs mid out : List ℕ) → Marked t us ms mid → Marked t gs mid out → Marked t (us ++ gs) ms out
@@ -113,12 +103,8 @@ module _ (t : Table) (ms : List ℕ) (marks : WalkMarks t ms) where
         marks = m .marks;
         same = m .same ∙ k .same;
         guards = λ b e.
-            m .guards b e ∙ ap (λ (x : Bool). x || isIn b gs) (k .guards b e) ∙ by (hasMark ms b) (isIn b us) (isIn b gs) ∙ ap (λ (x : Bool). hasMark ms b || x) (sym (is-in-append b us gs));
+            m .guards b e ∙ ap (λ (x : Bool). x || isIn b gs) (k .guards b e) ∙ or-assoc (hasMark ms b) (isIn b us) (isIn b gs) ∙ ap (λ (x : Bool). hasMark ms b || x) (sym (is-in-append b us gs));
       }
-    where
-      by : (p q r : Bool) → ((p || q) || r) ≡ (p || (q || r))
-      by true q r = refl
-      by false q r = refl
 
   -- a node whose only tick has been walked, and one whose only tick has just been walked
   pub marked-before : (n : ℕ) → isProcess (kindAt t n) ≡ true → hasMark ms n ≡ true → Marked t (chosenIn Ticks (nodeProcess t n) 0 .guards) ms ms

@@ -1,50 +1,22 @@
 -- The gap in which a walk writes: the room that each step leaves, and the words that it adds.
 -- Assumes nothing.
 use Prim.Native.Nat.{ℕ, suc, _+_, _-_, _≤_, _<_}
-use mathlib.Core.Path.{_≡_, ap, ap₂, subst, _∙_}
+use mathlib.Core.Path.{_≡_, refl, sym, ap, ap₂, _∙_}
 use mathlib.Core.List.{List, [], _∷_, _++_, append-assoc, append-nil}
 use native.Mathlib.Numerals.{add-one}
 use native.Mathlib.Omega.{arith}
-use lib.ListN.{length, take, drop, set, length-append, length-set}
+use lib.ListN.{length, take, drop, set, length-set}
 use lib.Seq.{take-suc-set, take-set-le, drop-cons, drop-set-lt, getD-set-same}
 use Rattle.table.specs.Tables.{Table}
-use Rattle.term.specs.declared.Label.the-variants.{Ticking, Acting}
-use Rattle.term.specs.declared.Mode.{Mode}
-use Rattle.term.specs.Terms.{Tick, Idle, words, tickWord, idleWord}
-use Rattle.term.specs.Processes.{Derivation, derivation, nodeProcess}
+use Rattle.term.specs.declared.Label.{Label}
+use Rattle.term.specs.Terms.{words}
 use Rattle.choice.specs.declared.Gap.{Gap}
-use Rattle.choice.specs.Chosen.{chosenIn}
-use Rattle.choice.specs.Turns.{Reached, Around}
-use Rattle.choice.specs.Writing.{Room, Written}
-
--- the room of each step
-module _ (t : Table) (level : ℕ) (m : Mode) (n c front back : ℕ) (ws : List ℕ) (room : Room t level m n c front back ws) where
-  abbrev d : Derivation
-  d = chosenIn m (nodeProcess t n) c
-
-  pub room-end : (w : ℕ) → words (d .leaving) ≡ w ∷ [] → front + 1 ≤ back
-  room-end w e = let l = room .fits in let f = ap length e in omega arith
-
-  -- where what is left stays the same
-  pub room-same : (lower : ℕ) (j : Mode) (k i : ℕ) → Reached t lower j k i → words (d .leaving) ≡ words (chosenIn j (nodeProcess t k) i .leaving) → Room t lower j k i front back ws
-  room-same lower j k i r e = record { reached = r; fits = rw e at (room .fits); end = room .end }
-
-  -- where words stay around it
-  pub room-around : (j : Mode) (k i : ℕ) (pre post : List ℕ) (vs : List ℕ) → Reached t level j k i → Around d (chosenIn j (nodeProcess t k) i) pre post → length vs ≡ length ws
-      → (f b : ℕ) → f ≡ front + length pre → b + length post ≡ back → Room t level j k i f b vs
-  room-around j k i pre post vs r a h f b u v =
-      let l = room .fits in
-      let b = room .end in
-      let x = ap length (a .words) ∙ length-append pre (words (chosenIn j (nodeProcess t k) i .leaving) ++ post) in
-      let y = length-append (words (chosenIn j (nodeProcess t k) i .leaving)) post in
-      record { reached = r; fits = omega arith; end = omega arith }
-
-  pub room-between : (e : Derivation) (pre post : List ℕ) → Around d e pre post → front + (length pre + length post) ≤ back
-  room-between e pre post a =
-      let l = room .fits in
-      let x = ap length (a .words) ∙ length-append pre (words (e .leaving) ++ post) in
-      let y = length-append (words (e .leaving)) post in
-      omega arith
+use Rattle.choice.specs.declared.Goal.{Goal}
+use Rattle.choice.specs.declared.Side.{Side}
+use Rattle.choice.specs.declared.Kept.{Kept}
+use Rattle.choice.specs.Turns.{chosenAt, keptBefore, keptAfter, keptSize, Ended, Onward}
+use Rattle.choice.specs.Writing.{Room, RoomFor, Written, Narrowed}
+use Rattle.choice.proofs.Turning.{around-size}
 
 -- the words that each step adds
 pub take-front : (ws : List ℕ) (front w : ℕ) → front < length ws → take (front + 1) (set ws front w) ≡ take front ws ++ (w ∷ [])
@@ -64,89 +36,81 @@ module _ (ws : List ℕ) (front back : ℕ) (h : back ≤ length ws) where
             rw (take-front ws front w (omega arith), drop-set-lt back ws front w (omega arith)) (append-assoc (take front ws) (w ∷ []) (drop back ws));
       }
 
-  wrapped : (w q : ℕ) (mid : List ℕ) (r : Gap) (out : List ℕ) → front + 2 ≤ back →
-      Written (set (set ws front w) (back - 1) q) (front + 1) (back - 1) mid r out → Written ws front back (w ∷ (mid ++ (q ∷ []))) r out
-  wrapped w q mid r out g k = record { same = same; order = k .order; end = end; words = k .words ∙ joined }
-    where
-      one : List ℕ
-      one = set ws front w
+-- words are put at the ends of a gap
+module _ (ws : List ℕ) (gap : Gap) (h : gap .back ≤ length ws) where
+  pub narrowed-none : Narrowed ws gap [] [] gap ws
+  narrowed-none = record { same = refl; front = omega arith; back = omega arith; before = sym (append-nil (take (gap .front) ws)); after = refl }
 
-      two : List ℕ
-      two = set one (back - 1) q
+  module _ (w n : ℕ) (g : gap .front + 2 ≤ gap .back) where
+    abbrev one : List ℕ
+    one = set ws (gap .front) w
 
-      long : length two ≡ length ws
-      long = simp length-set
+    -- one at each end
+    pub narrowed-right : Narrowed ws gap (w ∷ []) (n ∷ []) (record { front = gap .front + 1; back = gap .back - 1 }) (set one (gap .back - 1) n)
+    narrowed-right =
+        record {
+          same = simp length-set;
+          front = refl;
+          back = omega arith;
+          before = take-set-le (gap .front + 1) one (gap .back - 1) n (omega arith) ∙ take-front ws (gap .front) w (omega arith);
+          after =
+              drop-cons (set one (gap .back - 1) n) (gap .back - 1) 0 (simp length-set (omega arith)) ∙
+              ap₂ (λ x y. x ∷ y) (getD-set-same one (gap .back - 1) n 0 (rw length-set (omega arith)))
+              (drop-set-lt (suc (gap .back - 1)) one (gap .back - 1) n (omega arith) ∙ drop-set-lt (suc (gap .back - 1)) ws (gap .front) w (omega arith) ∙
+              ap (λ (b : ℕ). drop b ws) whole);
+        }
+      where
+        whole : suc (gap .back - 1) ≡ gap .back
+        whole = omega arith
 
-      same : length out ≡ length ws
-      same = k .same ∙ long
+    -- two at the front
+    pub narrowed-left : Narrowed ws gap (w ∷ n ∷ []) [] (record { front = gap .front + 2; back = gap .back }) (set one (gap .front + 1) n)
+    narrowed-left =
+        record {
+          same = simp length-set;
+          front = refl;
+          back = omega arith;
+          before =
+              ap (λ (b : ℕ). take b (set one (gap .front + 1) n)) twice ∙ take-front one (gap .front + 1) n (rw length-set (omega arith)) ∙
+              ap (λ (l : List ℕ). l ++ (n ∷ [])) (take-front ws (gap .front) w (omega arith)) ∙ append-assoc (take (gap .front) ws) (w ∷ []) (n ∷ []);
+          after = drop-set-lt (gap .back) one (gap .front + 1) n (omega arith) ∙ drop-set-lt (gap .back) ws (gap .front) w (omega arith);
+        }
+      where
+        twice : gap .front + 2 ≡ gap .front + 1 + 1
+        twice = omega arith
 
-      end : r .back ≤ length ws
-      end = let e = k .end in omega (arith, long)
+-- what is written into the gap that is left is written between them
+written-around : {ws : List ℕ} {gap : Gap} {pre post : List ℕ} {g : Gap} {vs : List ℕ} {mid : List ℕ} {r : Gap} {out : List ℕ}
+    → Narrowed ws gap pre post g vs → Written vs (g .front) (g .back) mid r out → Written ws (gap .front) (gap .back) (pre ++ (mid ++ post)) r out
+written-around k w =
+    record { same = w .same ∙ k .same; order = w .order; end = omega (arith, w .end, k .same); words = w .words ∙ rw (k .before, k .after) (simp append-assoc) }
 
-      before : take (front + 1) two ≡ take front ws ++ (w ∷ [])
-      before = take-set-le (front + 1) one (back - 1) q (omega arith) ∙ take-front ws front w (omega arith)
+-- a walk from goal f, with gap a in us, has come to goal g, with gap b in ws: what is written there is written as a whole
+pub record Onto (t : Table) (f : Goal) (a : Gap) (us : List ℕ) (g : Goal) (b : Gap) (ws : List ℕ) : Type 0 where
+  pub room : Room t g b ws
+  pub same : length ws ≡ length us
+  pub rest : (r : Gap) (out : List ℕ) → Written ws (b .front) (b .back) (words (chosenAt t g .leaving)) r out → Written us (a .front) (a .back) (words (chosenAt t f .leaving)) r out
 
-      whole : suc (back - 1) ≡ back
-      whole = omega arith
+module _ (t : Table) (f : Goal) (a : Gap) (us : List ℕ) where
+  pub onto-start : Room t f a us → Onto t f a us f a us
+  onto-start room = record { room = room; same = refl; rest = λ r out k. k }
 
-      after : drop (back - 1) two ≡ q ∷ drop back ws
-      after =
-          drop-cons two (back - 1) 0 (omega (arith, long)) ∙
-          ap₂ (λ x y. x ∷ y) (getD-set-same one (back - 1) q 0 (rw length-set (omega arith)))
-          (drop-set-lt (suc (back - 1)) one (back - 1) q (omega arith) ∙ drop-set-lt (suc (back - 1)) ws front w (omega arith) ∙
-          ap (λ (b : ℕ). drop b ws) whole)
+  module _ (g : Goal) (b : Gap) (ws : List ℕ) (w : Onto t f a us g b ws) where
+    module _ (l : Label) (word : ℕ) (e : Ended (chosenAt t g) l word) where
+      pub onto-last : RoomFor ws b 1
+      onto-last = let x = ap length (e .words) in omega (arith, w .room .fits, w .room .end)
 
-      joined : take (front + 1) two ++ (mid ++ drop (back - 1) two) ≡ take front ws ++ (w ∷ (mid ++ (q ∷ [])) ++ drop back ws)
-      joined = rw (before, after) (simp append-assoc)
+      pub onto-end : (r : Gap) (out : List ℕ) → Written ws (b .front) (b .back) (word ∷ []) r out → Written us (a .front) (a .back) (words (chosenAt t f .leaving)) r out
+      onto-end r out k = w .rest r out (written-same (e .words) k)
 
-  led : (w p : ℕ) (mid : List ℕ) (r : Gap) (out : List ℕ) → front + 2 ≤ back →
-      Written (set (set ws front w) (front + 1) p) (front + 2) back mid r out → Written ws front back (w ∷ (p ∷ mid)) r out
-  led w p mid r out g k = record { same = same; order = k .order; end = end; words = k .words ∙ joined }
-    where
-      one : List ℕ
-      one = set ws front w
+    module _ (h : Goal) (side : Side) (kept : Kept) (s : Onward t g h side kept) where
+      pub onto-room : RoomFor ws b (keptSize kept)
+      onto-room = omega (arith, w .room .fits, w .room .end, around-size (s .around))
 
-      two : List ℕ
-      two = set one (front + 1) p
-
-      long : length two ≡ length ws
-      long = simp length-set
-
-      same : length out ≡ length ws
-      same = k .same ∙ long
-
-      end : r .back ≤ length ws
-      end = let e = k .end in omega (arith, long)
-
-      twice : front + 2 ≡ front + 1 + 1
-      twice = omega arith
-
-      before : take (front + 2) two ≡ (take front ws ++ (w ∷ [])) ++ (p ∷ [])
-      before =
-          ap (λ (b : ℕ). take b two) twice ∙ take-front one (front + 1) p (rw length-set (omega arith)) ∙ ap (λ (l : List ℕ). l ++ (p ∷ [])) (take-front ws front w (omega arith))
-
-      after : drop back two ≡ drop back ws
-      after = drop-set-lt back one (front + 1) p (omega arith) ∙ drop-set-lt back ws front w (omega arith)
-
-      joined : take (front + 2) two ++ (mid ++ drop back two) ≡ take front ws ++ (w ∷ (p ∷ mid) ++ drop back ws)
-      joined = rw (before, after) (simp append-assoc)
-
-  -- a word is put before what is written, and one after it
-  pub written-left : (w q : ℕ) (mid : List ℕ) (r : Gap) (out : List ℕ) → front + 2 ≤ back → (vs : List ℕ) → vs ≡ set (set ws front w) (back - 1) q
-      → Written vs (front + 1) (back - 1) mid r out → Written ws front back (w ∷ (mid ++ (q ∷ []))) r out
-  written-left w q mid r out g vs e k = wrapped w q mid r out g (subst (λ (v : List ℕ). Written v (front + 1) (back - 1) mid r out) e k)
-
-  -- two words are put before it
-  pub written-right : (w p : ℕ) (mid : List ℕ) (r : Gap) (out : List ℕ) → front + 2 ≤ back → (vs : List ℕ) → vs ≡ set (set ws front w) (front + 1) p
-      → Written vs (front + 2) back mid r out → Written ws front back (w ∷ (p ∷ (mid ++ []))) r out
-  written-right w p mid r out g vs e k = rw append-nil (led w p mid r out g (subst (λ (v : List ℕ). Written v (front + 2) back mid r out) e k))
-
--- what a tick and an action leave
-module _ (d : Derivation) where
-  pub leaves-idle : d ≡ derivation Ticking [] Idle → words (d .leaving) ≡ idleWord ∷ []
-  unfolding words
-  leaves-idle h = ap (λ (x : Derivation). words (x .leaving)) h
-
-  pub leaves-tick : (n : ℕ) → d ≡ derivation (Acting n) [] Tick → words (d .leaving) ≡ tickWord ∷ []
-  unfolding words
-  leaves-tick n h = ap (λ (x : Derivation). words (x .leaving)) h
+      pub onto-on : (c : Gap) (vs : List ℕ) → Narrowed ws b (keptBefore kept) (keptAfter kept) c vs → Onto t f a us h c vs
+      onto-on c vs k =
+          record {
+            room = record { reached = s .nearer .reached; fits = omega (arith, w .room .fits, around-size (s .around), k .front, k .back); end = omega (arith, w .room .end, k .back, k .same) };
+            same = k .same ∙ w .same;
+            rest = λ r out x. w .rest r out (written-same (s .around .words) (written-around k x));
+          }

@@ -1,39 +1,44 @@
--- The outcome of a derivation, from that of the one that it is made of.
+-- A walk that tells what a choice does, and how many words it leaves.
 -- Assumes nothing.
-use Prim.Native.Nat.{ℕ, _+_, _≤_}
-use mathlib.Core.Path.{_≡_, sym, ap, _∙_}
-use mathlib.Core.List.{List, [], _++_}
+use Prim.Native.Nat.{ℕ, _+_, _*_, _≤_}
+use mathlib.Core.Path.{_≡_, refl, sym, ap, _∙_}
 use native.Mathlib.Omega.{arith}
-use lib.ListN.{length, length-append}
-use Rattle.term.specs.declared.Label.the-variants.{Ticking, Acting}
-use Rattle.term.specs.Terms.{Term, Tick, Idle, words}
-use Rattle.term.specs.Processes.{Derivation, derivation}
-use Rattle.choice.specs.declared.Effect.{Effect}
-use Rattle.choice.specs.Turns.{Around}
-use Rattle.choice.specs.Outcomes.{grownBy, Tells}
+use lib.ListN.{length}
+use Rattle.table.specs.Tables.{Table}
+use Rattle.term.specs.declared.Label.{Label}
+use Rattle.term.specs.Terms.{words}
+use Rattle.choice.specs.declared.Goal.{Goal}
+use Rattle.choice.specs.declared.Side.{Side}
+use Rattle.choice.specs.declared.Kept.{Kept}
+use Rattle.choice.specs.declared.Kept.the-variants.{Nothing, Right, Left}
+use Rattle.choice.specs.Turns.{chosenAt, ahead, Reached, keptSize, Ended, Onward}
+use Rattle.choice.specs.Outcomes.{Tells}
+use Rattle.choice.proofs.Turning.{around-size}
 
-module _ (d : Derivation) (limit : ℕ) (l : 1 ≤ limit) where
-  pub tells-tick : d ≡ derivation Ticking [] Idle → Tells d limit (record { label = Ticking; size = 1 })
-  unfolding words
-  tells-tick h = record { label = ap (λ (x : Derivation). x .label) (sym h); size = ap (λ (x : Derivation). length (words (x .leaving))) (sym h); bound = l }
+-- at most two words stay
+kept-most : (k : Kept) → keptSize k ≤ 2
+kept-most Nothing = omega arith
+kept-most (Right w n) = omega arith
+kept-most (Left n) = omega arith
 
-  pub tells-act : (n : ℕ) → d ≡ derivation (Acting n) [] Tick → Tells d limit (record { label = Acting n; size = 1 })
-  unfolding words
-  tells-act n h = record { label = ap (λ (x : Derivation). x .label) (sym h); size = ap (λ (x : Derivation). length (words (x .leaving))) (sym h); bound = l }
+-- a walk from goal f has come to goal g: what is done is the same, and so many words are left, with the last one
+pub record Toward (t : Table) (f g : Goal) (size : ℕ) : Type 0 where
+  pub reached : Reached t g
+  pub label : chosenAt t f .label ≡ chosenAt t g .label
+  pub words : size + length (words (chosenAt t g .leaving)) ≡ 1 + length (words (chosenAt t f .leaving))
+  pub bound : size + 2 * ahead t g ≤ 1 + 2 * ahead t f
 
-module _ (d e : Derivation) (limit wider : ℕ) (o : Effect) (w : Tells e limit o) where
-  pub tells-same : (d .label ≡ e .label) × (d .leaving ≡ e .leaving) → limit ≤ wider → Tells d wider o
-  tells-same h l =
-      record {
-        label = w .label ∙ sym (h .0);
-        size = w .size ∙ ap (λ (T : Term). length (words T)) (sym (h .1));
-        bound = omega (arith, w .bound);
-      }
+module _ (t : Table) (f : Goal) where
+  pub toward-start : Reached t f → Toward t f f 1
+  toward-start r = record { reached = r; label = refl; words = refl; bound = omega arith }
 
-  pub tells-around : (front back : List ℕ) → Around d e front back → (k : ℕ) → k ≡ length front + length back → limit + k ≤ wider → (r : Effect) → r ≡ grownBy o k → Tells d wider r
-  tells-around front back h k f l r g =
-      rw g record {
-        label = w .label ∙ sym (h .label);
-        size = sym (ap length (h .words) ∙ length-append front (words (e .leaving) ++ back) ∙ (let x = length-append (words (e .leaving)) back in omega (arith, w .size)));
-        bound = omega (arith, w .bound);
-      }
+  module _ (g : Goal) (size : ℕ) (w : Toward t f g size) where
+    pub toward-on : (h : Goal) (side : Side) (kept : Kept) (k : ℕ) → k ≡ keptSize kept → Onward t g h side kept → Toward t f h (size + k)
+    toward-on h side kept k e s =
+        let x = around-size (s .around) in
+        record { reached = s .nearer .reached; label = w .label ∙ s .around .label; words = omega (arith, w .words); bound = omega (arith, kept-most kept, w .bound, s .nearer .falls) }
+
+    pub toward-end : (l : Label) (word limit : ℕ) → Ended (chosenAt t g) l word → 1 + 2 * ahead t f ≤ limit → Tells (chosenAt t f) limit (record { label = l; size = size })
+    toward-end l word limit e h =
+        let x = ap length (e .words) in
+        record { label = sym (w .label ∙ e .label); size = omega (arith, w .words); bound = omega (arith, w .bound) }

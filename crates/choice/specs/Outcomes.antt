@@ -5,14 +5,12 @@ use lib.ListN.{length}
 use Rattle.term.specs.Terms.{words}
 use Rattle.term.specs.Processes.{Derivation}
 use Rattle.choice.specs.declared.Effect.{Effect}
+use Rattle.choice.specs.Turns.{reach}
 
 abbrev pub grownBy : Effect → ℕ → Effect
 grownBy o n = record { label = o .label; size = o .size + n }
 
--- how far a walk from node n can go, where definitions below a level may be called; each of its steps adds at most two words
-abbrev pub reach : ℕ → ℕ → ℕ
-reach level n = 4097 * level + n
-
+-- each step adds at most two words
 abbrev pub most : ℕ → ℕ → ℕ
 most level n = 2 * reach level n + 1
 

@@ -4,18 +4,16 @@ use mathlib.Core.Path.{_≡_}
 use mathlib.Core.List.{List, _++_}
 use lib.ListN.{length, take, drop}
 use Rattle.table.specs.Tables.{Table}
-use Rattle.term.specs.declared.Mode.{Mode}
 use Rattle.term.specs.Terms.{words}
-use Rattle.term.specs.Processes.{nodeProcess}
 use Rattle.choice.specs.declared.Gap.{Gap}
-use Rattle.choice.specs.Chosen.{chosenIn}
-use Rattle.choice.specs.Turns.{Reached}
+use Rattle.choice.specs.declared.Goal.{Goal}
+use Rattle.choice.specs.Turns.{chosenAt, Reached}
 
--- what choice c of node n leaves fits between front and back
-pub record Room (t : Table) (level : ℕ) (m : Mode) (n c front back : ℕ) (ws : List ℕ) : Type 0 where
-  pub reached : Reached t level m n c
-  pub fits : front + length (words (chosenIn m (nodeProcess t n) c .leaving)) ≤ back
-  pub end : back ≤ length ws
+-- what is left at a goal fits into the gap
+pub record Room (t : Table) (g : Goal) (gap : Gap) (ws : List ℕ) : Type 0 where
+  pub reached : Reached t g
+  pub fits : gap .front + length (words (chosenAt t g .leaving)) ≤ gap .back
+  pub end : gap .back ≤ length ws
 
 -- ws with `middle` between front and back has become out, with a new gap
 pub record Written (ws : List ℕ) (front back : ℕ) (middle : List ℕ) (r : Gap) (out : List ℕ) : Type 0 where
@@ -23,3 +21,15 @@ pub record Written (ws : List ℕ) (front back : ℕ) (middle : List ℕ) (r : G
   pub order : r .front ≤ r .back
   pub end : r .back ≤ length ws
   pub words : take (r .front) out ++ drop (r .back) out ≡ take front ws ++ (middle ++ drop back ws)
+
+-- so many words fit into the gap
+abbrev pub RoomFor : List ℕ → Gap → ℕ → Type 0
+RoomFor ws gap n = (gap .front + n ≤ gap .back) × (gap .back ≤ length ws)
+
+-- words have been put at the ends of a gap: ws has become out, with the gap that is left
+pub record Narrowed (ws : List ℕ) (gap : Gap) (pre post : List ℕ) (r : Gap) (out : List ℕ) : Type 0 where
+  pub same : length out ≡ length ws
+  pub front : r .front ≡ gap .front + length pre
+  pub back : r .back + length post ≡ gap .back
+  pub before : take (r .front) out ≡ take (gap .front) ws ++ pre
+  pub after : drop (r .back) out ≡ post ++ drop (gap .back) ws

@@ -6,33 +6,43 @@ pub mod marking; // marking.rt: the guards of a node's choice, as marks
 pub mod outcomes; // outcomes.rt: what a node's choice does, and how many words it leaves
 
 use term::Label;
+use term::Mode;
 
 // Of a sequence or a parallel: an action of the left part, or of the right; or a tick of the left part that joins a derivation of the
 // right, or a tick of the right part that joins a derivation of the left.
 pub enum Pick {
     LeftActs(u64),
     RightActs(u64),
-    LeftTicks(u64, u64),
-    RightTicks(u64, u64),
+    LeftTicks { tick: u64, choice: u64 },
+    RightTicks { tick: u64, choice: u64 },
 }
 
-// What is collected where a walk goes on: nothing, a guard, or a tick of a node.
+// The derivation that a walk goes to: a choice among those of a mode of a node.
+pub struct Goal {
+    pub node: usize,
+    pub mode: Mode,
+    pub choice: u64,
+}
+
+// Whose guards are collected besides: nobody's, one guard, or those of a tick that joins.
 pub enum Side {
     Alone,
-    Under(usize),
-    After(usize, u64),
+    Under { guard: usize },
+    After { tick: Goal },
 }
 
-// One step from a node towards its choice: a tick, or the action at the node, ends it; else it goes on at a node, with a choice of the
-// same mode; or at the left part, whose operator and right node stay around its action; or at the right part of a parallel, whose left
-// node stays; or in the body of a definition.
+// The words that stay around what is left: none; the operator before it and its right node after it; or a parallel and its left node
+// before it.
+pub enum Kept {
+    Nothing,
+    Right { operator: u32, node: u32 },
+    Left { node: u32 },
+}
+
+// One step towards a goal: it ends there, with what is done and the one word that is left; else it goes on.
 pub enum Turn {
-    Ticked,
-    Acted,
-    On(usize, u64, Side),
-    Left(u32, usize, u64, usize),
-    Right(usize, usize, u64),
-    Call(usize),
+    End { label: Label, word: u32 },
+    On { next: Goal, side: Side, kept: Kept },
 }
 
 // What a derivation does, and how many words it leaves.

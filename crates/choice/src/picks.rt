@@ -65,9 +65,15 @@ pub fn pick(mode: Mode, c: u64, beside: u64, left: Counts, right: Counts) -> Pic
     let n = total(mode, right);
     let joined = left.ticks * n;
     if third < joined {
-        return Pick::LeftTicks(quotient(third, n), remainder(third, n));
+        return Pick::LeftTicks {
+            tick: quotient(third, n),
+            choice: remainder(third, n),
+        };
     }
     let fourth = third - joined;
     let k = total(mode, left);
-    Pick::RightTicks(quotient(fourth, k), remainder(fourth, k))
+    Pick::RightTicks {
+        tick: quotient(fourth, k),
+        choice: remainder(fourth, k),
+    }
 }

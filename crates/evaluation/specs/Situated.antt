@@ -1,19 +1,17 @@
 -- What evaluation asks for, and which kinds name nodes of their own sort.
 use Prim.Native.Nat.{ℕ, _<_}
 use mathlib.Core.Bool.{Bool, _&&_}
-use mathlib.Core.Path.{_≡_}
 use mathlib.Core.List.{List}
 use lib.Dec.{leb}
-use lib.ListN.{length}
 use Rattle.basis.specs.Kinds as kind
 use Rattle.table.specs.Tables.{Table, agentLimit}
 use Rattle.table.specs.Sound.{Shaped}
-use Rattle.term.specs.Acceptance.{stateWords}
+use Rattle.state.specs.Standing.{HasBlocks}
 
--- a table of the right lengths, a whole state, two agents that the state has room for
+-- a table of the right lengths, a state with room for all blocks, two agents that have one
 pub record Situated (t : Table) (s : List ℕ) (sender receiver : ℕ) : Type 0 where
   pub shaped : Shaped t
-  pub words : length s ≡ stateWords
+  pub blocks : HasBlocks s
   pub sends : sender < agentLimit
   pub receives : receiver < agentLimit
 

@@ -9,7 +9,7 @@ ghost use Rattle.state.specs.Layout.{keyLimit};
 ghost use Rattle.state.specs.Evaluation.{reads};
 ghost use Rattle.evaluation.specs.Reading.{Adds, readsBelow, isKey, Named};
 use super::Parts;
-use state::KEYS;
+use table::KEYS;
 use table::Sizes;
 
 // The set with the key that a node is, if it is one.

@@ -10,7 +10,7 @@ use Rattle.table.specs.Nodes.{isGuard}
 use Rattle.choice.specs.Marking.{hasMark, isIn}
 use Rattle.steps.specs.Acts.{actChecks, chosen}
 use Rattle.judging.specs.declared.Judgement.{Judgement}
-use Rattle.judging.specs.Outcomes.{found}
+use Rattle.judging.specs.Outcomes.{Found}
 
 -- there is a byte for each node, and none is marked
 pub record Unmarked (t : Table) (marks : List ℕ) : Type 0 where
@@ -23,11 +23,7 @@ pub record GuardsMarked (t : Table) (gs marks : List ℕ) : Type 0 where
   pub guards : (b : ℕ) → isGuard (kindAt t b) ≡ true → hasMark marks b ≡ isIn b gs
   pub nodes : (b : ℕ) → isIn b gs ≡ true → (b < t .sizes .nodes) × (isGuard (kindAt t b) ≡ true)
 
--- what is found of choice c
-unfoldable pub judged : Table → List ℕ → ℕ → ℕ → Judgement
-judged t was x c = found t was x (chosen t was x c .label) (firstOf (actChecks t was x c))
-
 -- the judgement of choice c, and the marks of its guards where nothing refuses
 pub record Judges (t : Table) (was : List ℕ) (x c : ℕ) (marks : List ℕ) (r : Judgement) : Type 0 where
-  pub is : r ≡ judged t was x c
+  pub is : Found t was x (chosen t was x c .label) (firstOf (actChecks t was x c)) r
   pub guards : firstOf (actChecks t was x c) ≡ passes → GuardsMarked t (chosen t was x c .guards) marks

@@ -1,6 +1,7 @@
 -- Refusals 15 to 17: what a choice does, and how many words it leaves.
 use Prim.Native.Nat.{ℕ}
 use mathlib.Core.Bool.{cond}
+use mathlib.Core.Path.{_≡_}
 use mathlib.Core.List.{List}
 use lib.Dec.{ltb}
 use Rattle.table.specs.Checks.{Check, passes, refuses, firstOf}
@@ -12,31 +13,25 @@ use Rattle.state.specs.Layout.{residualWords}
 use Rattle.evaluation.specs.Situated.{Situated}
 use Rattle.steps.specs.Acts.{wordIn, valueFor, lastChecks}
 use Rattle.judging.specs.declared.Judgement.{Judgement}
-
--- what is answered beside a refusal, and where nothing refuses
-abbrev pub refusedBy : ℕ → Judgement
-refusedBy number = record { refusal = number; label = Ticking; value = 0 }
-
-abbrev pub allowed : Label → ℕ → Judgement
-allowed label word = record { refusal = 0; label = label; value = word }
+use Rattle.judging.specs.declared.Judgement.the-variants.{Refused, Allowed}
 
 -- the word that an act of a label sets: 0 for a tick
 abbrev pub wordFor : Table → List ℕ → ℕ → Label → ℕ
 wordFor t was x Ticking = 0
 wordFor t was x (Acting n) = wordIn (valueFor t was x n)
 
--- what is found of an act of agent x, by what its checks come to
-abbrev pub found : Table → List ℕ → ℕ → Label → Check → Judgement
-found t was x label passes = allowed label (wordFor t was x label)
-found t was x label (refuses number place) = refusedBy number
+-- what is found of an act of agent x: what its checks come to in each case, and what it does
+abbrev pub Found : Table → List ℕ → ℕ → Label → Check → Judgement → Type 0
+Found t was x label check (Refused number) = check ≡ refuses number 0
+Found t was x label check (Allowed does word) = (check ≡ passes) × (does ≡ label) × (word ≡ wordFor t was x label)
 
 -- 15 to 17, of what leaves so many words
-abbrev pub ended : Table → List ℕ → ℕ → Label → ℕ → Judgement
-ended t was x label size = found t was x label (firstOf (lastChecks t was x label size))
+abbrev pub Ended : Table → List ℕ → ℕ → Label → ℕ → Judgement → Type 0
+Ended t was x label size r = Found t was x label (firstOf (lastChecks t was x label size)) r
 
 -- 17 alone, of what leaves so many words
 unfoldable pub sized : Label → ℕ → ℕ → Judgement
-sized label word size = cond (ltb residualWords size) (refusedBy 17) (allowed label word)
+sized label word size = cond (ltb residualWords size) (Refused 17) (Allowed label word)
 
 -- the action is of the table, and agent x can be asked for its value
 pub record Doing (t : Table) (was : List ℕ) (x : ℕ) (label : Label) : Type 0 where

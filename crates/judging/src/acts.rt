@@ -2,11 +2,9 @@
 use crate::Judgement;
 use crate::guards::all_hold;
 use crate::outcomes::judge_outcome;
-use crate::outcomes::refused;
 use residual::choosing::collect;
 use residual::choosing::count_choices;
 use residual::choosing::outcome;
-use state::RESIDUAL_WORDS;
 use state::length_at;
 use state::residual_at;
 use state::zc_at;
@@ -19,7 +17,7 @@ ghost use Rattle.state.specs.WellFormed.{Proper};
 ghost use Rattle.judging.specs.Judging.{Unmarked, Judges};
 ghost use Rattle.judging.specs.Residuals.{ResidualGiven};
 
-// 12 to 17 of choice c, where no key waits. The words are those of the agent's residual, of which it uses so many.
+// 12 to 17 of choice c, where no key waits. The words are those of the agent's residual.
 // Nothing but the marks is written.
 fn judge_choice(
     sizes: Sizes,
@@ -28,27 +26,26 @@ fn judge_choice(
     scratch: &[u32],
     state: &[u32],
     words: &[u32],
-    size: usize,
     marks: &mut [u8],
     agent: usize,
     c: u64,
 ) -> Judgement
-    requires { ⌜ ResidualGiven (table sizes (now kinds) (now operands)) (now scratch) (now state) agent size (now words) ⌝ }
+    requires { ⌜ ResidualGiven (table sizes (now kinds) (now operands)) (now scratch) (now state) agent (now words) ⌝ }
     requires { ⌜ Unmarked (table sizes (now kinds) (now operands)) (now marks) ⌝ }
     ensures { λ r. ⌜ Judges (table sizes (now (kinds .entry)) (now (operands .entry))) (now (state .entry)) agent c (now (marks .exit)) r ⌝ }
 {
-    let all = count_choices(sizes, kinds, operands, scratch, words, size);
+    let all = count_choices(sizes, scratch, words);
     if !all.few {
-        return refused(12);
+        return Judgement::Refused(12);
     }
     if all.count <= c {
-        return refused(13);
+        return Judgement::Refused(13);
     }
-    collect(sizes, kinds, operands, scratch, marks, words, size, c);
+    collect(sizes, kinds, operands, scratch, marks, words, c);
     if !all_hold(sizes, kinds, operands, state, marks, agent) {
-        return refused(14);
+        return Judgement::Refused(14);
     }
-    let o = outcome(sizes, kinds, operands, scratch, words, size, c);
+    let o = outcome(sizes, kinds, operands, scratch, words, c);
     judge_outcome(sizes, kinds, operands, state, agent, o)
 }
 
@@ -73,12 +70,12 @@ pub fn judge(
     let zc = zc_at(agent);
     let zp = zp_at(agent);
     if (state[zc] != 0) | (state[zp] != 0) {
-        return refused(11);
+        return Judgement::Refused(11);
     }
     let place = length_at(agent);
     let size = state[place] as usize;
     let at = residual_at(agent);
-    let end = at + RESIDUAL_WORDS;
+    let end = at + size;
     judge_choice(
         sizes,
         kinds,
@@ -86,7 +83,6 @@ pub fn judge(
         scratch,
         state,
         &state[at..end],
-        size,
         marks,
         agent,
         c,

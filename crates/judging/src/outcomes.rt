@@ -2,8 +2,8 @@
 use crate::Judgement;
 use choice::Effect;
 use evaluation::value_of;
-use state::CLOCK;
 use state::RESIDUAL_WORDS;
+use state::clock_of;
 use table::Sizes;
 use table::q_at;
 use term::Label;
@@ -11,31 +11,16 @@ use value::Value;
 ghost use mathlib.Core.Path.{_≡_};
 ghost use Rattle.term.specs.declared.Label.the-variants.{Acting};
 ghost use Rattle.table.specs.Tables.{table};
-ghost use Rattle.judging.specs.Outcomes.{refusedBy, sized as sizedOf, Doing, ended};
-
-// Beside a refusal nothing is done.
-pub fn refused(number: u8) -> Judgement
-    ensures { λ r. ⌜ r ≡ refusedBy number ⌝ }
-{
-    Judgement {
-        refusal: number,
-        label: Label::Ticking,
-        value: 0,
-    }
-}
+ghost use Rattle.judging.specs.Outcomes.{sized as sizedOf, Doing, Ended};
 
 // 17, of what is done, the word that it sets and how many words it leaves.
 fn sized(label: Label, value: u32, size: usize) -> Judgement
     ensures { λ r. ⌜ r ≡ sizedOf label value size ⌝ }
 {
     if RESIDUAL_WORDS < size {
-        return refused(17);
+        return Judgement::Refused(17);
     }
-    Judgement {
-        refusal: 0,
-        label,
-        value,
-    }
+    Judgement::Allowed { label, value }
 }
 
 // 15 and 16 of the action at node n, and then 17.
@@ -49,15 +34,15 @@ fn judge_action(
     size: usize,
 ) -> Judgement
     requires { ⌜ Doing (table sizes (now kinds) (now operands)) (now state) agent (Acting n) ⌝ }
-    ensures { λ r. ⌜ r ≡ ended (table sizes (now (kinds .entry)) (now (operands .entry))) (now (state .entry)) agent (Acting n) size ⌝ }
+    ensures { λ r. ⌜ Ended (table sizes (now (kinds .entry)) (now (operands .entry))) (now (state .entry)) agent (Acting n) size r ⌝ }
 {
     let q = q_at(operands, n);
     let value = value_of(sizes, kinds, operands, state, agent, agent, q);
     match value {
-        Value::Absent => refused(15),
+        Value::Absent => Judgement::Refused(15),
         Value::Present(word) => {
-            if (kinds[n] == basis::kinds::SET_STIGMERGY) & (state::CLOCK_LIMIT <= state[CLOCK]) {
-                return refused(16);
+            if (kinds[n] == basis::kinds::SET_STIGMERGY) & (state::CLOCK_LIMIT <= clock_of(state)) {
+                return Judgement::Refused(16);
             }
             sized(Label::Acting(n), word, size)
         }
@@ -74,7 +59,7 @@ pub fn judge_outcome(
     o: Effect,
 ) -> Judgement
     requires { ⌜ Doing (table sizes (now kinds) (now operands)) (now state) agent (o .label) ⌝ }
-    ensures { λ r. ⌜ r ≡ ended (table sizes (now (kinds .entry)) (now (operands .entry))) (now (state .entry)) agent (o .label) (o .size) ⌝ }
+    ensures { λ r. ⌜ Ended (table sizes (now (kinds .entry)) (now (operands .entry))) (now (state .entry)) agent (o .label) (o .size) r ⌝ }
 {
     let label = o.label;
     let size = o.size;

@@ -9,7 +9,8 @@ use Rattle.value.specs.declared.Value.the-variants.{Absent}
 use Rattle.table.specs.Tables.{Table}
 use Rattle.term.specs.Terms.{Node}
 use Rattle.state.specs.declared.Store.the-variants.{Environment, Attributes, Entries}
-use Rattle.state.specs.Layout.{keyLimit, clockOf, wordOf, stampOf, zcOf, zpOf, termIn, valueIn}
+use Rattle.state.specs.Layout.{keyLimit, wordOf, stampOf, zcOf, zpOf, termIn, valueIn}
+use Rattle.state.specs.Entries.{clockOf}
 use Rattle.labs.specs.Agents.{⟨_⸴_⸴_⸴_⸴_⟩, Agent, Entry, System}
 use Rattle.labs.specs.Roots.{startOf}
 

@@ -17,9 +17,11 @@ use Rattle.table.specs.Tables.{headerBytes, sizesOf, withinLimits, tableOf}
 use Rattle.table.proofs.Checks.{first-later, first-refuses, append-later, append-refuses}
 use Rattle.table.proofs.Limits.{within-limits}
 use Rattle.term.specs.Acceptance.{tableChecks}
+use Rattle.state.specs.Layout.{isWhole}
 use Rattle.state.specs.WellFormed.{loaded}
 use Rattle.steps.specs.Steps.{loadOf, stateChecks}
 use Rattle.steps.specs.Runs.{stepsOf, scheduleChecks, begun, Rehearsal, runOf}
+use Rattle.steps.specs.Tallies.{noTally}
 use Rattle.steps.proofs.Steps.{outcome-check}
 use Rattle.machine.proofs.Schedules.{schedule-odd, schedule-long}
 use Rattle.labs_show.specs.Input.{tableEnd, inputBytes}
@@ -85,7 +87,7 @@ module _ (table : List ℕ) (h : 12 ≤ length table) (many : 4096 < u16At table
 
   load-refuses-2 : (was : List ℕ) (scratch : ℕ) → loadOf table was scratch .check ≡ refuses 2 0
   load-refuses-2 was scratch =
-      outcome-check was 0 (loaded (tableOf table)) (firstOf (tableChecks table (length was) scratch))
+      outcome-check was noTally (loaded (tableOf table)) (firstOf (tableChecks table (isWhole was) scratch))
       ∙ append-refuses (sizeChecks table) _ size-refuses
 
 -- THE INPUT. The sizes are read from its first bytes

@@ -4,14 +4,16 @@ use Prim.Native.Nat.{ℕ, _+_, _<_}
 use mathlib.Core.Path.{_≡_, sym, ap, subst, _∙_}
 use mathlib.Core.List.{List}
 use native.Mathlib.Omega.{arith}
-use lib.ListN.{length, getD}
+use lib.ListN.{getD}
 use lib.Seq.{getD-drop}
 use Rattle.table.specs.Checks.{passes, refuses, firstOf}
 use Rattle.table.specs.Tables.{Table, sizesOf, tableOf}
 use Rattle.table.specs.Sound.{Limits}
+use Rattle.state.specs.Layout.{isWhole}
 use Rattle.state.specs.WellFormed.{loaded}
 use Rattle.state.proofs.Formed.{ProperFacts}
 use Rattle.term.specs.Acceptance.{tableChecks}
+use Rattle.steps.specs.Tallies.{noTally}
 use Rattle.steps.specs.Steps.{Outcome, loadOf}
 use Rattle.steps.specs.Runs.{stepsOf, begun, ran, Progress, Rehearsal, runOf}
 use Rattle.steps.proofs.Steps.{outcome-check, outcome-refused, load-accepted, accepted-load}
@@ -31,7 +33,7 @@ unfolding runOf
 run-passes table was scratch schedule answers e = rw (runOf, e)
 
 proper-fleet : (t : Table) (s : List ℕ) → Limits (t .sizes) → ProperFacts t s → Fleet s
-proper-fleet t s l p = let f = p .formed .formed .agents in record { whole = p .whole; agents = omega (arith, l .agents) }
+proper-fleet t s l p = let f = p .formed .formed .agents in record { blocks = omega (arith, p .whole); agents = omega (arith, l .agents) }
 
 module _ (table schedule was : List ℕ) (scratch : ℕ) (answers : List ℕ) {r : Loaded} {mid : List ℕ} (l : Loads (loadOf table was scratch) r mid) where
   load-is : (x : Loaded) → r ≡ x → loadOf table was scratch .check ≡ loadCheck x
@@ -53,7 +55,7 @@ module _ (table schedule was : List ℕ) (scratch : ℕ) (answers : List ℕ) {r
         subst (λ (p : Progress). Fleet (p .state)) (sym (run-passes table mid scratch schedule answers f))
         (proper-fleet (tableOf table) _ (a .table .sound .shaped .limits)
         (ran-proper (tableOf table) (a .table .sound) (λ i. rw (getD-drop (12 + sizesOf table .nodes) table i 0) (narrow (12 + sizesOf table .nodes + i))) schedule (stepsOf schedule) (begun mid answers)
-        (subst (λ (s : List ℕ). ProperFacts (tableOf table) s) (sym start) (load-proper table (length was) scratch (accepted-passes table (length was) scratch a)))))
+        (subst (λ (s : List ℕ). ProperFacts (tableOf table) s) (sym start) (load-proper table (isWhole was) scratch (accepted-passes table (isWhole was) scratch a)))))
 
     pub loaded-runs : {later : ℕ} → later ≡ scratch → {x : Ran} {after bytes : List ℕ} → Runs (runOf table mid later schedule answers) x after bytes
         → Rehearses (rehearsed table schedule was scratch answers) x after bytes
@@ -71,8 +73,8 @@ module _ (table schedule was : List ℕ) (scratch : ℕ) (answers : List ℕ) {r
     kept : mid ≡ was
     kept =
         l .state
-        ∙ ap (λ (o : Outcome). o .state) (outcome-refused was 0 (loaded (tableOf table)) (firstOf (tableChecks table (length was) scratch))
-        (sym (outcome-check was 0 (loaded (tableOf table)) (firstOf (tableChecks table (length was) scratch))) ∙ refuses-load))
+        ∙ ap (λ (o : Outcome). o .state) (outcome-refused was noTally (loaded (tableOf table)) (firstOf (tableChecks table (isWhole was) scratch))
+        (sym (outcome-check was noTally (loaded (tableOf table)) (firstOf (tableChecks table (isWhole was) scratch))) ∙ refuses-load))
 
     pub load-refuses : Rehearses (rehearsed table schedule was scratch answers) (RunRefused number place) mid answers
     unfolding rehearsed

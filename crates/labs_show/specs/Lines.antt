@@ -1,18 +1,17 @@
 -- What is printed of a state, and of a number.
 use Prim.Native.Nat.{ℕ, suc, _≤_}
 use mathlib.Core.Bool.{true, false}
-use mathlib.Core.Path.{_≡_}
 use mathlib.Core.List.{List}
 use lib.IntN.{ℤ, pos, negsuc}
-use lib.ListN.{length, getD}
+use lib.ListN.{getD}
 use Rattle.table.specs.Tables.{agentLimit}
-use Rattle.term.specs.Acceptance.{stateWords}
 use Rattle.state.specs.Layout.{agentsAt}
+use Rattle.state.specs.Standing.{HasBlocks}
 use Rattle.labs_show.specs.declared.lines.Decimal.{Decimal}
 
--- words of a state, with a number of agents that they have room for
+-- all blocks, and a number of agents that they have room for
 pub record Fleet (state : List ℕ) : Type 0 where
-  pub whole : length state ≡ stateWords
+  pub blocks : HasBlocks state
   pub agents : getD state agentsAt 0 ≤ agentLimit
 
 -- `negsuc n` is -(n + 1)

@@ -1,21 +1,19 @@
 // What is printed: a line for each total, value, entry and pending key.
 use machine::Totals;
 use state::AGENTS;
-use state::CLOCK;
-use state::KEYS;
 use state::Store;
+use state::clock_of;
 use state::mark_at;
 use state::value_in;
 use state::zc_at;
 use state::zp_at;
+use table::KEYS;
 use value::Value;
 ghost use mathlib.Core.Path.{_≡_};
 ghost use Prim.Native.Nat.{_<_, _≤_};
-ghost use lib.ListN.{length};
 ghost use Rattle.table.specs.Tables.{agentLimit};
-ghost use Rattle.term.specs.Acceptance.{stateWords};
 ghost use Rattle.value.specs.Values.{signedOf};
-ghost use Rattle.state.specs.Standing.{Pair, storeAgent};
+ghost use Rattle.state.specs.Standing.{Pair, HasBlocks, storeAgent};
 ghost use Rattle.labs_show.specs.Lines.{Fleet, decimalOf};
 
 const OUTPUT: i32 = 1;
@@ -51,8 +49,9 @@ pub fn print_totals(totals: Totals) {
     print_number(totals.done);
     io::write_all(OUTPUT, b" refused");
     print_number(totals.refused);
+    let tally = totals.tally;
     io::write_all(OUTPUT, b" taken");
-    print_number(totals.taken);
+    print_number(tally.taken);
     end_line();
 }
 
@@ -101,7 +100,7 @@ fn print_owner(store: Store) {
 
 // An entry has a stamp.
 fn print_stamp(state: &[u32], store: Store, key: usize)
-    requires { ⌜ (length (now state) ≡ stateWords) × Pair store key ⌝ }
+    requires { ⌜ HasBlocks (now state) × Pair store key ⌝ }
 {
     match store {
         Store::Entries(_) => print_word(state[mark_at(store, key)]),
@@ -112,7 +111,7 @@ fn print_stamp(state: &[u32], store: Store, key: usize)
 
 // The value of a key, where it is present.
 fn print_pair(state: &[u32], store: Store, key: usize)
-    requires { ⌜ (length (now state) ≡ stateWords) × Pair store key ⌝ }
+    requires { ⌜ HasBlocks (now state) × Pair store key ⌝ }
 {
     let value = value_in(state, store, key);
     match value {
@@ -128,7 +127,7 @@ fn print_pair(state: &[u32], store: Store, key: usize)
 }
 
 fn print_store(state: &[u32], store: Store)
-    requires { ⌜ (length (now state) ≡ stateWords) × (storeAgent store < agentLimit) ⌝ }
+    requires { ⌜ HasBlocks (now state) × (storeAgent store < agentLimit) ⌝ }
 {
     let mut key = 0;
     while key < KEYS {
@@ -152,7 +151,7 @@ fn print_keys(name: &[u8], agent: usize, keys: u32) {
 }
 
 fn print_agent(state: &[u32], agent: usize)
-    requires { ⌜ (length (now state) ≡ stateWords) × (agent < agentLimit) ⌝ }
+    requires { ⌜ HasBlocks (now state) × (agent < agentLimit) ⌝ }
 {
     print_store(state, Store::Attributes(agent));
     print_store(state, Store::Entries(agent));
@@ -161,7 +160,7 @@ fn print_agent(state: &[u32], agent: usize)
 }
 
 fn print_agents(state: &[u32], agents: usize)
-    requires { ⌜ (length (now state) ≡ stateWords) × (agents ≤ agentLimit) ⌝ }
+    requires { ⌜ HasBlocks (now state) × (agents ≤ agentLimit) ⌝ }
 {
     let mut agent = 0;
     while agent < agents {
@@ -174,7 +173,7 @@ pub fn print_state(state: &[u32])
     requires { ⌜ Fleet (now state) ⌝ }
 {
     io::write_all(OUTPUT, b"clock");
-    print_word(state[CLOCK]);
+    print_word(clock_of(state));
     end_line();
     print_store(state, Store::Environment);
     print_agents(state, state[AGENTS] as usize);

@@ -23,7 +23,7 @@ fn input_buffer() -> [u8; INPUT_BYTES]
 }
 
 fn show(input: &[u8]) {
-    let mut state = [0u32; term::STATE_WORDS];
+    let mut state = [0u32; state::STATE_WORDS];
     let mut scratch = [0u32; 8192];
     let mut answers = [0u8; 8192];
     let ran = rehearse_input(input, &mut state, &mut scratch, &mut answers);

@@ -10,14 +10,14 @@ use fleets::writing;
 use machine::Loaded;
 use machine::Ran;
 use machine::Stepped;
-use state::CLOCK;
 use state::Store;
+use state::clock_of;
 use state::length_at;
 use state::mark_at;
 ghost use mathlib.Core.Path.{_≡_};
 ghost use Prim.Native.Nat.{_<_, _≤_};
 ghost use lib.ListN.{length};
-ghost use Rattle.term.specs.Acceptance.{stateWords};
+ghost use Rattle.state.specs.Standing.{HasBlocks};
 
 const OUTPUT: i32 = 1;
 
@@ -109,7 +109,7 @@ fn runs_done(
 
 // Writes until the clock is 65,534.
 fn show_writes(fleet: &[u8], state: &mut [u32], scratch: &mut [u32])
-    requires { ⌜ length (now state) ≡ stateWords ⌝ }
+    requires { ⌜ HasBlocks (now state) ⌝ }
 {
     let mut schedule = [0u8; 21142];
     let mut answers = [0u8; 4228];
@@ -118,13 +118,13 @@ fn show_writes(fleet: &[u8], state: &mut [u32], scratch: &mut [u32])
     io::write_all(OUTPUT, b"runs");
     print_number(runs);
     io::write_all(OUTPUT, b" clock");
-    print_word(state[CLOCK]);
+    print_word(clock_of(state));
     end_line();
 }
 
 // A write, and the stamp of the entry.
 fn show_write(fleet: &[u8], state: &mut [u32], scratch: &mut [u32])
-    requires { ⌜ length (now state) ≡ stateWords ⌝ }
+    requires { ⌜ HasBlocks (now state) ⌝ }
 {
     let answer = machine::step(fleet, state, scratch, ACT, 0, 0);
     io::write_all(OUTPUT, b"write");
@@ -143,7 +143,7 @@ fn show_propagate(fleet: &[u8], state: &mut [u32], scratch: &mut [u32]) {
 
 // The last two writes: the second finds no stamp. Between them the key is propagated, so that Zp is empty again.
 fn show_last_writes(fleet: &[u8], state: &mut [u32], scratch: &mut [u32])
-    requires { ⌜ length (now state) ≡ stateWords ⌝ }
+    requires { ⌜ HasBlocks (now state) ⌝ }
 {
     io::write_all(OUTPUT, b"writing fleet");
     show_load(fleet, state, scratch);
@@ -154,7 +154,7 @@ fn show_last_writes(fleet: &[u8], state: &mut [u32], scratch: &mut [u32])
 }
 
 fn show_clock(table: &mut [u8], state: &mut [u32], scratch: &mut [u32])
-    requires { ⌜ (length (now table) ≡ 347) × (length (now state) ≡ stateWords) ⌝ }
+    requires { ⌜ (length (now table) ≡ 347) × HasBlocks (now state) ⌝ }
 {
     writing(table);
     show_last_writes(&table[..52], state, scratch);
@@ -162,7 +162,7 @@ fn show_clock(table: &mut [u8], state: &mut [u32], scratch: &mut [u32])
 
 // An act that is to leave so many words, and how many the residual has then.
 fn show_act(fleet: &[u8], state: &mut [u32], scratch: &mut [u32], words: usize)
-    requires { ⌜ length (now state) ≡ stateWords ⌝ }
+    requires { ⌜ HasBlocks (now state) ⌝ }
 {
     let answer = machine::step(fleet, state, scratch, ACT, 0, 0);
     io::write_all(OUTPUT, b"residual");
@@ -174,7 +174,7 @@ fn show_act(fleet: &[u8], state: &mut [u32], scratch: &mut [u32], words: usize)
 }
 
 fn show_nested(fleet: &[u8], state: &mut [u32], scratch: &mut [u32], words: usize)
-    requires { ⌜ length (now state) ≡ stateWords ⌝ }
+    requires { ⌜ HasBlocks (now state) ⌝ }
 {
     io::write_all(OUTPUT, b"nested fleet");
     show_load(fleet, state, scratch);
@@ -182,7 +182,7 @@ fn show_nested(fleet: &[u8], state: &mut [u32], scratch: &mut [u32], words: usiz
 }
 
 fn show_residual(table: &mut [u8], state: &mut [u32], scratch: &mut [u32], depth: usize)
-    requires { ⌜ (length (now table) ≡ 347) × (length (now state) ≡ stateWords) × (depth ≤ 32) ⌝ }
+    requires { ⌜ (length (now table) ≡ 347) × HasBlocks (now state) × (depth ≤ 32) ⌝ }
 {
     nested(table, depth);
     let size = table::HEADER_BYTES + 5 * (2 * depth + 3);
@@ -191,7 +191,7 @@ fn show_residual(table: &mut [u8], state: &mut [u32], scratch: &mut [u32], depth
 
 fn main() {
     let mut table = [0u8; 347];
-    let mut state = [0u32; term::STATE_WORDS];
+    let mut state = [0u32; state::STATE_WORDS];
     let mut scratch = [0u32; 8192];
     show_agents(&mut table, &mut state, &mut scratch, 32);
     show_agents(&mut table, &mut state, &mut scratch, 33);

@@ -1,46 +1,50 @@
 -- What refusals 1 to 9 leave, and what load answers.
 -- Assumes nothing.
-use Prim.Native.Nat.{ℕ, _+_, _-_, _*_, _<_, _≤_}
+use Prim.Native.Nat.{ℕ, _+_, _-_, _*_}
 use mathlib.Core.Bool.{Bool, true, false, not}
-use mathlib.Core.Path.{_≡_, refl, sym, ap, subst, _∙_}
-use mathlib.Core.List.{List, [], _∷_, _++_}
+use mathlib.Core.Path.{_≡_, sym, ap, subst, _∙_}
+use mathlib.Core.List.{List, [], _∷_}
 use native.Mathlib.Omega.{arith}
 use lib.ListN.{length, take, drop}
+use borrow.Author.Tests.{eqb-true}
 use Rattle.basis.proofs.Lists.{take-rest}
 use Rattle.table.specs.declared.Sizes.{Sizes}
-use Rattle.table.specs.Checks.{Check, passes, refuses, refuseIf, firstOf}
+use Rattle.table.specs.Checks.{refuseIf, firstOf}
 use Rattle.table.specs.Tables.{Table, table, sizesOf, tableOf}
-use Rattle.table.specs.Sound.{Limits, Shaped}
+use Rattle.table.specs.Sound.{Limits}
 use Rattle.table.proofs.Limits.{kinds-part, length-kinds, length-operands}
 use Rattle.table.proofs.Checks.{append-refuses, append-later, first-refuses}
 use Rattle.term.specs.Accepted.{Acceptable}
-use Rattle.term.specs.Acceptance.{stateWords, tableChecks}
-use Rattle.term.proofs.Acceptance.{accepted-passes}
+use Rattle.term.specs.Acceptance.{tableChecks}
+use Rattle.state.specs.Layout.{stateWords, isWhole}
 use Rattle.accept.specs.declared.Acceptance.{Acceptance}
 use Rattle.accept.specs.declared.Acceptance.the-variants.{Accepted, Refused}
 use Rattle.accept.specs.Answers.{acceptanceCheck, Accepts}
 use Rattle.accept.proofs.Answering.{accepted-table, lent-table}
-use Rattle.state.specs.WellFormed.{wellFormed, loaded}
-use Rattle.state.proofs.Frames.{Small}
+use Rattle.state.specs.WellFormed.{wellFormed, loaded, Words}
 use Rattle.wellformed.specs.Given.{CheckGiven, LoadGiven}
-use Rattle.steps.specs.Steps.{Outcome, stateChecks, loadOf}
+use Rattle.steps.specs.Tallies.{noTally}
+use Rattle.steps.specs.Steps.{Outcome, loadOf}
 use Rattle.steps.proofs.Steps.{outcome-refused, accepted-load}
 use Rattle.machine.specs.declared.Loaded.the-variants.{Done as LoadDone, Refused as LoadRefused}
 use Rattle.machine.specs.Answers.{Loads}
-use Rattle.machine.specs.Opening.{Open, Opens}
+use Rattle.machine.specs.Opening.{Opens}
 
 -- the sizes of a table, read or answered
 module _ (bytes : List ℕ) (n : Sizes) (e : n ≡ sizesOf bytes) where
   pub same-nodes : n .nodes ≡ sizesOf bytes .nodes
   same-nodes = ap (λ (m : Sizes). m .nodes) e
 
-module _ (was : List ℕ) {bytes before after : List ℕ} {r : Acceptance} (a : Accepts bytes (length was) before after r) where
-  accepts-is : (x : Acceptance) → r ≡ x → firstOf (tableChecks bytes (length was) (length before)) ≡ acceptanceCheck x
+module _ (was : List ℕ) {bytes before after : List ℕ} {r : Acceptance} (a : Accepts bytes (isWhole was) before after r) where
+  accepts-is : (x : Acceptance) → r ≡ x → firstOf (tableChecks bytes (isWhole was) (length before)) ≡ acceptanceCheck x
   accepts-is x e = sym (a .check) ∙ ap (λ (y : Acceptance). acceptanceCheck y) e
 
   module _ {n : Sizes} (e : r ≡ Accepted n) where
-    pub accepted-is : Acceptable bytes (length was) (length before)
+    pub accepted-is : Acceptable bytes (isWhole was) (length before)
     accepted-is = accepted-table a e
+
+    whole : length was ≡ stateWords
+    whole = eqb-true (length was) stateWords (accepted-is .fit)
 
     pub accepted-limits : Limits n
     accepted-limits = subst Limits (sym (a .sizes n e)) (accepted-is .table .sound .shaped .limits)
@@ -59,7 +63,7 @@ module _ (was : List ℕ) {bytes before after : List ℕ} {r : Acceptance} (a : 
         record {
           limits = accepted-limits;
           nodes = omega (arith, ap (λ (ks : List ℕ). length ks) (kinds-part bytes (n .nodes)), length-kinds bytes (n .nodes) f);
-          whole = accepted-is .state;
+          blocks = omega (arith, whole);
         }
 
     pub load-given : LoadGiven n (take (length bytes - (12 + n .nodes)) (drop (12 + n .nodes) bytes)) was
@@ -68,28 +72,28 @@ module _ (was : List ℕ) {bytes before after : List ℕ} {r : Acceptance} (a : 
         record {
           limits = accepted-limits;
           nodes = omega (arith, ap (λ (os : List ℕ). length os) (take-rest bytes (12 + n .nodes)), length-operands bytes (n .nodes) f);
-          whole = accepted-is .state;
+          whole = whole;
         }
 
     pub open-broken : (wellFormed (tableOf bytes) was ≡ false) → Opens bytes was before after (Refused 9 0)
     open-broken f =
         record {
-          check = sym (append-later (tableChecks bytes (length was) (length before)) (refuseIf 9 (not (wellFormed (tableOf bytes) was)) ∷ []) (accepts-is (Accepted n) e)
+          check = sym (append-later (tableChecks bytes (isWhole was) (length before)) (refuseIf 9 (not (wellFormed (tableOf bytes) was)) ∷ []) (accepts-is (Accepted n) e)
               ∙ first-refuses (refuseIf 9 (not (wellFormed (tableOf bytes) was))) [] (ap not f));
           opened = λ m g. absurd (let z : _≡_ {A = ℕ} 0 1 = cc in omega arith);
         }
 
-    pub open-formed : Small was → (wellFormed (tableOf bytes) was ≡ true) → Opens bytes was before after (Accepted n)
+    pub open-formed : Words was → (wellFormed (tableOf bytes) was ≡ true) → Opens bytes was before after (Accepted n)
     unfolding firstOf
     open-formed small f =
         record {
-          check = sym (append-later (tableChecks bytes (length was) (length before)) (refuseIf 9 (not (wellFormed (tableOf bytes) was)) ∷ []) (accepts-is (Accepted n) e)
+          check = sym (append-later (tableChecks bytes (isWhole was) (length before)) (refuseIf 9 (not (wellFormed (tableOf bytes) was)) ∷ []) (accepts-is (Accepted n) e)
               ∙ rw f);
           opened = λ m g. let h : m ≡ n = cc in record {
             sizes = h ∙ a .sizes n e;
             size = let f = ap (λ (k : Sizes). k .nodes) h in let g = accepted-size in omega arith;
             ready = record { checked = accepted-is .table; counted = a .counted n e };
-            proper = record { whole = accepted-is .state; small = small; formed = f };
+            proper = record { whole = whole; small = small; formed = f };
           };
         }
 
@@ -103,11 +107,11 @@ module _ (was : List ℕ) {bytes before after : List ℕ} {r : Acceptance} (a : 
     pub open-refused : Opens bytes was before after (Refused number place)
     open-refused =
         record {
-          check = sym (append-refuses (tableChecks bytes (length was) (length before)) (refuseIf 9 (not (wellFormed (tableOf bytes) was)) ∷ []) (accepts-is (Refused number place) e));
+          check = sym (append-refuses (tableChecks bytes (isWhole was) (length before)) (refuseIf 9 (not (wellFormed (tableOf bytes) was)) ∷ []) (accepts-is (Refused number place) e));
           opened = λ m g. absurd (let z : _≡_ {A = ℕ} 0 1 = cc in omega arith);
         }
 
     pub load-refused : Loads (loadOf bytes was (length before)) (LoadRefused number place) was
     load-refused =
-        let d = outcome-refused was 0 (loaded (tableOf bytes)) (firstOf (tableChecks bytes (length was) (length before))) (accepts-is (Refused number place) e) in
+        let d = outcome-refused was noTally (loaded (tableOf bytes)) (firstOf (tableChecks bytes (isWhole was) (length before))) (accepts-is (Refused number place) e) in
         record { check = sym (ap (λ (o : Outcome). o .check) d); state = sym (ap (λ (o : Outcome). o .state) d) }

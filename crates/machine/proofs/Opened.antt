@@ -1,15 +1,13 @@
 -- A step and a run of what checks 1 to 9 leave.
 -- Assumes nothing.
 use Prim.Native.Nat.{ℕ, _+_, _-_, _≤_}
-use mathlib.Core.Bool.{not}
-use mathlib.Core.Path.{_≡_, refl, sym, ap, subst, _∙_}
+use mathlib.Core.Path.{_≡_, sym, ap, subst, _∙_}
 use mathlib.Core.List.{List, _++_}
 use lib.ListN.{length, take, drop}
-use borrow.Author.Tests.{ne-eqb}
 use Rattle.table.specs.declared.Sizes.{Sizes}
-use Rattle.table.specs.Checks.{Check, passes, refuses, firstOf, refusalCheck}
+use Rattle.table.specs.Checks.{Check, passes, refuses, firstOf}
 use Rattle.table.specs.Tables.{Table, table, tableOf}
-use Rattle.table.proofs.Checks.{append-refuses, append-later, refusal-refuses}
+use Rattle.table.proofs.Checks.{append-refuses, append-later}
 use Rattle.accept.specs.declared.Acceptance.{Acceptance}
 use Rattle.accept.specs.declared.Acceptance.the-variants.{Accepted, Refused}
 use Rattle.accept.specs.Answers.{acceptanceCheck}
@@ -51,7 +49,7 @@ module _ {bytes was before after : List ℕ} {r : Acceptance} (a : Opens bytes w
   module _ (kind x number : ℕ) where
     pub step-refused : {n place : ℕ} → r ≡ Refused n place → Steps (stepOf bytes was (length before) kind x number) (StepRefused n place) was
     unfolding stepOf
-    step-refused {n} {place} e = let f = opens-is (Refused n place) e in record { check = rw (stepOf, f); taken = rw (stepOf, f); state = rw (stepOf, f) }
+    step-refused {n} {place} e = let f = opens-is (Refused n place) e in record { check = rw (stepOf, f); tally = rw (stepOf, f); state = rw (stepOf, f) }
 
     pub step-opened : {n : Sizes} → r ≡ Accepted n → {s : Stepped} {left : List ℕ} → Steps (stepIn (parts bytes n) was kind x number) s left
         → Steps (stepOf bytes was (length before) kind x number) s left
@@ -79,16 +77,16 @@ module _ {bytes was before after : List ℕ} {r : Acceptance} (a : Opens bytes w
       later : whole ≡ firstOf (scheduleChecks schedule answers)
       later = append-later (stateChecks bytes was (length before)) (scheduleChecks schedule answers) (opens-is (Accepted n) e)
 
-      pub run-unscheduled : {refusal : ℕ} → refusalCheck refusal ≡ firstOf (scheduleChecks schedule answers) → (refusal ≡ 0 → ⊥)
-          → Runs (runOf bytes was (length before) schedule answers) (RunRefused refusal 0) was answers
-      run-unscheduled {refusal} f d = refused-run (later ∙ sym f ∙ refusal-refuses refusal d)
+      pub run-unscheduled : {number : ℕ} → firstOf (scheduleChecks schedule answers) ≡ refuses number 0
+          → Runs (runOf bytes was (length before) schedule answers) (RunRefused number 0) was answers
+      run-unscheduled f = refused-run (later ∙ f)
 
-      pub run-opened : {c : Totals} {left out : List ℕ} → firstOf (scheduleChecks schedule answers) ≡ passes
-          → Reports (ran (parts bytes n) schedule (stepsOf schedule) (begun was answers)) c left out → Runs (runOf bytes was (length before) schedule answers) (RunDone c) left out
+      pub run-opened : {c : Totals} {left out : List ℕ} {m : ℕ} → firstOf (scheduleChecks schedule answers) ≡ passes → m ≡ stepsOf schedule
+          → Reports (ran (parts bytes n) schedule m (begun was answers)) c left out → Runs (runOf bytes was (length before) schedule answers) (RunDone c) left out
       unfolding runOf
-      run-opened {c} {left} {out} f g =
+      run-opened {c} {left} {out} f h g =
           record {
             check = sym (later ∙ f);
             reports = subst (λ (p : Progress). Reports p c left out)
-                (ap (λ (t : Table). ran t schedule (stepsOf schedule) (begun was answers)) (parts-table (a .opened n e)) ∙ sym (run-passes (later ∙ f))) g;
+                ((λ j. ran (parts-table (a .opened n e) j) schedule (h j) (begun was answers)) ∙ sym (run-passes (later ∙ f))) g;
           }

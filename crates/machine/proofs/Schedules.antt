@@ -13,7 +13,6 @@ use Rattle.table.specs.Checks.{passes, refuses, refuseIf, firstOf}
 use Rattle.table.proofs.Checks.{first-refuses, first-later}
 use Rattle.steps.specs.Runs.{stepLimit, stepsOf, scheduleChecks}
 use Rattle.steps.proofs.Schedules.{schedule-checks}
-use Rattle.machine.specs.Running.{Runnable}
 
 module _ (schedule answers : List ℕ) where
   abbrev n : ℕ
@@ -52,6 +51,3 @@ module _ (schedule answers : List ℕ) where
 
     pub schedule-passes : n ≤ length answers → firstOf (scheduleChecks schedule answers) ≡ passes
     schedule-passes h = schedule-checks schedule answers .1 (size, few, h)
-
-  pub passes-runnable : firstOf (scheduleChecks schedule answers) ≡ passes → Runnable schedule answers
-  passes-runnable e = let p = schedule-checks schedule answers .0 e in record { size = p .0; steps = p .1; room = p .2 }

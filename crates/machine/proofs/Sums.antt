@@ -1,30 +1,70 @@
 -- The totals of a run.
 -- Assumes nothing.
-use Prim.Native.Nat.{ℕ, _+_, _*_, _≤_}
+use Prim.Native.Nat.{ℕ, zero, suc, _+_, _≤_}
+use mathlib.Core.Bool.{true}
 use mathlib.Core.Path.{_≡_, sym, ap, _∙_}
+use mathlib.Core.List.{List}
 use native.Mathlib.Omega.{arith}
+use Rattle.basis.specs.Numbers.{forEach}
+use Rattle.basis.proofs.Numbers.{howMany-bound}
+use Rattle.table.specs.Checks.{Check, passes, refuses, firstOf}
+use Rattle.table.specs.Tables.{Table, agentLimit}
+use Rattle.steps.specs.declared.Tally.{Tally}
+use Rattle.steps.specs.Tallies.{tally, addTally}
+use Rattle.steps.specs.Offers.{takes}
+use Rattle.steps.specs.Steps.{Outcome, outcome, tallyOf, after, stepChecks, stepIn}
+use Rattle.steps.specs.Runs.{Progress, begun, added, ran, kindIn, agentIn, numberIn}
+use Rattle.offering.specs.Passing.{TallyWithin}
 use Rattle.machine.specs.declared.Stepped.{Stepped}
 use Rattle.machine.specs.declared.Stepped.the-variants.{Done, Refused}
 use Rattle.machine.specs.declared.Totals.{Totals}
-use Rattle.machine.specs.Answers.{stepTaken, totals}
+use Rattle.machine.specs.Answers.{totals, totalsOf}
 use Rattle.machine.specs.Running.{tallied, TotalsWithin}
 
+-- the totals with one more step, as code makes them
 module _ (c : Totals) {r : Stepped} where
-  pub added-done : {taken : ℕ} → r ≡ Done taken → totals (c .done + 1) (c .refused) (c .taken + taken) ≡ tallied c r
-  added-done {taken} e =
+  pub added-done : {t u : Tally} → r ≡ Done t → u ≡ addTally (c .tally) t → totals (c .done + 1) (c .refused) u ≡ tallied c r
+  added-done e g =
       let f : c .refused ≡ c .refused + 0 = omega arith in
-      ap (λ (n : ℕ). totals (c .done + 1) n (c .taken + taken)) f ∙ sym (ap (λ (a : Stepped). tallied c a) e)
+      (λ i. totals (c .done + 1) (f i) (g i)) ∙ sym (ap (λ (a : Stepped). tallied c a) e)
 
-  pub added-refused : {number place : ℕ} → r ≡ Refused number place → totals (c .done) (c .refused + 1) (c .taken) ≡ tallied c r
-  added-refused {number} {place} e =
+  pub added-refused : {number place : ℕ} → r ≡ Refused number place → totals (c .done) (c .refused + 1) (c .tally) ≡ tallied c r
+  added-refused e =
       let f : c .done ≡ c .done + 0 = omega arith in
-      let g : c .taken ≡ c .taken + 0 = omega arith in
-      (λ i. totals (f i) (c .refused + 1) (g i)) ∙ sym (ap (λ (a : Stepped). tallied c a) e)
+      let g : c .tally .taken ≡ c .tally .taken + 0 = omega arith in
+      (λ i. totals (f i) (c .refused + 1) (tally (g i))) ∙ sym (ap (λ (a : Stepped). tallied c a) e)
 
-  pub taken-few : {taken : ℕ} → r ≡ Done taken → stepTaken r ≤ 32 → taken ≤ 32
-  taken-few e h = let f = ap (λ (a : Stepped). stepTaken a) e in omega arith
+-- WHAT IS REPORTED IS SMALL, with one step more
+added-within : (n i : ℕ) (p : Progress) (o : Outcome) → TotalsWithin n (totalsOf p) → TallyWithin 1 (o .tally) → TotalsWithin (suc n) (totalsOf (added i p o))
+added-within n i p o w l = by (o .check)
+  where
+    by : (c : Check) → TotalsWithin (suc n) (totalsOf (added i p (record { check = c; tally = o .tally; state = o .state })))
+    by passes = record { done = omega (arith, w .done); refused = omega (arith, w .refused); tally = record { taken = omega (arith, w .tally .taken, l .taken) } }
+    by (refuses number place) = record { done = omega (arith, w .done); refused = omega (arith, w .refused); tally = record { taken = omega (arith, w .tally .taken, l .taken) } }
 
--- one more step of at most 32 takers
-pub added-within : (c : Totals) (n : ℕ) → TotalsWithin n c → (r : Stepped) → stepTaken r ≤ 32 → TotalsWithin (n + 1) (tallied c r)
-added-within c n w (Done taken) l = record { done = omega (arith, w .done); refused = omega (arith, w .refused); taken = omega (arith, w .taken) }
-added-within c n w (Refused number place) l = record { done = omega (arith, w .done); refused = omega (arith, w .refused); taken = omega (arith, w .taken) }
+-- a step counts each agent at most once
+module _ (t : Table) (few : t .sizes .agents ≤ agentLimit) where
+  tally-within : (was : List ℕ) (kind x number : ℕ) → TallyWithin 1 (tallyOf t was kind x number)
+  tally-within was zero x number = record { taken = omega arith }
+  tally-within was (suc kind) x number = record { taken = omega (arith, howMany-bound (takes t was x number true) (t .sizes .agents)) }
+
+  pub step-within : (was : List ℕ) (kind x number : ℕ) → TallyWithin 1 (stepIn t was kind x number .tally)
+  unfolding stepIn outcome
+  step-within was kind x number = by (firstOf (stepChecks t was kind x number))
+    where
+      by : (c : Check) → TallyWithin 1 (outcome c was (tallyOf t was kind x number) (after t was kind x number) .tally)
+      by passes = tally-within was kind x number
+      by (refuses n place) = record { taken = omega arith }
+
+  -- and a run counts each step once
+  pub ran-within : (schedule was answers : List ℕ) (n : ℕ) → TotalsWithin n (totalsOf (ran t schedule n (begun was answers)))
+  unfolding ran forEach
+  ran-within schedule was answers zero = record { done = omega arith; refused = omega arith; tally = record { taken = omega arith } }
+  ran-within schedule was answers (suc n) =
+      let p : Progress = ran t schedule n (begun was answers) in
+      added-within n n p (stepIn t (p .state) (kindIn schedule n) (agentIn schedule n) (numberIn schedule n)) (ran-within schedule was answers n)
+      (step-within (p .state) (kindIn schedule n) (agentIn schedule n) (numberIn schedule n))
+
+-- totals of fewer steps
+pub within-more : (c : Totals) (m n : ℕ) → m ≤ n → TotalsWithin m c → TotalsWithin n c
+within-more c m n l w = record { done = omega (arith, w .done); refused = omega (arith, w .refused); tally = record { taken = omega (arith, w .tally .taken) } }

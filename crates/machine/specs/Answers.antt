@@ -3,6 +3,8 @@ use Prim.Native.Nat.{ℕ}
 use mathlib.Core.Path.{_≡_}
 use mathlib.Core.List.{List}
 use Rattle.table.specs.Checks.{Check, passes, refuses}
+use Rattle.steps.specs.declared.Tally.{Tally}
+use Rattle.steps.specs.Tallies.{noTally}
 use Rattle.steps.specs.Steps.{Outcome}
 use Rattle.steps.specs.Runs.{Progress, Rehearsal}
 use Rattle.machine.specs.declared.Loaded.{Loaded}
@@ -18,18 +20,21 @@ abbrev pub loadCheck : Loaded → Check
 loadCheck LoadDone = passes
 loadCheck (LoadRefused number place) = refuses number place
 
--- step: how many agents took the entry
+-- step: what it counts
 abbrev pub stepCheck : Stepped → Check
-stepCheck (StepDone taken) = passes
+stepCheck (StepDone tally) = passes
 stepCheck (StepRefused number place) = refuses number place
 
-abbrev pub stepTaken : Stepped → ℕ
-stepTaken (StepDone taken) = taken
-stepTaken (StepRefused number place) = 0
+abbrev pub stepTally : Stepped → Tally
+stepTally (StepDone tally) = tally
+stepTally (StepRefused number place) = noTally
 
--- run: done, refused and taken
-abbrev pub totals : ℕ → ℕ → ℕ → Totals
-totals done refused taken = record { done = done; refused = refused; taken = taken }
+-- run: the steps done and refused, and what they count
+abbrev pub totals : ℕ → ℕ → Tally → Totals
+totals done refused tally = record { done = done; refused = refused; tally = tally }
+
+abbrev pub totalsOf : Progress → Totals
+totalsOf p = totals (p .done) (p .refused) (p .tally)
 
 abbrev pub runCheck : Ran → Check
 runCheck (RunDone counts) = passes
@@ -37,7 +42,7 @@ runCheck (RunRefused number place) = refuses number place
 
 abbrev pub runTotals : Ran → Totals
 runTotals (RunDone counts) = counts
-runTotals (RunRefused number place) = totals 0 0 0
+runTotals (RunRefused number place) = totals 0 0 noTally
 
 -- the answer r and the state after are those of an outcome, of load and of a step
 pub record Loads (o : Outcome) (r : Loaded) (after : List ℕ) : Type 0 where
@@ -46,12 +51,12 @@ pub record Loads (o : Outcome) (r : Loaded) (after : List ℕ) : Type 0 where
 
 pub record Steps (o : Outcome) (r : Stepped) (after : List ℕ) : Type 0 where
   pub check : stepCheck r ≡ o .check
-  pub taken : stepTaken r ≡ o .taken
+  pub tally : stepTally r ≡ o .tally
   pub state : after ≡ o .state
 
 -- the totals, the state and the answer bytes are those of a run so far
 pub record Reports (p : Progress) (counts : Totals) (after bytes : List ℕ) : Type 0 where
-  pub totals : counts ≡ totals (p .done) (p .refused) (p .taken)
+  pub totals : counts ≡ totalsOf p
   pub state : after ≡ p .state
   pub answers : bytes ≡ p .answers
 

@@ -8,6 +8,7 @@ use opening::open;
 use running::judge_schedule;
 use running::run_steps;
 use stepping::step_in;
+use steps::Tally;
 use wellformed::write_loaded;
 ghost use lib.ListN.{length};
 ghost use Rattle.steps.specs.Steps.{loadOf, stepOf};
@@ -20,17 +21,23 @@ pub enum Loaded {
     Refused(u8, usize),
 }
 
-// What a step answers: how many agents took the entry, or the refusal and its place.
+// What a step answers: what it counts, or the refusal and its place.
 pub enum Stepped {
-    Done(usize),
+    Done(Tally),
     Refused(u8, usize),
 }
 
-// How many steps of a run were done and refused, and how often an agent took an entry.
+// The steps of a schedule that may be run, or the refusal.
+pub enum Scheduled {
+    Steps(usize),
+    Refused(u8),
+}
+
+// How many steps of a run were done and refused, and what they count.
 pub struct Totals {
     pub done: usize,
     pub refused: usize,
-    pub taken: usize,
+    pub tally: Tally,
 }
 
 // What a run answers: its totals, or the refusal and its place.
@@ -43,7 +50,7 @@ pub enum Ran {
 pub fn load(table: &[u8], state: &mut [u32], scratch: &mut [u32]) -> Loaded
     ensures { λ r. ⌜ Loads (loadOf (now (table .entry)) (now (state .entry)) (length (now (scratch .entry)))) r (now (state .exit)) ⌝ }
 {
-    let answer = accept::accept(table, state.len(), scratch);
+    let answer = accept::accept(table, state.len() == state::STATE_WORDS, scratch);
     match answer {
         Acceptance::Accepted(sizes) => {
             let operands = table::HEADER_BYTES + sizes.nodes;
@@ -97,21 +104,24 @@ pub fn run(
     let opened = open(table, state, scratch);
     match opened {
         Acceptance::Accepted(sizes) => {
-            let refusal = judge_schedule(schedule, answers);
-            if refusal != 0 {
-                return Ran::Refused(refusal, 0);
+            let scheduled = judge_schedule(schedule, answers);
+            match scheduled {
+                Scheduled::Steps(n) => {
+                    let operands = table::HEADER_BYTES + sizes.nodes;
+                    let totals = run_steps(
+                        sizes,
+                        &table[table::HEADER_BYTES..operands],
+                        &table[operands..],
+                        scratch,
+                        state,
+                        schedule,
+                        n,
+                        answers,
+                    );
+                    Ran::Done(totals)
+                }
+                Scheduled::Refused(number) => Ran::Refused(number, 0),
             }
-            let operands = table::HEADER_BYTES + sizes.nodes;
-            let totals = run_steps(
-                sizes,
-                &table[table::HEADER_BYTES..operands],
-                &table[operands..],
-                scratch,
-                state,
-                schedule,
-                answers,
-            );
-            Ran::Done(totals)
         }
         Acceptance::Refused(number, place) => Ran::Refused(number, place),
     }

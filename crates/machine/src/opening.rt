@@ -6,7 +6,7 @@ ghost use Rattle.machine.specs.Opening.{Opens};
 pub fn open(table: &[u8], state: &[u32], scratch: &mut [u32]) -> Acceptance
     ensures { λ r. ⌜ Opens (now (table .entry)) (now (state .entry)) (now (scratch .entry)) (now (scratch .exit)) r ⌝ }
 {
-    let answer = accept::accept(table, state.len(), scratch);
+    let answer = accept::accept(table, state.len() == state::STATE_WORDS, scratch);
     match answer {
         Acceptance::Accepted(sizes) => {
             let operands = table::HEADER_BYTES + sizes.nodes;

@@ -1,42 +1,46 @@
 // A schedule: refusals 19 and 20, and its steps in turn.
+use crate::Scheduled;
 use crate::Stepped;
 use crate::Totals;
 use crate::stepping::step_in;
 use basis::u16_at;
+use offering::add_tally;
+use offering::no_tally;
 use table::Sizes;
 ghost use mathlib.Core.Path.{_≡_};
-ghost use Prim.Native.Nat.{_+_, _*_, _<_, _≤_};
+ghost use Prim.Native.Nat.{_+_, _*_, _<_};
 ghost use lib.ListN.{length};
-ghost use Rattle.table.specs.Checks.{firstOf, numberOf, refusalCheck};
-ghost use Rattle.table.specs.Tables.{table, agentLimit};
+ghost use Rattle.table.specs.Checks.{numberOf};
+ghost use Rattle.table.specs.Tables.{table};
 ghost use Rattle.choice.specs.Turns.{Prepared};
 ghost use Rattle.state.specs.WellFormed.{Proper};
 ghost use Rattle.steps.specs.Steps.{stepIn};
-ghost use Rattle.steps.specs.Runs.{stepsOf, kindIn, agentIn, numberIn, scheduleChecks, begun, ran, stepLimit};
-ghost use Rattle.machine.specs.Answers.{stepCheck, stepTaken, Steps, Reports};
-ghost use Rattle.machine.specs.Running.{Runnable, TotalsWithin, tallied};
+ghost use Rattle.steps.specs.Runs.{stepsOf, kindIn, agentIn, numberIn, begun, ran, stepLimit};
+ghost use Rattle.offering.specs.Passing.{TallyWithin};
+ghost use Rattle.machine.specs.Answers.{stepCheck, stepTally, Steps, Reports};
+ghost use Rattle.machine.specs.Running.{Runnable, Schedules, TotalsWithin, tallied};
 
 // Steps that a schedule has at most.
 const STEPS: usize = 8192;
 
-// The refusal of a schedule, or 0.
-pub fn judge_schedule(schedule: &[u8], answers: &[u8]) -> u8
-    ensures { λ r. ⌜ refusalCheck r ≡ firstOf (scheduleChecks (now (schedule .entry)) (now (answers .entry))) ⌝ }
+// How many steps a schedule has, or its refusal.
+pub fn judge_schedule(schedule: &[u8], answers: &[u8]) -> Scheduled
+    ensures { λ r. ⌜ Schedules (now (schedule .entry)) (now (answers .entry)) r ⌝ }
 {
     if schedule.len() < 2 {
-        return 19;
+        return Scheduled::Refused(19);
     }
     let n = u16_at(schedule, 0);
     if schedule.len() != 2 + 5 * n {
-        return 19;
+        return Scheduled::Refused(19);
     }
     if STEPS < n {
-        return 19;
+        return Scheduled::Refused(19);
     }
     if answers.len() < n {
-        return 20;
+        return Scheduled::Refused(20);
     }
-    0
+    Scheduled::Steps(n)
 }
 
 // Step i of a schedule of n steps.
@@ -74,19 +78,20 @@ fn answer_byte(answer: Stepped) -> u8
 
 // The totals with one more step.
 fn add(totals: Totals, answer: Stepped) -> Totals
-    requires { ⌜ (TotalsWithin stepLimit totals) × (stepTaken answer ≤ agentLimit) ⌝ }
+    requires { ⌜ TotalsWithin stepLimit totals × TallyWithin 1 (stepTally answer) ⌝ }
     ensures { λ r. ⌜ r ≡ tallied totals answer ⌝ }
 {
+    let so_far = totals.tally;
     match answer {
-        Stepped::Done(taken) => Totals {
+        Stepped::Done(tally) => Totals {
             done: totals.done + 1,
             refused: totals.refused,
-            taken: totals.taken + taken,
+            tally: add_tally(so_far, tally),
         },
         Stepped::Refused(_, _) => Totals {
             done: totals.done,
             refused: totals.refused + 1,
-            taken: totals.taken,
+            tally: so_far,
         },
     }
 }
@@ -99,18 +104,19 @@ pub fn run_steps(
     scratch: &[u32],
     state: &mut [u32],
     schedule: &[u8],
+    n: usize,
     answers: &mut [u8],
 ) -> Totals
     requires { ⌜ Prepared (table sizes (now kinds) (now operands)) (now scratch) ⌝ }
     requires { ⌜ Proper (table sizes (now kinds) (now operands)) (now state) ⌝ }
-    requires { ⌜ Runnable (now schedule) (now answers) ⌝ }
-    ensures { λ r. ⌜ Reports (ran (table sizes (now (kinds .entry)) (now (operands .entry))) (now (schedule .entry)) (stepsOf (now (schedule .entry))) (begun (now (state .entry)) (now (answers .entry)))) r (now (state .exit)) (now (answers .exit)) ⌝ }
+    requires { ⌜ Runnable (now schedule) (now answers) n ⌝ }
+    ensures { λ r. ⌜ Reports (ran (table sizes (now (kinds .entry)) (now (operands .entry))) (now (schedule .entry)) n (begun (now (state .entry)) (now (answers .entry)))) r (now (state .exit)) (now (answers .exit)) ⌝ }
 {
-    let n = u16_at(schedule, 0);
+    let none = no_tally();
     let mut totals = Totals {
         done: 0,
         refused: 0,
-        taken: 0,
+        tally: none,
     };
     let mut i = 0;
     while i < n {

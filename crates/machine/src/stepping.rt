@@ -1,20 +1,16 @@
 // A step of an accepted table and a well-formed state: refusals 10 and 18, and what its kind does.
 use crate::Stepped;
+use acting::Acted;
 use acting::act;
-use offering::confirm;
-use offering::propagate;
-use state::zc_at;
-use state::zp_at;
+use offering::no_tally;
+use offering::offer;
+use offering::pending_at;
 use table::Sizes;
 ghost use mathlib.Core.Path.{_≡_};
-ghost use mathlib.Core.Bool.{cond};
 ghost use mathlib.Core.List.{List};
 ghost use Prim.Native.Nat.{ℕ, _<_};
-ghost use lib.ListN.{length};
-ghost use Rattle.table.specs.Tables.{table, agentLimit};
-ghost use Rattle.term.specs.Acceptance.{stateWords};
+ghost use Rattle.table.specs.Tables.{table};
 ghost use Rattle.choice.specs.Turns.{Prepared};
-ghost use Rattle.state.specs.Layout.{zcOf, zpOf};
 ghost use Rattle.state.specs.WellFormed.{Proper};
 ghost use Rattle.steps.specs.Steps.{outOfRange, stepIn};
 ghost use Rattle.offering.specs.Passing.{Passing};
@@ -51,22 +47,11 @@ fn act_step(
     requires { ⌜ agent < sizes .agents ⌝ }
     ensures { λ r. ⌜ Steps (ownStep (table sizes (now (kinds .entry)) (now (operands .entry))) (now (state .entry)) 0 agent choice) r (now (state .exit)) ⌝ }
 {
-    let refusal = act(sizes, kinds, operands, scratch, state, agent, choice as u64);
-    if refusal == 0 {
-        return Stepped::Done(0);
+    let acted = act(sizes, kinds, operands, scratch, state, agent, choice as u64);
+    match acted {
+        Acted::Done => Stepped::Done(no_tally()),
+        Acted::Refused(number) => Stepped::Refused(number, 0),
     }
-    Stepped::Refused(refusal, 0)
-}
-
-// The set that a step takes its key from: Zc for a confirm, else Zp.
-fn pending(state: &[u32], agent: usize, confirming: bool) -> u32
-    requires { ⌜ (length (now state) ≡ stateWords) × (agent < agentLimit) ⌝ }
-    ensures { λ r. ⌜ r ≡ cond confirming (zcOf (now (state .entry)) agent) (zpOf (now (state .entry)) agent) ⌝ }
-{
-    if confirming {
-        return state[zc_at(agent)];
-    }
-    state[zp_at(agent)]
 }
 
 // Propagate, or confirm.
@@ -82,14 +67,11 @@ fn offer_step(
     requires { ⌜ Passing (table sizes (now kinds) (now operands)) (now state) agent key ⌝ }
     ensures { λ r. ⌜ Steps (ownStep (table sizes (now (kinds .entry)) (now (operands .entry))) (now (state .entry)) (offerKind confirming) agent key) r (now (state .exit)) ⌝ }
 {
-    let keys = pending(state, agent, confirming);
+    let keys = state[pending_at(agent, confirming)];
     if !basis::has(keys, key) {
         return Stepped::Refused(18, 0);
     }
-    if confirming {
-        return Stepped::Done(confirm(sizes, kinds, operands, state, agent, key));
-    }
-    Stepped::Done(propagate(sizes, kinds, operands, state, agent, key))
+    Stepped::Done(offer(sizes, kinds, operands, state, agent, key, true, confirming))
 }
 
 pub fn step_in(

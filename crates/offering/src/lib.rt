@@ -1,46 +1,59 @@
 // Propagate and confirm: an agent's entry for a key is offered to every other agent.
-mod entries; // entries.rt: the words of an entry, and taking one
+mod responses; // responses.rt: how an agent responds to an entry, what that writes and what it counts
 mod offers; // offers.rt: an entry offered to one agent, and to all
 
 use offers::offer_all;
+pub use responses::add_tally;
+pub use responses::no_tally;
 use state::drop_key;
 use state::zc_at;
 use state::zp_at;
+use steps::Tally;
 use table::Sizes;
-ghost use Rattle.table.specs.Tables.{table};
-ghost use Rattle.steps.specs.Offers.{takers, propagated, confirmed};
+ghost use Prim.Native.Nat.{_<_};
+ghost use mathlib.Core.Bool.{cond};
+ghost use Rattle.table.specs.Tables.{table, agentLimit};
+ghost use Rattle.state.specs.Layout.{zcAt, zpAt};
+ghost use Rattle.state.specs.Standing.{Standing};
+ghost use Rattle.steps.specs.Offers.{offerTally, sent};
 ghost use Rattle.offering.specs.Passing.{Passing, Passed};
 
-// The agent offers its entry and no longer has to propagate the key: how many agents took the entry.
-pub fn propagate(
-    sizes: Sizes,
-    kinds: &[u8],
-    operands: &[u8],
-    state: &mut [u32],
-    agent: usize,
-    key: usize,
-) -> usize
-    requires { ⌜ Passing (table sizes (now kinds) (now operands)) (now state) agent key ⌝ }
-    ensures { λ r. ⌜ Passed (takers (table sizes (now (kinds .entry)) (now (operands .entry))) (now (state .entry)) agent key (sizes .agents)) (propagated (table sizes (now (kinds .entry)) (now (operands .entry))) (now (state .entry)) agent key (sizes .agents)) r (now (state .exit)) ⌝ }
+// The set that a step takes its key from: Zc for a confirm, else Zp.
+pub fn pending_at(agent: usize, confirming: bool) -> usize
+    requires { ⌜ agent < agentLimit ⌝ }
+    ensures { λ r. ⌜ Standing (cond confirming (zcAt agent) (zpAt agent)) 1 r ⌝ }
 {
-    let taken = offer_all(sizes, kinds, operands, state, agent, key, false);
-    drop_key(state, zp_at(agent), key);
-    taken
+    if confirming {
+        zc_at(agent)
+    } else {
+        zp_at(agent)
+    }
 }
 
-// The agent offers its entry, agents with a newer one will propagate theirs, and it no longer has to confirm the key: how many agents took the entry.
-pub fn confirm(
+// The agent offers its entry and no longer has to propagate or confirm the key: what the responses count. `counts`: whether the key's link counts in this step.
+pub fn offer(
     sizes: Sizes,
     kinds: &[u8],
     operands: &[u8],
     state: &mut [u32],
     agent: usize,
     key: usize,
-) -> usize
+    counts: bool,
+    confirming: bool,
+) -> Tally
     requires { ⌜ Passing (table sizes (now kinds) (now operands)) (now state) agent key ⌝ }
-    ensures { λ r. ⌜ Passed (takers (table sizes (now (kinds .entry)) (now (operands .entry))) (now (state .entry)) agent key (sizes .agents)) (confirmed (table sizes (now (kinds .entry)) (now (operands .entry))) (now (state .entry)) agent key (sizes .agents)) r (now (state .exit)) ⌝ }
+    ensures { λ r. ⌜ Passed (offerTally (table sizes (now (kinds .entry)) (now (operands .entry))) (now (state .entry)) agent key counts (sizes .agents)) (sent (table sizes (now (kinds .entry)) (now (operands .entry))) (now (state .entry)) agent key counts confirming (sizes .agents)) r (now (state .exit)) ⌝ }
 {
-    let taken = offer_all(sizes, kinds, operands, state, agent, key, true);
-    drop_key(state, zc_at(agent), key);
-    taken
+    let tally = offer_all(
+        sizes,
+        kinds,
+        operands,
+        state,
+        agent,
+        key,
+        counts,
+        confirming,
+    );
+    drop_key(state, pending_at(agent, confirming), key);
+    tally
 }

@@ -6,15 +6,16 @@ use mathlib.Core.Path.{_≡_, refl, sym, subst}
 use mathlib.Core.List.{List, [], _∷_, _++_}
 use native.Mathlib.Omega.{arith}
 use lib.Dec.{ltb}
-use lib.ListN.{length}
 use borrow.Author.Tests.{ltb-true, not-false}
 use Rattle.table.specs.Checks.{Check, passes, refuses, Refusal, refuseIf, refuseAt, firstOf, numberOf, placeOf}
 use Rattle.table.specs.Tables.{Table, sizesOf, withinLimits, tableOf}
 use Rattle.table.proofs.Checks.{none-passes, append-later, append-refuses}
 use Rattle.table.proofs.Limits.{within-limits}
 use Rattle.term.specs.Acceptance.{tableChecks}
+use Rattle.state.specs.Layout.{isWhole}
 use Rattle.state.specs.WellFormed.{loaded}
-use Rattle.steps.specs.Steps.{stateChecks, ownChecks, stepChecks, takenBy, after, stepIn, loadOf, stepOf}
+use Rattle.steps.specs.Tallies.{noTally}
+use Rattle.steps.specs.Steps.{stateChecks, ownChecks, stepChecks, tallyOf, after, stepIn, loadOf, stepOf}
 use Rattle.steps.specs.Runs.{scheduleChecks, runOf}
 use Rattle.steps.proofs.Steps.{outcome-check, step-in, step-stopped}
 
@@ -51,8 +52,8 @@ append-near rs qs p q = by (firstOf rs) refl
     by (refuses number place) e = subst Near (sym (append-refuses rs qs e)) (subst Near e p)
 
 -- TABLE AND STATE
-module _ (bytes : List ℕ) (stateLength scratch : ℕ) where
-  table-near : Near (firstOf (tableChecks bytes stateLength scratch))
+module _ (bytes : List ℕ) (fits : Bool) (scratch : ℕ) where
+  table-near : Near (firstOf (tableChecks bytes fits scratch))
   table-near =
       if-near 1 (omega arith) _ _ (λ _.
       if-near 2 (omega arith) _ _ (λ w.
@@ -67,10 +68,10 @@ module _ (bytes : List ℕ) (stateLength scratch : ℕ) where
 
 module _ (bytes was : List ℕ) (scratch : ℕ) where
   pub load-near : Near (loadOf bytes was scratch .check)
-  load-near = subst Near (sym (outcome-check was 0 (loaded (tableOf bytes)) (firstOf (tableChecks bytes (length was) scratch)))) (table-near bytes (length was) scratch)
+  load-near = subst Near (sym (outcome-check was noTally (loaded (tableOf bytes)) (firstOf (tableChecks bytes (isWhole was) scratch)))) (table-near bytes (isWhole was) scratch)
 
   state-near : Near (firstOf (stateChecks bytes was scratch))
-  state-near = append-near (tableChecks bytes (length was) scratch) _ (table-near bytes (length was) scratch) (λ e. if-near 9 (omega arith) _ _ (λ _. none-near))
+  state-near = append-near (tableChecks bytes (isWhole was) scratch) _ (table-near bytes (isWhole was) scratch) (λ e. if-near 9 (omega arith) _ _ (λ _. none-near))
 
   pub run-near : (schedule answers : List ℕ) → Near (runOf bytes was scratch schedule answers .check)
   unfolding runOf
@@ -95,7 +96,7 @@ module _ (t : Table) (was : List ℕ) where
   in-near : (kind x number : ℕ) → Near (stepIn t was kind x number .check)
   unfolding stepIn
   in-near kind x number =
-      subst Near (sym (outcome-check was (takenBy t was kind x number) (after t was kind x number) (firstOf (stepChecks t was kind x number))))
+      subst Near (sym (outcome-check was (tallyOf t was kind x number) (after t was kind x number) (firstOf (stepChecks t was kind x number))))
       (if-near 10 (omega arith) _ _ (λ _. own-near kind x number))
 
 module _ (bytes was : List ℕ) (scratch kind x number : ℕ) where

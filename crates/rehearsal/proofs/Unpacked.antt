@@ -10,7 +10,7 @@ use native.Mathlib.Omega.{arith}
 use Rattle.basis.proofs.Tests.{lt-or-le}
 use Rattle.table.specs.Checks.{Check, passes, refuses, passed}
 use Rattle.steps.specs.Steps.{stepOf}
-use Rattle.steps.specs.Runs.{runOf}
+use Rattle.steps.specs.Runs.{stepLimit, runOf}
 use Rattle.machine.specs.declared.Totals.{Totals}
 use Rattle.machine.specs.Running.{TotalsWithin}
 use Rattle.rehearsal.specs.Packing.{packed, packedTotals, reportOf}
@@ -43,22 +43,22 @@ told (refuses number place) (refuses other at) p q m n l k e = (λ i. refuses (s
 
 -- what they report is below 2^63, as `told` asks
 module _ (bytes was : List ℕ) (scratch : ℕ) where
-  pub step-report : (kind x number : ℕ) → stepOf bytes was scratch kind x number .taken < 2 ^ 63
-  step-report kind x number = let h = step-within bytes was scratch kind x number in omega arith
+  pub step-report : (kind x number : ℕ) → stepOf bytes was scratch kind x number .tally .taken < 2 ^ 63
+  step-report kind x number = omega (arith, step-within bytes was scratch kind x number .taken)
 
   pub run-report : (schedule answers : List ℕ) → runOf bytes was scratch schedule answers .check ≡ passes → reportOf (runOf bytes was scratch schedule answers .progress) < 2 ^ 63
-  run-report schedule answers e = let w = run-within bytes was scratch schedule answers e in omega (arith, w .done, w .refused, w .taken)
+  run-report schedule answers e = let w = run-within bytes was scratch schedule answers e in omega (arith, w .done, w .refused, w .tally .taken)
 
 -- two runs that report the same number
-module _ (c d : Totals) (v : TotalsWithin 8192 c) (w : TotalsWithin 8192 d) (e : packedTotals (c .done) (c .refused) (c .taken) ≡ packedTotals (d .done) (d .refused) (d .taken)) where
-  same-taken : c .taken ≡ d .taken
+module _ (c d : Totals) (v : TotalsWithin stepLimit c) (w : TotalsWithin stepLimit d) (e : packedTotals c ≡ packedTotals d) where
+  same-taken : c .tally .taken ≡ d .tally .taken
   same-taken =
-      same-upper (2 ^ 32) (c .taken) (d .taken) (c .done + 65536 * c .refused) (d .done + 65536 * d .refused)
+      same-upper (2 ^ 32) (c .tally .taken) (d .tally .taken) (c .done + 65536 * c .refused) (d .done + 65536 * d .refused)
       (omega (arith, v .done, v .refused)) (omega (arith, w .done, w .refused)) (omega (arith, e))
 
   same-refused : c .refused ≡ d .refused
   same-refused =
       same-upper 65536 (c .refused) (d .refused) (c .done) (d .done) (omega (arith, v .done)) (omega (arith, w .done)) (omega (arith, e, same-taken))
 
-  pub totals-told : (c .done ≡ d .done) × (c .refused ≡ d .refused) × (c .taken ≡ d .taken)
+  pub totals-told : (c .done ≡ d .done) × (c .refused ≡ d .refused) × (c .tally .taken ≡ d .tally .taken)
   totals-told = (omega (arith, e, same-refused, same-taken), same-refused, same-taken)

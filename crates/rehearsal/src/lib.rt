@@ -37,7 +37,7 @@ pub extern "C" fn labs_step(
 {
     let answer = machine::step(table, state, scratch, kind, agent, number);
     match answer {
-        Stepped::Done(taken) => taken as u64,
+        Stepped::Done(tally) => tally.taken as u64,
         Stepped::Refused(number, place) => pack_refusal(number, place),
     }
 }

@@ -21,7 +21,8 @@ pub fn pack_refusal(number: u8, place: usize) -> u64
 // The totals of a run.
 pub fn pack_totals(totals: Totals) -> u64
     requires { ⌜ TotalsWithin stepLimit totals ⌝ }
-    ensures { λ r. ⌜ r ≡ packedTotals (totals .done) (totals .refused) (totals .taken) ⌝ }
+    ensures { λ r. ⌜ r ≡ packedTotals totals ⌝ }
 {
-    totals.done as u64 + 65536 * totals.refused as u64 + 4294967296 * totals.taken as u64
+    let tally = totals.tally;
+    totals.done as u64 + 65536 * totals.refused as u64 + 4294967296 * tally.taken as u64
 }

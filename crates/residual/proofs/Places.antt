@@ -28,7 +28,7 @@ others Tick = []
 others Idle = []
 others (Node n) = []
 
-words-first : (T : Term) → words T ≡ first T ∷ others T
+pub words-first : (T : Term) → words T ≡ first T ∷ others T
 unfolding words
 words-first (Seq p q) = refl
 words-first (Par p q) = refl
@@ -44,6 +44,10 @@ empty (x ∷ l) e = absurd (omega arith)
 -- past a part
 pub past : (ws : List ℕ) (at : ℕ) (xs rest : List ℕ) → drop at ws ≡ xs ++ rest → drop (at + length xs) ws ≡ rest
 past ws at xs rest e = sym (drop-drop (length xs) at ws) ∙ rw e (drop-append-seam xs rest)
+
+-- what stands there is the part and what is past it
+pub begins : (ws : List ℕ) (at : ℕ) (xs rest : List ℕ) → drop at ws ≡ xs ++ rest → drop at ws ≡ xs ++ drop (at + length xs) ws
+begins ws at xs rest e = e ∙ ap (λ (l : List ℕ). xs ++ l) (sym (past ws at xs rest e))
 
 -- where a term begins, its first word stands, and the others after it
 module _ (ws : List ℕ) (at : ℕ) (T : Term) (rest : List ℕ) (e : drop at ws ≡ words T ++ rest) where
@@ -66,30 +70,20 @@ module _ (ws : List ℕ) (at : ℕ) (T : Term) (rest : List ℕ) (e : drop at ws
   others-are : drop (at + 1) ws ≡ others T ++ rest
   others-are = rw add-one (tail-eq-of-cons-eq both)
 
--- the two parts of an operator's term, whose words begin with w
-pub record Parts (ws : List ℕ) (at : ℕ) (p q : Term) (rest : List ℕ) : Type 0 where
+-- the two parts of an operator's term
+pub record Halves (ws : List ℕ) (at : ℕ) (T p q : Term) (rest : List ℕ) : Type 0 where
   pub left : drop (at + 1) ws ≡ words p ++ (words q ++ rest)
   pub right : drop (at + 1 + length (words p)) ws ≡ words q ++ rest
+  pub size : length (words T) ≡ 1 + length (words p) + length (words q)
 
-module _ (ws : List ℕ) (at : ℕ) (p q : Term) (rest : List ℕ) where
-  parted : drop (at + 1) ws ≡ (words p ++ words q) ++ rest → Parts ws at p q rest
-  parted e =
-      let l = e ∙ append-assoc (words p) (words q) rest in
-      record { left = l; right = past ws (at + 1) (words p) (words q ++ rest) l }
-
-  pub seq-parts : drop at ws ≡ words (Seq p q) ++ rest → Parts ws at p q rest
-  seq-parts e = parted (others-are ws at (Seq p q) rest e)
-
-  pub par-parts : drop at ws ≡ words (Par p q) ++ rest → Parts ws at p q rest
-  par-parts e = parted (others-are ws at (Par p q) rest e)
-
-pub size-seq : (p q : Term) → length (words (Seq p q)) ≡ 1 + length (words p) + length (words q)
-unfolding words
-size-seq p q = let e = length-append (words p) (words q) in omega arith
-
-pub size-par : (p q : Term) → length (words (Par p q)) ≡ 1 + length (words p) + length (words q)
-unfolding words
-size-par p q = let e = length-append (words p) (words q) in omega arith
+pub halves : (ws : List ℕ) (at : ℕ) (T p q : Term) (rest : List ℕ) → others T ≡ words p ++ words q → drop at ws ≡ words T ++ rest → Halves ws at T p q rest
+halves ws at T p q rest h e =
+    let l = others-are ws at T rest e ∙ ap (λ (l : List ℕ). l ++ rest) h ∙ append-assoc (words p) (words q) rest in
+    record {
+      left = l;
+      right = past ws (at + 1) (words p) (words q ++ rest) l;
+      size = ap length (words-first T) ∙ (let n = ap length h ∙ length-append (words p) (words q) in omega arith);
+    }
 
 -- a node's number is no other word
 pub node-plain : (t : Table) → firstRoot t ≤ 4096 → (n : ℕ) → n < firstRoot t → isOperator n ≡ false

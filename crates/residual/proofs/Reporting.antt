@@ -1,57 +1,58 @@
--- The outcome of a residual's choice, from that of the part where the walk goes on.
+-- A walk that tells what a residual's choice does, and how many words it leaves.
 -- Assumes nothing.
-use Prim.Native.Nat.{ℕ, _+_}
-use mathlib.Core.Path.{_≡_, ap, subst}
-use mathlib.Core.List.{List, [], _∷_}
+use Prim.Native.Nat.{ℕ, _+_, _-_, _≤_}
+use mathlib.Core.Path.{_≡_, sym, ap, _∙_}
+use mathlib.Core.List.{List, _++_}
 use native.Mathlib.Omega.{arith}
-use lib.ListN.{length}
+use lib.ListN.{length, length-append}
 use Rattle.table.specs.Tables.{Table}
 use Rattle.term.specs.declared.Label.the-variants.{Ticking}
-use Rattle.term.specs.declared.Mode.{Mode}
-use Rattle.term.specs.declared.Mode.the-variants.{Actions}
-use Rattle.term.specs.Terms.{Term, Tick, Node, words}
-use Rattle.term.specs.Processes.{Derivation, nodeProcess}
-use Rattle.term.proofs.Words.{words-some}
+use Rattle.term.specs.Terms.{Term, words, idleWord}
+use Rattle.term.specs.Processes.{Derivation}
 use Rattle.choice.specs.declared.Effect.{Effect}
-use Rattle.choice.specs.Chosen.{chosenIn}
-use Rattle.choice.specs.Outcomes.{grownBy, most, Tells}
-use Rattle.choice.proofs.Telling.{tells-tick, tells-same, tells-around}
-use Rattle.residual.specs.Steps.{Choosable, going, StepIn, StepJump, StepCopy, StepDrop, Stands}
-use Rattle.residual.specs.Spots.{furthest}
-use Rattle.residual.proofs.Standing.{going-tick, same-node, stands-size}
+use Rattle.choice.specs.Turns.{Around, Ended}
+use Rattle.choice.specs.Outcomes.{grownBy, Tells}
+use Rattle.residual.specs.declared.Target.{Target}
+use Rattle.residual.specs.Steps.{going, Part, Acting, Joining, Stands}
+use Rattle.residual.proofs.Standing.{part-size, part-stands}
 
-module _ (t : Table) (m : Mode) (T : Term) (c at : ℕ) (ws : List ℕ) (stands : Stands t m T c at ws) where
-  abbrev limit : Term → ℕ
-  limit X = furthest t + length (words X)
+-- the walk to derivation d has come to a target: d does what that does, and leaves so many words more
+pub record Toward (t : Table) (ws : List ℕ) (d : Derivation) (g : Target) (more : ℕ) : Type 0 where
+  pub term : Term
+  pub stands : Stands t term g ws
+  pub label : d .label ≡ going t term g .label
+  pub size : length (words (d .leaving)) ≡ more + length (words (going t term g .leaving))
+  pub bound : more + length (words term) ≤ length ws
 
-  pub told-tick : T ≡ Tick → Tells (going t m T c) (furthest t + length (words T)) (record { label = Ticking; size = 1 })
-  told-tick e = tells-tick (going t m T c) (limit T) (omega (arith, words-some T)) (going-tick t m T c e (stands .choosable))
+module _ (t : Table) (ws : List ℕ) (d : Derivation) (g : Target) (more : ℕ) (w : Toward t ws d g more) where
+  toward-on : (h : Target) (X : Term) → Part t (w .term) g X h → (us front back : List ℕ) → Around (going t (w .term) g) (going t X h) us front back
+      → length front + length back + length (words X) ≤ length (words (w .term)) → (k : ℕ) → k ≡ more + (length front + length back) → Toward t ws d h k
+  toward-on h X p us front back a l k e =
+      let x = ap length (a .words) ∙ length-append front (words (going t X h .leaving) ++ back) in
+      let y = length-append (words (going t X h .leaving)) back in
+      record {
+        term = X;
+        stands = part-stands t (w .term) g ws (w .stands) p;
+        label = w .label ∙ a .label;
+        size = omega (arith, w .size);
+        bound = omega (arith, w .bound);
+      }
 
-  pub told-node : (n : ℕ) → T ≡ Node n → (o : Effect) → Tells (chosenIn m (nodeProcess t n) c) (most (t .sizes .definitions) n) o → Tells (going t m T c) (furthest t + length (words T)) o
-  told-node n e o w =
-      let k : Choosable t m (Node n) c = subst (λ (X : Term). Choosable t m X c) e (stands .choosable) in
-      let f = same-node t m n c T e in
-      tells-same (going t m T c) (chosenIn m (nodeProcess t n) c) (most (t .sizes .definitions) n) (limit T) o w (ap (λ (x : Derivation). x .label) f, ap (λ (x : Derivation). x .leaving) f)
-      (omega (arith, k .over .0))
+  pub toward-acts : (h : Target) (after : ℕ) → Acting t (w .term) g h after → Toward t ws d h (more + (h .from .at - g .from .at + after))
+  toward-acts h after s =
+      let z = part-size t (w .term) g ws (w .stands) (s .part) in
+      toward-on h (s .term) (s .part) _ _ _ (s .around) (omega arith) _ (omega (arith, s .size, s .part .place))
 
-  pub told-in : (w i more : ℕ) (s : StepIn t m T c w i more) (o : Effect) → Tells (going t Actions (s .p) i) (furthest t + length (words (s .p))) o → (r : Effect) → r ≡ grownBy o (1 + more)
-      → Tells (going t m T c) (furthest t + length (words T)) r
-  told-in w i more s o k r e =
-      let z = stands-size t m T c at ws stands w (s .p) (s .q) (s .term) in
-      tells-around (going t m T c) (going t Actions (s .p) i) (limit (s .p)) (limit T) o k (w ∷ []) (words (s .q)) (s .around) (1 + more) (omega (arith, s .size)) (omega (arith, s .size)) r e
+  pub toward-joins : (h : Target) (n after : ℕ) (k : Target) → Joining t (w .term) g h n after k → Toward t ws d h more
+  toward-joins h n after k s =
+      let z = part-size t (w .term) g ws (w .stands) (s .part) in
+      toward-on h (s .term) (s .part) _ _ _ (s .around) (omega arith) more (omega arith)
 
-  pub told-jump : (middle i j : ℕ) (s : StepJump t m T c at middle i j) (o : Effect) → Tells (going t m (s .q) i) (furthest t + length (words (s .q))) o → Tells (going t m T c) (furthest t + length (words T)) o
-  told-jump middle i j s o k =
-      let z = stands-size t m T c at ws stands (s .w) (s .p) (s .q) (s .term) in
-      tells-same (going t m T c) (going t m (s .q) i) (limit (s .q)) (limit T) o k (ap (λ (x : Derivation). x .label) (s .joins), ap (λ (x : Derivation). x .leaving) (s .joins)) (omega arith)
+  module _ (limit : ℕ) where
+    pub toward-tick : Ended (going t (w .term) g) Ticking idleWord → 1 + more ≤ limit → Tells d limit (record { label = Ticking; size = 1 + more })
+    toward-tick e l = let s = ap length (e .words) in record { label = sym (w .label ∙ e .label); size = omega (arith, w .size); bound = l }
 
-  pub told-copy : (n i : ℕ) (s : StepCopy t m T c n i) (o : Effect) → Tells (going t Actions (s .q) i) (furthest t + length (words (s .q))) o → (r : Effect) → r ≡ grownBy o n
-      → Tells (going t m T c) (furthest t + length (words T)) r
-  told-copy n i s o k r e =
-      let z = stands-size t m T c at ws stands _ (s .p) (s .q) (s .term) in
-      tells-around (going t m T c) (going t Actions (s .q) i) (limit (s .q)) (limit T) o k (_ ∷ words (s .p)) [] (s .around) n (omega (arith, s .size)) (omega (arith, s .size)) r e
-
-  pub told-drop : (n to i j : ℕ) (s : StepDrop t m T c at n to i j) (o : Effect) → Tells (going t m (s .p) i) (furthest t + length (words (s .p))) o → Tells (going t m T c) (furthest t + length (words T)) o
-  told-drop n to i j s o k =
-      let z = stands-size t m T c at ws stands _ (s .p) (s .q) (s .term) in
-      tells-same (going t m T c) (going t m (s .p) i) (limit (s .p)) (limit T) o k (ap (λ (x : Derivation). x .label) (s .joins), ap (λ (x : Derivation). x .leaving) (s .joins)) (omega arith)
+    pub toward-node : (e : Derivation) → going t (w .term) g ≡ e → (least : ℕ) (o : Effect) → Tells e least o → (r : Effect) → r ≡ grownBy o more → least + more ≤ limit → Tells d limit r
+    toward-node e f least o k r u l =
+        let s = w .size ∙ ap (λ (x : Derivation). more + length (words (x .leaving))) f in
+        rw u record { label = k .label ∙ sym (w .label ∙ ap (λ (x : Derivation). x .label) f); size = omega (arith, k .size); bound = omega (arith, k .bound) }

@@ -1,110 +1,116 @@
 -- A whole residual in the words that hold it: where it stands, its choices, and what it becomes.
 -- Assumes nothing.
 use Prim.Native.Nat.{ℕ, _+_, _-_, _<_, _≤_}
-use mathlib.Core.Path.{_≡_, sym, ap, ap₂, subst, _∙_}
-use mathlib.Core.List.{List, _++_, append-nil}
+use mathlib.Core.Path.{_≡_, refl, sym, ap, ap₂, subst, _∙_}
+use mathlib.Core.List.{List, [], _++_, append-nil}
 use native.Mathlib.Nat.{zero-add}
 use native.Mathlib.Omega.{arith}
-use lib.ListN.{length, take, drop, replicate, length-append, length-drop, take-append-drop}
-use lib.Seq.{drop-drop, take-add, length-take-le}
+use lib.ListN.{length, take, drop, replicate, length-append, length-drop}
+use lib.Seq.{take-add, length-take-le}
 use Rattle.basis.proofs.Lists.{take-rest}
 use Rattle.table.specs.Tables.{Table, firstRoot}
 use Rattle.term.specs.declared.Mode.the-variants.{Any}
 use Rattle.term.specs.Terms.{Term, words}
 use Rattle.term.specs.Accepted.{Over}
 use Rattle.term.specs.Processes.{Derivation, process, derivationAt}
-use Rattle.term.specs.Choices.{countIn}
 use Rattle.term.proofs.Counting.{length-derivations}
 use Rattle.term.proofs.Words.{whole-read}
 use Rattle.choice.specs.declared.Gap.{Gap}
 use Rattle.choice.specs.Picks.{totalOf}
 use Rattle.choice.specs.Turns.{Prepared}
-use Rattle.choice.specs.Writing.{Written}
 use Rattle.choice.proofs.Chosen.{chosen-any}
 use Rattle.residual.specs.declared.Measured.{Measured}
 use Rattle.residual.specs.Measures.{Found}
 use Rattle.residual.specs.Moves.{Moved}
-use Rattle.residual.specs.Steps.{Choosable, going, Stands}
-use Rattle.residual.specs.Spots.{Spot}
-use Rattle.residual.specs.Wholes.{Whole, residualTerm, Taking, Offered, Rewritten}
+use Rattle.residual.specs.Steps.{wholeOf, going, Stands}
+use Rattle.residual.specs.Wholes.{Whole, residualTerm, Taking, Offered, Placed, Rewritten}
 use Rattle.residual.proofs.Moving.{moved-before, moved-part}
-use Rattle.residual.proofs.Places.{empty}
+use Rattle.residual.proofs.Places.{empty, begins}
+use Rattle.residual.proofs.Placing.{Spot}
+use Rattle.residual.proofs.Reporting.{Toward}
 use Rattle.residual.proofs.Stepping.{true-counts}
 
-module _ (t : Table) (s : List ℕ) (ready : Prepared t s) (size : ℕ) (ws : List ℕ) (whole : Whole t size ws) where
+-- the residual is the words from a place on
+module _ (t : Table) (s : List ℕ) (ready : Prepared t s) (at : ℕ) (ws : List ℕ) (all : Whole t (drop at ws)) where
   abbrev T : Term
-  T = residualTerm size ws
+  T = residualTerm (drop at ws)
 
-  read : Over t T × (words T ≡ take size ws)
-  read = whole-read t (omega (arith, ready .checked .sound .shaped .limits .nodes)) (take size ws) (whole .term)
+  read : Over t T × (words T ≡ drop at ws)
+  read = whole-read t (omega (arith, ready .checked .sound .shaped .limits .nodes)) (drop at ws) (all .term)
 
-  pub term-size : length (words (residualTerm size ws)) ≡ size
-  term-size = ap length (read .1) ∙ length-take-le size ws (whole .fits)
+  pub term-size : length (words (residualTerm (drop at ws))) ≡ length ws - at
+  term-size = ap length (read .1) ∙ length-drop at ws
 
-  begins : drop 0 ws ≡ words T ++ drop (0 + length (words T)) ws
-  begins = rw (zero-add (length (words T)), term-size, read .1) (sym (take-append-drop size ws))
+  there : drop at ws ≡ words T ++ []
+  there = sym (append-nil (words T) ∙ read .1)
 
-  pub chosen-whole : (c : ℕ) → Taking t (residualTerm size ws) c → Choosable t Any (residualTerm size ws) c
-  chosen-whole c k = record { over = read .0; few = k .few; choice = subst (λ (n : ℕ). c < n) (length-derivations (process t T)) (k .choice) }
-
-  pub stands-whole : (c : ℕ) → Taking t (residualTerm size ws) c → Stands t Any (residualTerm size ws) c 0 ws
-  stands-whole c k = record { choosable = chosen-whole c k; begins = begins }
-
-  -- what is found from the front on
-  pub offered : (roots : ℕ) → roots ≡ firstRoot t → (r : Measured) → Found roots s ws 0 r → (n : ℕ) → n ≡ totalOf Any (r .counts) → Offered t (residualTerm size ws) (record { few = r .few; count = n })
-  offered roots e r f n d =
-      let w = f .right t (sym e) (ready .counted) T (drop (0 + length (words T)) ws) (read .0) begins in
+  -- what is found of it
+  pub offered : {roots : ℕ} → firstRoot t ≡ roots → (r : Measured) → Found roots s ws at r → (n : ℕ) → n ≡ totalOf Any (r .counts) → Offered t (residualTerm (drop at ws)) (record { few = r .few; count = n })
+  offered e r f n d =
+      let w = f .right t e (ready .counted) T [] (read .0) there in
       record {
         few = w .few;
-        count = λ g. d ∙ ap (totalOf Any) (true-counts t T g r 0 w) ∙ sym (length-derivations (process t T));
+        count = λ g. d ∙ ap (totalOf Any) (true-counts t T g r at w) ∙ sym (length-derivations (process t T));
       }
 
-  -- the residual has been moved up to the end of the words
-  module _ (c : ℕ) (k : Taking t (residualTerm size ws) c) (fits : length (words (derivationAt (process t (residualTerm size ws)) c .leaving)) ≤ length ws)
-      (vs : List ℕ) (m : Moved ws 0 (length ws - size) (length ws - size) (length ws - size + size) vs) where
-    abbrev at : ℕ
-    at = length ws - size
-
-    ends : at + size ≡ length ws
-    ends = omega (arith, whole .fits)
-
-    moved : drop at vs ≡ words T ++ drop (at + length (words T)) vs
-    moved =
-        sym (take-append-drop size (drop at vs)) ∙
-        ap₂ (λ x y. x ++ y) (moved-part ws 0 at size vs m (omega (arith, whole .fits)) (omega (arith, ends)) ∙ sym (read .1))
-        (drop-drop size at vs ∙ ap (λ (n : ℕ). drop (at + n) vs) (sym term-size))
-
-    pub spot-whole : Spot t Any (residualTerm size ws) c 0 (length ws - size) vs
-    spot-whole =
-        let f : length (words (going t Any T c .leaving)) ≤ length ws = subst (λ (d : Derivation). length (words (d .leaving)) ≤ length ws) (sym (chosen-any (process t T) c)) fits in
+  module _ (c : ℕ) (k : Taking t (residualTerm (drop at ws)) c) where
+    pub stands-whole : Stands t (residualTerm (drop at ws)) (wholeOf at c) ws
+    stands-whole =
         record {
-          stands = record { choosable = chosen-whole c k; begins = moved };
-          order = omega arith;
-          fits = omega (arith, term-size, ends);
+          choosable = record { over = read .0; few = k .few; choice = subst (λ (n : ℕ). c < n) (length-derivations (process t T)) (k .choice) };
+          begins = begins ws at (words T) [] there;
         }
 
+    -- a walk begins at it
+    pub chosen : derivationAt (process t (residualTerm (drop at ws))) c ≡ going t (residualTerm (drop at ws)) (wholeOf at c)
+    chosen = sym (chosen-any (process t T) c)
+
+    pub toward-whole : Toward t ws (derivationAt (process t (residualTerm (drop at ws))) c) (wholeOf at c) 0
+    toward-whole =
+        record {
+          term = T;
+          stands = stands-whole;
+          label = ap (λ (x : Derivation). x .label) chosen;
+          size = ap (λ (x : Derivation). length (words (x .leaving))) chosen ∙ sym (zero-add _);
+          bound = omega (arith, term-size);
+        }
+
+    pub spot-whole : at ≤ length ws → length (words (derivationAt (process t (residualTerm (drop at ws))) c .leaving)) ≤ length ws
+        → Spot t (words (derivationAt (process t (residualTerm (drop at ws))) c .leaving)) (length ws) 0 (wholeOf at c) ws
+    spot-whole h fits =
+        let e = ap (λ (x : Derivation). words (x .leaving)) chosen in
+        let f = ap length e in
+        record {
+          long = refl;
+          term = T;
+          stands = stands-whole;
+          order = omega arith;
+          fits = omega (arith, term-size);
+          words = rw (empty (drop (at + length (words T)) ws) (length-drop (at + length (words T)) ws ∙ omega (arith, term-size))) (append-nil _ ∙ sym e);
+        }
+
+-- it has been moved up to the end of the words
+pub moved-up : (size : ℕ) (ws vs : List ℕ) → size ≤ length ws → Moved ws 0 (length ws - size) (length ws - size) (length ws - size + size) vs → drop (length ws - size) vs ≡ take size ws
+moved-up size ws vs h m =
+    let e : length vs - (length ws - size) ≡ size = omega (arith, m .same) in
+    sym (take-rest vs (length ws - size)) ∙ ap (λ (n : ℕ). take n (drop (length ws - size) vs)) e ∙
+    moved-part ws 0 (length ws - size) size vs m (omega arith) (omega arith)
+
 -- the gap that is left is closed, and the rest cleared
-module _ (goal ws vs : List ℕ) (end : ℕ) (gap : Gap) (out : List ℕ) (same : length vs ≡ length ws) (whole : end ≡ length vs) (w : Written vs 0 end goal gap out) where
-  parts : take (gap .front) out ++ drop (gap .back) out ≡ goal
-  parts = w .words ∙ rw (empty (drop end vs) (length-drop end vs ∙ omega arith)) (append-nil goal)
-
-  pub gap-size : (gap .front ≤ gap .back) × (gap .back ≤ length ws) × (length out ≡ length ws)
-  gap-size = (w .order, omega (arith, w .end), w .same ∙ same)
-
-  goal-size : length goal ≡ gap .front + (length ws - gap .back)
+module _ (goal out : List ℕ) (gap : Gap) (room : ℕ) (w : Placed goal room gap out) where
+  goal-size : length goal ≡ gap .front + (room - gap .back)
   goal-size =
-      let g = gap-size in
-      let a = length-take-le (gap .front) out (omega arith) in
+      let a = length-take-le (gap .front) out (omega (arith, w .order, w .end, w .same)) in
       let b = length-drop (gap .back) out in
-      let e = sym (ap length parts) ∙ length-append (take (gap .front) out) (drop (gap .back) out) in
-      omega arith
+      let e = sym (ap length (w .words)) ∙ length-append (take (gap .front) out) (drop (gap .back) out) in
+      omega (arith, w .same)
 
-  pub rewritten : (n : ℕ) → n ≡ length ws - gap .back → (two : List ℕ) → Moved out (gap .back) (gap .front) (gap .front) (gap .front + n) two
+  pub rewritten : (ws : List ℕ) → room ≡ length ws → (n : ℕ) → n ≡ room - gap .back → (two : List ℕ) → Moved out (gap .back) (gap .front) (gap .front) (gap .front + n) two
       → (three : List ℕ) → three ≡ take (gap .front + n) two ++ replicate (length two - (gap .front + n)) 0 → Rewritten goal ws (gap .front + n) three
-  rewritten n e two m three f = record { size = omega (arith, goal-size); words = f ∙ ap₂ (λ (x : List ℕ) (y : ℕ). x ++ replicate y 0) front zeros }
+  rewritten ws l n e two m three f = record { size = omega (arith, goal-size); words = f ∙ ap₂ (λ (x : List ℕ) (y : ℕ). x ++ replicate y 0) front zeros }
     where
-      g : (gap .front ≤ gap .back) × (gap .back ≤ length ws) × (length out ≡ length ws)
-      g = gap-size
+      g : (gap .front ≤ gap .back) × (gap .back ≤ room) × (length out ≡ room)
+      g = (w .order, w .end, w .same)
 
       zeros : length two - (gap .front + n) ≡ length ws - length goal
       zeros = omega (arith, goal-size, m .same, g)
@@ -115,6 +121,6 @@ module _ (goal ws vs : List ℕ) (end : ℕ) (gap : Gap) (out : List ℕ) (same 
       front : take (gap .front + n) two ≡ goal
       front =
           take-add (gap .front) n two ∙
-          ap₂ (λ x y. x ++ y) (moved-before out (gap .back) (gap .front) n two m (omega (arith, g)) (omega (arith, g)) (gap .front) (omega arith))
+          ap₂ (λ x y. x ++ y) (moved-before out (gap .back) (gap .front) n two m (gap .front) (omega arith))
           (moved-part out (gap .back) (gap .front) n two m (omega (arith, g)) (omega (arith, g)) ∙ ap (λ (k : ℕ). take k (drop (gap .back) out)) rest ∙ take-rest out (gap .back)) ∙
-          parts
+          w .words

@@ -48,29 +48,29 @@ module _ (t : Table) (ws : List ℕ) (at : ℕ) where
   pub are-end : (n : ℕ) → length ws ≤ at → areTerms t n (drop at ws) ≡ eqb n 0
   are-end n h = rw (empty (drop at ws) (length-drop at ws ∙ omega arith)) (are-nil n)
 
-  module _ (h : at < length ws) where
-    abbrev w : ℕ
-    w = getD ws at 0
-
-    opened : (n : ℕ) → areTerms t n (drop at ws) ≡ areTerms t n (w ∷ drop (at + 1) ws)
-    opened n = rw (add-one, drop-cons ws at 0 h)
+  -- a word has been read
+  module _ (w : ℕ) (next : Cursor) (read : readAt ws at ≡ Word w next) where
+    opened : (n : ℕ) → areTerms t n (drop at ws) ≡ areTerms t n (w ∷ drop (next .at) ws)
+    opened n =
+        let r = read-word ws at w next read in
+        ap (areTerms t n) (drop-cons ws at 0 (r .0)) ∙ rw (r .1, r .2, add-one)
 
     pub are-none : (n : ℕ) → n ≡ 0 → areTerms t n (drop at ws) ≡ false
     unfolding areTerms
     are-none n e = ap (λ (k : ℕ). areTerms t k (drop at ws)) e ∙ opened 0
 
-    pub are-operator : (n next : ℕ) → 0 < n → next ≡ at + 1 → isOperator w ≡ true → areTerms t n (drop at ws) ≡ areTerms t (n + 1) (drop next ws)
+    pub are-operator : (n : ℕ) → 0 < n → isOperator w ≡ true → areTerms t n (drop at ws) ≡ areTerms t (n + 1) (drop (next .at) ws)
     unfolding areTerms
-    are-operator zero next l f e = absurd (omega arith)
-    are-operator (suc n) next l f e = let d : suc n + 1 ≡ suc (suc n) = omega arith in opened (suc n) ∙ rw (areTerms, e, f, d)
+    are-operator zero l e = absurd (omega arith)
+    are-operator (suc n) l e = let d : suc n + 1 ≡ suc (suc n) = omega arith in opened (suc n) ∙ rw (areTerms, e, d)
 
-    module _ (roots : ℕ) (kinds : List ℕ) (r : firstRoot t ≡ roots) (k : t .kinds ≡ kinds) where
-      pub are-leaf : (n next : ℕ) → 0 < n → next ≡ at + 1 → isOperator w ≡ false → leafWord roots kinds w ≡ true → areTerms t n (drop at ws) ≡ areTerms t (n - 1) (drop next ws)
+    module _ (roots : ℕ) (kinds : List ℕ) (r : firstRoot t ≡ roots) (k : t .kinds ≡ kinds) (plain : isOperator w ≡ false) where
+      pub are-leaf : (n : ℕ) → 0 < n → leafWord roots kinds w ≡ true → areTerms t n (drop at ws) ≡ areTerms t (n - 1) (drop (next .at) ws)
       unfolding areTerms
-      are-leaf zero next l f e g = absurd (omega arith)
-      are-leaf (suc n) next l f e g = let d : suc n - 1 ≡ n = omega arith in opened (suc n) ∙ rw (areTerms, e, r, k, g, f, d)
+      are-leaf zero l g = absurd (omega arith)
+      are-leaf (suc n) l g = let d : suc n - 1 ≡ n = omega arith in opened (suc n) ∙ rw (areTerms, plain, r, k, g, d)
 
-      pub are-bad : (n : ℕ) → isOperator w ≡ false → leafWord roots kinds w ≡ false → areTerms t n (drop at ws) ≡ false
+      pub are-bad : (n : ℕ) → leafWord roots kinds w ≡ false → areTerms t n (drop at ws) ≡ false
       unfolding areTerms
-      are-bad zero e g = are-none 0 refl
-      are-bad (suc n) e g = opened (suc n) ∙ rw (areTerms, e, r, k, g)
+      are-bad zero g = are-none 0 refl
+      are-bad (suc n) g = opened (suc n) ∙ rw (areTerms, plain, r, k, g)

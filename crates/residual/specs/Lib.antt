@@ -2,5 +2,4 @@ pub mod Reading
 pub mod Measures
 pub mod Steps
 pub mod Moves
-pub mod Spots
 pub mod Wholes

@@ -1,4 +1,4 @@
--- Words moved within a list, and words cleared.
+-- Words moved within a list.
 use Prim.Native.Nat.{ℕ, _+_, _-_, _≤_, _<_}
 use mathlib.Core.Logic.{_⊎_}
 use mathlib.Core.Path.{_≡_}

@@ -1,5 +1,7 @@
 // The counts of the term that begins at a place, where it ends, and whether each subterm has few derivations.
+use crate::Cursor;
 use crate::Measured;
+use crate::Read;
 use crate::reading::is_operator;
 use accept::Counts;
 use accept::NONE;
@@ -8,7 +10,6 @@ use accept::pair;
 use accept::parallel;
 use accept::sequence;
 ghost use mathlib.Core.Path.{_≡_};
-ghost use mathlib.Core.Bool.{_&&_};
 ghost use Prim.Native.Nat.{_+_, _≤_};
 ghost use lib.Dec.{leb};
 ghost use lib.ListN.{length};
@@ -50,48 +51,34 @@ fn few(c: Counts) -> bool
     c.actions + c.ticks <= term::DERIVATIONS
 }
 
-fn all_few(here: bool, left: bool, right: bool) -> bool
-    ensures { λ r. ⌜ r ≡ (here && (left && right)) ⌝ }
-{
-    if !here {
-        return false;
-    }
-    if !left {
-        return false;
-    }
-    right
-}
-
-pub fn measure(roots: usize, scratch: &[u32], words: &[u32], at: usize) -> Measured
+pub fn measure(roots: usize, scratch: &[u32], words: &[u32], from: Cursor) -> Measured
     requires { ⌜ Pairs roots (now scratch) ⌝ }
-    requires { ⌜ at ≤ length (now words) ⌝ }
-    ensures { λ r. ⌜ Found roots (now (scratch .entry)) (now (words .entry)) at r ⌝ }
+    requires { ⌜ from .at ≤ length (now words) ⌝ }
+    ensures { λ r. ⌜ Found roots (now (scratch .entry)) (now (words .entry)) (from .at) r ⌝ }
 {
-    if at == words.len() {
+    let read = from.read(words);
+    let Read::Word { word, next } = read else {
         return Measured {
             counts: NONE,
-            next: at,
+            next: from,
             few: true,
         };
-    }
-    let word = words[at];
+    };
     if is_operator(word) {
-        let left = measure(roots, scratch, words, at + 1);
+        let left = measure(roots, scratch, words, next);
         let right = measure(roots, scratch, words, left.next);
         let c = combined(word, left.counts, right.counts);
-        let all = all_few(few(c), left.few, right.few);
+        let end = right.next;
         return Measured {
             counts: c,
-            next: right.next,
-            few: all,
+            next: end,
+            few: few(c) & (left.few & right.few),
         };
     }
     let c = leaf(roots, scratch, word);
-    let all = few(c);
-    let next = at + 1;
     Measured {
         counts: c,
         next,
-        few: all,
+        few: few(c),
     }
 }

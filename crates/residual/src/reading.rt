@@ -26,7 +26,10 @@ impl Cursor {
     {
         let at = self.at;
         if at < words.len() {
-            return Read::Word(words[at], Cursor { at: at + 1 });
+            return Read::Word {
+                word: words[at],
+                next: Cursor { at: at + 1 },
+            };
         }
         Read::End
     }
@@ -70,7 +73,7 @@ pub fn whole_term(sizes: Sizes, kinds: &[u8], words: &[u32]) -> bool
     let mut more: usize = 1;
     loop {
         let read = cursor.read(words);
-        let Read::Word(word, next) = read else {
+        let Read::Word { word, next } = read else {
             return more == 0;
         };
         if more == 0 {

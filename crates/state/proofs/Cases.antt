@@ -1,7 +1,7 @@
--- Refusal 9, case by case: the state that load leaves of the paper's table, with a change or two.
+-- The layout's numbers, and refusal 9, case by case: the state that load leaves of the paper's table, with a change or two.
 -- Assumes nothing.
 use Prim.Native.Nat.{ℕ, _+_}
-use mathlib.Core.Bool.{Bool, true, false}
+use mathlib.Core.Bool.{true, false}
 use mathlib.Core.Path.{_≡_, refl}
 use mathlib.Core.List.{List, [], _∷_, map}
 use lib.ListN.{set}
@@ -11,8 +11,12 @@ use Rattle.table.specs.Tables.{Table, tableOf}
 use Rattle.table.proofs.Examples.{rehearsed}
 use Rattle.term.specs.Terms.{areTerms}
 use Rattle.state.specs.declared.Store.the-variants.{Environment, Attributes, Entries}
-use Rattle.state.specs.Layout.{clockAt, agentsAt, blockAt, zcAt, zpAt, lengthAt, residualAt, put, addKey}
+use Rattle.state.specs.Layout.{blockWords, stateWords, clockAt, agentsAt, blockAt, zcAt, zpAt, lengthAt, residualAt, put, addKey}
 use Rattle.state.specs.WellFormed.{allZero, pairFormed, pendingFormed, residualFormed, agentFormed, wellFormed, loaded}
+
+-- the words of a block, and of a state
+pub paper-words : (blockWords ≡ 130) × (stateWords ≡ 4194)
+paper-words = (refl, refl)
 
 -- two agents, one attribute, one stigmergy key, no environment key; agent 0 starts as node 1, agent 1 as node 3
 abbrev t : Table

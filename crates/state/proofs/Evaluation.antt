@@ -26,7 +26,8 @@ use Rattle.state.specs.Layout.{keyLimit, markOf, valueIn}
 use Rattle.state.specs.Evaluation.{partyOf, valueStep, valueOf, truthStep, holds, linkHolds}
 use Rattle.state.specs.Walks.{valueBelow, truthBelow}
 use Rattle.state.proofs.Places.{Mark, Word}
-use Rattle.state.proofs.Frames.{Small, SameAt, value-same}
+use Rattle.state.specs.WellFormed.{Words}
+use Rattle.state.proofs.Frames.{SameAt, value-same}
 
 -- two states have the same values in a store
 abbrev pub SameValues : List ℕ → List ℕ → Store → Type 0
@@ -92,12 +93,12 @@ operate-small kind Absent b = tt
 operate-small kind (Present x) Absent = tt
 operate-small kind (Present x) (Present y) = arithmetic-small kind (signedOf x) (signedOf y)
 
-pub valueIn-small : (s : List ℕ) → Small s → (store : Store) (k : ℕ) → SmallValue (valueIn s store k)
+pub valueIn-small : (s : List ℕ) → Words s → (store : Store) (k : ℕ) → SmallValue (valueIn s store k)
 unfolding valueIn
 valueIn-small s small store k =
     cond-cases SmallValue (ltb k keyLimit) (λ e. cond-cases SmallValue (eqb (markOf s store k) 0) (λ f. tt) (λ f. small _)) (λ e. tt)
 
-module _ (t : Table) (bytes : (i : ℕ) → getD (t .operands) i 0 < 256) (s : List ℕ) (small : Small s) (x y : ℕ) where
+module _ (t : Table) (bytes : (i : ℕ) → getD (t .operands) i 0 < 256) (s : List ℕ) (small : Words s) (x y : ℕ) where
   constant-small : (n : ℕ) → constantAt t n < 2 ^ 32
   constant-small n = let i = 4 * n in omega (arith, bytes i, bytes (i + 1), bytes (i + 2), bytes (i + 2 + 1))
 

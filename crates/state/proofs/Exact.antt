@@ -15,11 +15,11 @@ use Rattle.basis.proofs.KeySets.{same-keys}
 use Rattle.basis.proofs.Tests.{lt-or-le}
 use Rattle.value.specs.declared.Value.the-variants.{Absent, Present}
 use Rattle.table.specs.Tables.{Table}
-use Rattle.term.specs.Acceptance.{stateWords}
 use Rattle.term.specs.Terms.{Term, words}
 use Rattle.state.specs.declared.Store.{Store}
 use Rattle.state.specs.declared.Store.the-variants.{Environment, Attributes, Entries}
-use Rattle.state.specs.Layout.{keyLimit, clockOf, markOf, wordOf, stampOf, termIn, valueIn}
+use Rattle.state.specs.Layout.{stateWords, keyLimit, markOf, wordOf, stampOf, termIn, valueIn}
+use Rattle.state.specs.Entries.{clockOf}
 use Rattle.state.proofs.Places.{Place, KeySet, Clock, Agents, Mark, Word, Waits, Length, Residual, placeAt, Inside, placeKind, placeAgent, place-past, placed}
 use Rattle.state.proofs.Frames.{wordAt, SameAt}
 use Rattle.state.proofs.Formed.{PairFormed, WellFormed, There, highestIn, keysIn}

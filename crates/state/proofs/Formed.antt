@@ -16,16 +16,17 @@ use Rattle.basis.proofs.Numbers.{every-at, every-all}
 use Rattle.basis.proofs.Tests.{and-left, and-right, and-both, or-left, or-right, lt-or-le}
 use Rattle.table.specs.Tables.{Table, firstRoot}
 use Rattle.table.specs.Sound.{Limits}
-use Rattle.term.specs.Acceptance.{stateWords}
 use Rattle.term.specs.Terms.{Term, words, areTerms}
 use Rattle.term.specs.Accepted.{Over}
 use Rattle.term.proofs.Words.{over-low, over-whole, whole-read}
 use Rattle.state.specs.declared.Store.{Store}
 use Rattle.state.specs.declared.Store.the-variants.{Environment, Attributes, Entries}
-use Rattle.state.specs.Layout.{agentsAt, blockAt, keyLimit, residualWords, clockOf, markOf, wordOf, stampOf, zcOf, zpOf, lengthOf, residualOf, termIn}
-use Rattle.state.specs.WellFormed.{allZero, pairFormed, pendingFormed, residualFormed, agentFormed, wellFormed, Proper}
+use Rattle.state.specs.Layout.{stateWords, agentsAt, blockAt, keyLimit, residualWords, markOf, wordOf, stampOf, zcOf, zpOf, lengthOf, residualOf, termIn}
+use Rattle.state.specs.Entries.{clockOf}
+use Rattle.state.specs.WellFormed.{allZero, pairFormed, pendingFormed, residualFormed, agentFormed, wellFormed, Proper, Words}
 use Rattle.state.proofs.Places.{KeySet, Zc, Zp, Waits, Residual}
-use Rattle.state.proofs.Frames.{wordAt, Small}
+use Rattle.state.specs.Standing.{HasBlocks}
+use Rattle.state.proofs.Frames.{wordAt}
 use Rattle.state.proofs.Residuals.{zero-at, at-zero, residual-length, residual-front, residual-rest, residual-reads, term-read}
 
 -- pair k of a store of so many keys: no mark is over the highest, absent has value 0, a key that there is not is absent
@@ -77,7 +78,7 @@ pub record WellFormed (t : Table) (s : List ℕ) : Type 0 where
 -- `Proper`, with the facts of a well-formed state
 pub record ProperFacts (t : Table) (s : List ℕ) : Type 0 where
   pub whole : length s ≡ stateWords
-  pub small : Small s
+  pub small : Words s
   pub formed : WellFormed t s
 
 -- PAIRS
@@ -129,7 +130,7 @@ module _ (t : Table) (s : List ℕ) (a : ℕ) where
       by false e false f = refl
 
 -- RESIDUALS
-module _ (t : Table) (few : firstRoot t ≤ 65532) (s : List ℕ) (whole : length s ≡ stateWords) (a : ℕ) (there : a < 32) where
+module _ (t : Table) (few : firstRoot t ≤ 65532) (s : List ℕ) (room : HasBlocks s) (a : ℕ) (there : a < 32) where
   pub residual-read : residualFormed t s a ≡ true → ResidualFormed t s a
   unfolding residualFormed
   residual-read e =
@@ -139,7 +140,7 @@ module _ (t : Table) (few : firstRoot t ≤ 65532) (s : List ℕ) (whole : lengt
       let short = leb-true n residualWords (and-left b _ e) in
       let f = and-right b _ e in
       let r = whole-read t few ws (and-left (areTerms t 1 ws) _ f) in
-      let l : length ws ≡ n = length-take-le n (residualOf s a) (rw (residual-length s a whole there) short) in
+      let l : length ws ≡ n = length-take-le n (residualOf s a) (rw (residual-length s a room there) short) in
       let long : n ≡ length (words (termIn s a)) = sym l ∙ ap (λ (vs : List ℕ). length vs) (sym (r .1)) in
       record {
         over = r .0;
@@ -153,7 +154,7 @@ module _ (t : Table) (few : firstRoot t ≤ 65532) (s : List ℕ) (whole : lengt
   pub residual-formed : (T : Term) → Over t T → lengthOf s a ≡ length (words T) → length (words T) ≤ residualWords
       → ((i : ℕ) → i < residualWords → wordAt s (Residual a i) ≡ getD (words T) i 0) → ResidualFormed t s a
   residual-formed T o l m r =
-      let e = term-read s a whole there T (over-low t few T o) m l r in
+      let e = term-read s a room there T (over-low t few T o) m l r in
       record { over = rw e o; long = rw e l; short = omega arith; reads = rw e r }
 
   pub residual-test : ResidualFormed t s a → residualFormed t s a ≡ true
@@ -162,13 +163,13 @@ module _ (t : Table) (few : firstRoot t ≤ 65532) (s : List ℕ) (whole : lengt
       let n = lengthOf s a in
       let T = termIn s a in
       let short : length (words T) ≤ residualWords = omega (arith, r .long, r .short) in
-      let front = ap (λ (m : ℕ). take m (residualOf s a)) (r .long) ∙ residual-front s a whole there (words T) short (r .reads) in
-      let rest = ap (λ (m : ℕ). allZero (drop m (residualOf s a))) (r .long) ∙ residual-rest s a whole there (words T) short (r .reads) in
+      let front = ap (λ (m : ℕ). take m (residualOf s a)) (r .long) ∙ residual-front s a room there (words T) short (r .reads) in
+      let rest = ap (λ (m : ℕ). allZero (drop m (residualOf s a))) (r .long) ∙ residual-rest s a room there (words T) short (r .reads) in
       and-both (leb n residualWords) _ (le-leb n residualWords (r .short))
       (and-both (areTerms t 1 (take n (residualOf s a))) _ (ap (areTerms t 1) front ∙ over-whole t few T (r .over)) rest)
 
 -- THE STATE
-module _ (t : Table) (limits : Limits (t .sizes)) (s : List ℕ) (whole : length s ≡ stateWords) where
+module _ (t : Table) (limits : Limits (t .sizes)) (s : List ℕ) (room : HasBlocks s) where
   few : firstRoot t ≤ 65532
   few = omega arith
 
@@ -212,7 +213,7 @@ module _ (t : Table) (limits : Limits (t .sizes)) (s : List ℕ) (whole : length
           agents = eqb-true (getD s agentsAt 0) n (and-left (eqb (getD s agentsAt 0) n) _ e);
           pairs = pairs (and-left (every (pairFormed s Environment 1 (t .sizes .environment)) keyLimit) _ g) each;
           sets = λ z a l. let b = each a l in sets-read t s a (b .toConfirm) (b .toPropagate) (every-at (pendingFormed s a) keyLimit (b .pending)) z;
-          residuals = λ a l. residual-read t few s whole a (omega arith) (each a l .residual);
+          residuals = λ a l. residual-read t few s room a (omega arith) (each a l .residual);
           unused = λ i l. let j : i ≡ blockAt n + (i - blockAt n) = omega arith in
               ap (λ (m : ℕ). getD s m 0) j ∙ sym (getD-drop (blockAt n) s (i - blockAt n) 0) ∙ zeros (i - blockAt n);
         };
@@ -236,7 +237,7 @@ module _ (t : Table) (limits : Limits (t .sizes)) (s : List ℕ) (whole : length
         (and-both _ _ (pairs-test (Entries a) l)
         (and-both _ _ (and-both _ _ (lt-ltb (zcOf s a) (2 ^ keyLimit) (w .formed .sets Zc a l .narrow)) (lt-ltb (zpOf s a) (2 ^ keyLimit) (w .formed .sets Zp a l .narrow)))
         (and-both _ _ (every-all (pendingFormed s a) keyLimit (sets-test t s a (λ z. w .formed .sets z a l)))
-        (residual-test t few s whole a (omega arith) (w .formed .residuals a l)))))
+        (residual-test t few s room a (omega arith) (w .formed .residuals a l)))))
 
     pub well-formed-test : wellFormed t s ≡ true
     unfolding wellFormed
@@ -254,7 +255,7 @@ module _ (t : Table) (limits : Limits (t .sizes)) (s : List ℕ) (whole : length
 -- PROPER WORDS
 module _ (t : Table) (limits : Limits (t .sizes)) (s : List ℕ) where
   pub proper-facts : Proper t s → ProperFacts t s
-  proper-facts p = record { whole = p .whole; small = p .small; formed = well-formed-read t limits s (p .whole) (p .formed) }
+  proper-facts p = record { whole = p .whole; small = p .small; formed = well-formed-read t limits s (omega (arith, p .whole)) (p .formed) }
 
   pub facts-proper : ProperFacts t s → Proper t s
-  facts-proper p = record { whole = p .whole; small = p .small; formed = well-formed-test t limits s (p .whole) (p .formed) }
+  facts-proper p = record { whole = p .whole; small = p .small; formed = well-formed-test t limits s (omega (arith, p .whole)) (p .formed) }

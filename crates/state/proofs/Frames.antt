@@ -15,25 +15,22 @@ use Rattle.basis.proofs.KeySets.{has-plus, has-minus, plus-small, minus-small}
 use Rattle.basis.proofs.Lists.{getD-set, getD-part}
 use Rattle.basis.proofs.Tests.{not-both, lt-or-le, same-or-other}
 use Rattle.value.specs.declared.Value.the-variants.{Absent, Present}
-use Rattle.term.specs.Acceptance.{stateWords}
 use Rattle.term.specs.Terms.{termOf}
 use Rattle.state.specs.declared.Store.{Store}
+use Rattle.state.specs.Standing.{HasBlocks}
+use Rattle.state.specs.WellFormed.{Words}
 use Rattle.state.specs.Layout.{keyLimit, residualWords, residualAt, markOf, wordOf, residualOf, termIn, valueIn, put, addKey, dropKey}
 use Rattle.state.proofs.Places.{Place, KeySet, Mark, Word, Waits, Length, Residual, placeAt, Inside, placeAgent, storeAgent, same, sameStore, same-self, same-not, settled, same-place, place-fits}
 
 abbrev pub wordAt : List ℕ → Place → ℕ
 wordAt s p = getD s (placeAt p) 0
 
--- every word fits 32 bits
-abbrev pub Small : List ℕ → Type 0
-Small s = (i : ℕ) → getD s i 0 < 2 ^ 32
-
 -- two states have the same word at a place
 abbrev pub SameAt : List ℕ → List ℕ → Place → Type 0
 SameAt s u p = wordAt s p ≡ wordAt u p
 
 -- ONE WORD
-pub set-small : (s : List ℕ) (i v : ℕ) → Small s → v < 2 ^ 32 → Small (set s i v)
+pub set-small : (s : List ℕ) (i v : ℕ) → Words s → v < 2 ^ 32 → Words (set s i v)
 set-small s i v small h j = ⊎-elim (λ (e : j ≡ i). at e) (λ (e : j ≡ i → ⊥). rw (getD-set-other s i j v 0 e) (small j)) (same-or-other j i)
   where
     at : j ≡ i → getD (set s i v) j 0 < 2 ^ 32
@@ -47,14 +44,14 @@ module _ (s : List ℕ) (p : Place) (v : ℕ) (inside : Inside p) where
   pub set-settled : settled p ≡ false → (q : Place) → Inside q → settled q ≡ true → SameAt (set s (placeAt p) v) s q
   set-settled e q h f = set-other q h (same-not q p (λ i. not-both f (ap settled i ∙ e)))
 
-  module _ (whole : length s ≡ stateWords) (there : placeAgent p < 32) where
+  module _ (room : HasBlocks s) (there : placeAgent p < 32) where
     pub set-word : (q : Place) → Inside q → wordAt (set s (placeAt p) v) q ≡ cond (same q p) v (wordAt s q)
     set-word q h =
-        getD-set s (placeAt p) (placeAt q) v 0 (rw whole (place-fits p inside there))
+        getD-set s (placeAt p) (placeAt q) v 0 (omega (arith, room, place-fits p inside there))
         ∙ ap (λ b. cond b v (wordAt s q)) (same-place q p h inside)
 
     pub set-here : wordAt (set s (placeAt p) v) p ≡ v
-    set-here = getD-set-same s (placeAt p) v 0 (rw whole (place-fits p inside there))
+    set-here = getD-set-same s (placeAt p) v 0 (omega (arith, room, place-fits p inside there))
 
 -- A PAIR of any store
 module _ (store : Store) (k v m : ℕ) (s : List ℕ) where
@@ -62,7 +59,7 @@ module _ (store : Store) (k v m : ℕ) (s : List ℕ) where
   unfolding put
   put-length = simp length-set
 
-  pub put-small : Small s → v < 2 ^ 32 → m < 2 ^ 32 → Small (put store k v m s)
+  pub put-small : Words s → v < 2 ^ 32 → m < 2 ^ 32 → Words (put store k v m s)
   unfolding put
   put-small small h l = set-small (set s (placeAt (Word store k)) v) (placeAt (Mark store k)) m (set-small s (placeAt (Word store k)) v small h) l
 
@@ -73,13 +70,13 @@ module _ (store : Store) (k v m : ℕ) (s : List ℕ) where
         set-other (set s (placeAt (Word store k)) v) (Mark store k) m key q h e
         ∙ set-other s (Word store k) v key q h f
 
-    module _ (whole : length s ≡ stateWords) (there : storeAgent store < 32) where
+    module _ (room : HasBlocks s) (there : storeAgent store < 32) where
       pub put-word : (q : Place) → Inside q
           → wordAt (put store k v m s) q ≡ cond (same q (Mark store k)) m (cond (same q (Word store k)) v (wordAt s q))
       unfolding put
       put-word q h =
-          set-word (set s (placeAt (Word store k)) v) (Mark store k) m key (length-set s (placeAt (Word store k)) v ∙ whole) there q h
-          ∙ ap (λ w. cond (same q (Mark store k)) m w) (set-word s (Word store k) v key whole there q h)
+          set-word (set s (placeAt (Word store k)) v) (Mark store k) m key (omega (arith, length-set s (placeAt (Word store k)) v, room)) there q h
+          ∙ ap (λ w. cond (same q (Mark store k)) m w) (set-word s (Word store k) v key room there q h)
 
       pub put-mark : markOf (put store k v m s) store k ≡ m
       put-mark = put-word (Mark store k) key ∙ rw (same-self (Mark store k))
@@ -116,11 +113,11 @@ module _ (z : KeySet) (a k : ℕ) (s : List ℕ) where
   unfolding dropKey
   drop-length = simp length-set
 
-  pub add-small : k < 32 → Small s → Small (addKey (placeAt (Waits z a)) k s)
+  pub add-small : k < 32 → Words s → Words (addKey (placeAt (Waits z a)) k s)
   unfolding addKey
   add-small l small = set-small s (placeAt (Waits z a)) _ small (plus-small 32 (wordAt s (Waits z a)) k l (small (placeAt (Waits z a))))
 
-  pub drop-small : Small s → Small (dropKey (placeAt (Waits z a)) k s)
+  pub drop-small : Words s → Words (dropKey (placeAt (Waits z a)) k s)
   unfolding dropKey
   drop-small small = set-small s (placeAt (Waits z a)) _ small (minus-small 32 (wordAt s (Waits z a)) k (small (placeAt (Waits z a))))
 
@@ -132,14 +129,14 @@ module _ (z : KeySet) (a k : ℕ) (s : List ℕ) where
   unfolding dropKey
   drop-other q h e = set-other s (Waits z a) _ tt q h e
 
-  module _ (whole : length s ≡ stateWords) (there : a < 32) where
+  module _ (room : HasBlocks s) (there : a < 32) where
     pub add-word : (q : Place) → Inside q → wordAt (addKey (placeAt (Waits z a)) k s) q ≡ cond (same q (Waits z a)) (plus (wordAt s (Waits z a)) k) (wordAt s q)
     unfolding addKey
-    add-word q h = set-word s (Waits z a) _ tt whole there q h
+    add-word q h = set-word s (Waits z a) _ tt room there q h
 
     pub drop-word : (q : Place) → Inside q → wordAt (dropKey (placeAt (Waits z a)) k s) q ≡ cond (same q (Waits z a)) (minus (wordAt s (Waits z a)) k) (wordAt s q)
     unfolding dropKey
-    drop-word q h = set-word s (Waits z a) _ tt whole there q h
+    drop-word q h = set-word s (Waits z a) _ tt room there q h
 
     pub has-add : (j : ℕ) → has (wordAt (addKey (placeAt (Waits z a)) k s) (Waits z a)) j ≡ (eqb k j || has (wordAt s (Waits z a)) j)
     has-add j = rw (add-word (Waits z a) tt, same-self (Waits z a)) (has-plus (wordAt s (Waits z a)) k j)

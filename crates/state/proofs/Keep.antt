@@ -15,12 +15,14 @@ use Rattle.basis.proofs.KeySets.{has-plus, has-minus, has-plusAll, plus-small, 
 use Rattle.basis.proofs.Tests.{and-right, or-either, cond-cases, either}
 use Rattle.table.specs.Tables.{Table}
 use Rattle.table.specs.Sound.{Limits}
-use Rattle.term.specs.Acceptance.{stateWords}
 use Rattle.state.specs.declared.Store.{Store}
 use Rattle.state.specs.declared.Store.the-variants.{Environment, Attributes, Entries}
-use Rattle.state.specs.Layout.{blockAt, keyLimit, residualWords, clockAt, clockOf, stampOf, termIn, put, addKey, dropKey}
+use Rattle.state.specs.Layout.{stateWords, blockAt, keyLimit, residualWords, clockAt, stampOf, termIn, put, addKey, dropKey}
+use Rattle.state.specs.Entries.{clockOf}
 use Rattle.state.proofs.Places.{settled, Place, KeySet, Clock, Agents, Mark, Word, Waits, Length, Residual, placeAt, Inside, placeAgent, storeAgent, same, same-one, place-bound}
-use Rattle.state.proofs.Frames.{wordAt, Small, SameAt, set-small, set-other, set-here, set-settled, set-word, put-other, put-word, put-mark, put-length, put-small, term-same}
+use Rattle.state.specs.Standing.{HasBlocks}
+use Rattle.state.specs.WellFormed.{Words}
+use Rattle.state.proofs.Frames.{wordAt, SameAt, set-small, set-other, set-here, set-settled, set-word, put-other, put-word, put-mark, put-length, put-small, term-same}
 use Rattle.state.proofs.Formed.{PairFormed, SetFormed, ResidualFormed, There, highestIn, keysIn, Formed, ProperFacts}
 
 -- WHAT STAYS where the words stay
@@ -74,7 +76,7 @@ module _ (t : Table) (limits : Limits (t .sizes)) where
       pairs (Attributes a) h k i = f .pairs (Attributes a) h k i
       pairs (Entries a) h k i = let p = f .pairs (Entries a) h k i in record { bound = omega (arith, p .bound); absent = p .absent; unused = p .unused }
 
-  module _ (c : ℕ) (s : List ℕ) (whole : length s ≡ stateWords) (f : Formed t c s) where
+  module _ (c : ℕ) (s : List ℕ) (room : HasBlocks s) (f : Formed t c s) where
     -- the unused words, after a change of a place that is used
     still-unused : (u : List ℕ) (p : Place) (v : ℕ) → Inside p → placeAgent p < agents → ((i : ℕ) → blockAt agents ≤ i → getD u i 0 ≡ 0) → (i : ℕ) → blockAt agents ≤ i → getD (set u (placeAt p) v) i 0 ≡ 0
     still-unused u p v h l z i m = getD-set-other u (placeAt p) i v 0 (λ e. omega (arith, place-bound p agents h l)) ∙ z i m
@@ -106,7 +108,7 @@ module _ (t : Table) (limits : Limits (t .sizes)) where
     formed-keys z a w there g = formed-set (Waits z a) w tt there refl sets
       where
         sets : (y : KeySet) (b : ℕ) → b < agents → SetFormed s b (wordAt (set s (placeAt (Waits z a)) w) (Waits y b))
-        sets y b l = rw (set-word s (Waits z a) w tt whole (omega arith) (Waits y b) tt)
+        sets y b l = rw (set-word s (Waits z a) w tt room (omega arith) (Waits y b) tt)
             (cond-cases (SetFormed s b) (same (Waits y b) (Waits z a))
             (λ e. subst (λ (d : ℕ). SetFormed s d w) (sym (ap placeAgent (same-one (Waits y b) (Waits z a) e))) g) (λ e. f .sets y b l))
 
@@ -126,14 +128,14 @@ module _ (t : Table) (limits : Limits (t .sizes)) where
               let g : Mark other j ≡ Mark store k = same-one (Mark other j) (Mark store k) e in
               let d : other ≡ store = cc in
               let i : j ≡ k = cc in
-              let q = put-mark store k v m s key whole few in
+              let q = put-mark store k v m s key room few in
               rw (d, i) (record { bound = rw q bound; absent = λ z. absurd (omega arith); unused = λ z. absurd (omega arith) })
 
           else : same (Mark other j) (Mark store k) ≡ false → PairFormed with-pair other (highestIn c other) (keysIn t other) j
           else e = pair-kept s with-pair other (highestIn c other) (keysIn t other) j (put-other store k v m s key (Mark other j) l e refl) (put-other store k v m s key (Word other j) l refl e) (f .pairs other h j l)
 
       stamps : (a j : ℕ) → j < keyLimit → 0 < stampOf s a j → 0 < stampOf with-pair a j
-      stamps a j l h = rw (put-word store k v m s key whole few (Mark (Entries a) j) l)
+      stamps a j l h = rw (put-word store k v m s key room few (Mark (Entries a) j) l)
           (cond-cases (λ (n : ℕ). 0 < n) (same (Mark (Entries a) j) (Mark store k)) (λ e. pos) (λ e. h))
 
       formed-put : Formed t c (put store k v m s)
@@ -149,7 +151,7 @@ module _ (t : Table) (limits : Limits (t .sizes)) where
 -- WHAT STEPS KEEP of the state before, `was`: stamps go up to c, and the clock shows n
 pub record Kept (t : Table) (c n : ℕ) (was s : List ℕ) : Type 0 where
   pub whole : length s ≡ stateWords
-  pub small : Small s
+  pub small : Words s
   pub clock : clockOf s ≡ n
   pub formed : Formed t c s
   pub stamps : (a k : ℕ) → k < keyLimit → 0 < stampOf was a k → 0 < stampOf s a k
@@ -170,8 +172,8 @@ module _ (t : Table) (limits : Limits (t .sizes)) (was : List ℕ) where
     kept-clock v l = record {
       whole = length-set s clockAt v ∙ h .whole;
       small = set-small s clockAt v (h .small) l;
-      clock = set-here s Clock v tt (h .whole) (omega arith);
-      formed = formed-clock t limits c s (h .whole) (h .formed) v;
+      clock = set-here s Clock v tt (omega (arith, h .whole)) (omega arith);
+      formed = formed-clock t limits c s (omega (arith, h .whole)) (h .formed) v;
       stamps = λ a k i m. rw (set-other s Clock v tt (Mark (Entries a) k) i refl) (h .stamps a k i m);
     }
 
@@ -181,7 +183,7 @@ module _ (t : Table) (limits : Limits (t .sizes)) (was : List ℕ) where
       whole = length-set s (placeAt (Waits z a)) w ∙ h .whole;
       small = set-small s (placeAt (Waits z a)) w (h .small) (omega (arith, f .narrow));
       clock = set-other s (Waits z a) w tt Clock tt refl ∙ h .clock;
-      formed = formed-keys t limits c s (h .whole) (h .formed) z a w l f;
+      formed = formed-keys t limits c s (omega (arith, h .whole)) (h .formed) z a w l f;
       stamps = λ b k i m. rw (set-other s (Waits z a) w tt (Mark (Entries b) k) i refl) (h .stamps b k i m);
     }
 
@@ -199,6 +201,6 @@ module _ (t : Table) (limits : Limits (t .sizes)) (was : List ℕ) where
       whole = put-length store k v m s ∙ h .whole;
       small = put-small store k v m s (h .small) smallValue smallMark;
       clock = put-other store k v m s key Clock tt refl refl ∙ h .clock;
-      formed = formed-put t limits c s (h .whole) (h .formed) store k v m there key used pos bound;
-      stamps = λ a j l i. stamps t limits c s (h .whole) (h .formed) store k v m there key used pos bound a j l (h .stamps a j l i);
+      formed = formed-put t limits c s (omega (arith, h .whole)) (h .formed) store k v m there key used pos bound;
+      stamps = λ a j l i. stamps t limits c s (omega (arith, h .whole)) (h .formed) store k v m there key used pos bound a j l (h .stamps a j l i);
     }

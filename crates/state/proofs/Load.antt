@@ -18,14 +18,14 @@ use Rattle.value.specs.declared.Value.{Value}
 use Rattle.value.specs.declared.Value.the-variants.{Absent}
 use Rattle.table.specs.Tables.{Table, startAt}
 use Rattle.table.specs.Sound.{Limits}
-use Rattle.term.specs.Acceptance.{stateWords}
 use Rattle.term.specs.Terms.{Node, words}
 use Rattle.term.specs.Accepted.{Over}
 use Rattle.state.specs.declared.Store.{Store}
-use Rattle.state.specs.Layout.{agentsAt, blockAt, lengthAt, residualAt, residualWords, keyLimit, clockOf, markOf, lengthOf, termIn, valueIn}
-use Rattle.state.specs.WellFormed.{started, loaded}
+use Rattle.state.specs.Layout.{stateWords, agentsAt, blockAt, lengthAt, residualAt, residualWords, keyLimit, markOf, lengthOf, termIn, valueIn}
+use Rattle.state.specs.Entries.{clockOf}
+use Rattle.state.specs.WellFormed.{started, loaded, Words}
 use Rattle.state.proofs.Places.{Place, KeySet, Clock, Agents, Mark, Word, Waits, Length, Residual, placeAt, Inside, placeAgent, same, other-agent, past-agent, placed}
-use Rattle.state.proofs.Frames.{wordAt, Small, SameAt, set-small, set-other, set-here}
+use Rattle.state.proofs.Frames.{wordAt, SameAt, set-small, set-other, set-here}
 use Rattle.state.proofs.Residuals.{term-read}
 use Rattle.state.proofs.Formed.{WellFormed, ProperFacts, residual-formed}
 
@@ -73,7 +73,7 @@ module _ (t : Table) where
 
   pub loaded-agents : getD (loaded t) agentsAt 0 ≡ agents
   unfolding loaded
-  loaded-agents = set-here (begun agents) Agents agents tt (begun-length agents) (omega arith)
+  loaded-agents = set-here (begun agents) Agents agents tt (omega (arith, begun-length agents)) (omega arith)
 
   pub loaded-clock : clockOf (loaded t) ≡ 0
   loaded-clock = loaded-zero Clock tt refl (λ a l. refl) (λ a l. refl)
@@ -104,28 +104,28 @@ module _ (t : Table) where
         started-last a there (Length a) tt refl refl
         ∙ ap (λ (i : ℕ). getD (set (set (begun a) (lengthAt a) 1) i (startAt t a)) (lengthAt a) 0) (first-place a)
         ∙ set-other (set (begun a) (lengthAt a) 1) (Residual a 0) (startAt t a) (omega arith) (Length a) tt refl
-        ∙ set-here (begun a) (Length a) 1 tt (begun-length a) (omega arith)
+        ∙ set-here (begun a) (Length a) 1 tt (omega (arith, begun-length a)) (omega arith)
 
     pub loaded-word : (i : ℕ) → i < residualWords → wordAt (loaded t) (Residual a i) ≡ getD (words (Node (startAt t a))) i 0
     unfolding words
     loaded-word zero l =
         started-last a there (Residual a 0) l refl refl
         ∙ ap (λ (i : ℕ). getD (set (set (begun a) (lengthAt a) 1) i (startAt t a)) (placeAt (Residual a 0)) 0) (first-place a)
-        ∙ set-here (set (begun a) (lengthAt a) 1) (Residual a 0) (startAt t a) l (length-set (begun a) (lengthAt a) 1 ∙ begun-length a) (omega arith)
+        ∙ set-here (set (begun a) (lengthAt a) 1) (Residual a 0) (startAt t a) l (omega (arith, length-set (begun a) (lengthAt a) 1, begun-length a)) (omega arith)
     loaded-word (suc i) l = loaded-zero (Residual a (suc i)) l refl (λ b m. refl) (λ b m. rw (ne-eqb (suc i) 0 (omega arith)))
 
   module _ (limits : Limits (t .sizes)) (starts : (a : ℕ) → a < agents → Over t (Node (startAt t a))) where
     pub loaded-term : (a : ℕ) → a < agents → termIn (loaded t) a ≡ Node (startAt t a)
     unfolding words
     loaded-term a l =
-        term-read (loaded t) a loaded-length (omega arith) (Node (startAt t a)) (let o = starts a l in omega arith) (omega arith)
+        term-read (loaded t) a (omega (arith, loaded-length)) (omega arith) (Node (startAt t a)) (let o = starts a l in omega arith) (omega arith)
         (loaded-size (omega arith) a l) (loaded-word (omega arith) a l)
 
-    pub loaded-small : Small (loaded t)
+    pub loaded-small : Words (loaded t)
     unfolding loaded
     loaded-small =
         set-small (begun agents) agentsAt agents
-        (forEach-keeps (started t) Small agents
+        (forEach-keeps (started t) Words agents
         (λ a l s h. let o = starts a l in
         set-small (set s (lengthAt a) 1) (residualAt a) (startAt t a) (set-small s (lengthAt a) 1 h (omega arith)) (omega arith)) (zeros stateWords)
         (λ i. rw (getD-row {A = ℕ} stateWords i 0) (omega arith)))
@@ -156,7 +156,7 @@ module _ (t : Table) where
                 };
             sets = λ z a l. rw (loaded-set z a)
                 (record { narrow = omega arith; entered = λ k h e. absurd (not-both e (has-nothing k)) });
-            residuals = λ a l. residual-formed t (omega arith) (loaded t) loaded-length a (omega arith) (Node (startAt t a)) (starts a l) (loaded-size (omega arith) a l) (omega arith) (loaded-word (omega arith) a l);
+            residuals = λ a l. residual-formed t (omega arith) (loaded t) (omega (arith, loaded-length)) a (omega arith) (Node (startAt t a)) (starts a l) (loaded-size (omega arith) a l) (omega arith) (loaded-word (omega arith) a l);
             unused = rest;
           };
         }

@@ -1,21 +1,20 @@
 -- The places of a state's words. Different places have different numbers, and every number is a place's:
--- this module alone knows the layout's numbers, and all that is proved of a state goes through its laws.
+-- this module alone knows the layout, by its names, and all that is proved of a state goes through its laws.
 -- Assumes nothing.
 use Prim.Native.Nat.{ℕ, _+_, _-_, _*_, _/_, _%_, _<_, _≤_}
 use mathlib.Core.Bool.{Bool, true, false, cond, _&&_}
-use mathlib.Core.Logic.{_⊎_, inl, inr, ⊎-elim}
+use mathlib.Core.Logic.{⊎-elim}
 use mathlib.Core.Path.{_≡_, refl, sym, ap, _∙_}
 use mathlib.Core.List.{[], _∷_}
 use native.Mathlib.Omega.{arith}
 use lib.Dec.{eqb, ltb}
 use lib.ListN.{getD}
-use borrow.Author.Tests.{eqb-true, eq-eqb, lt-ltb, le-ltb, ne-eqb}
+use borrow.Author.Tests.{eqb-true, eq-eqb, lt-ltb, le-ltb}
 use Rattle.basis.proofs.Tests.{is-false, and-left, and-right, lt-or-le, same-test}
-use Rattle.term.specs.Acceptance.{stateWords}
 use Rattle.state.specs.declared.Store.{Store}
 use Rattle.state.specs.declared.Store.the-variants.{Environment, Attributes, Entries}
 pub use Rattle.state.specs.Standing.{storeAgent}
-use Rattle.state.specs.Layout.{clockAt, agentsAt, blockAt, zcAt, zpAt, lengthAt, residualAt, residualWords, keyLimit, markAt, valueAt}
+use Rattle.state.specs.Layout.{agentLimit, keyLimit, pairWords, entryWords, residualWords, blockWords, stateWords, clockAt, agentsAt, environmentAt, blocksAt, blockAt, entriesAt, zcAt, zpAt, lengthAt, residualAt, markAt, valueAt}
 
 -- an agent's sets of keys: Zc and Zp
 pub data KeySet : Type 0 where
@@ -157,77 +156,97 @@ other-agent p q d = same-not p q (λ e. d (ap placeAgent e))
 pub else-agent : (p q : Place) → 0 < placeKind q → (0 < placeKind p → placeAgent p ≡ placeAgent q → ⊥) → same p q ≡ false
 else-agent p q k d = same-not p q (λ e. d (rw e k) (ap placeAgent e))
 
--- THE PLACE OF A NUMBER. Pair k of a store stands at two places in a row; `late` is the second of them
+-- THE PLACE OF A NUMBER. The words of a key stand in a row in its store; `late` is the second of them
+abbrev keyWords : Store → ℕ
+keyWords Environment = pairWords
+keyWords (Attributes a) = pairWords
+keyWords (Entries a) = entryWords
+
 abbrev inPair : Store → ℕ → Bool → Place
 inPair Environment k late = cond late (Word Environment k) (Mark Environment k)
 inPair (Attributes a) k late = cond late (Word (Attributes a) k) (Mark (Attributes a) k)
 inPair (Entries a) k late = cond late (Mark (Entries a) k) (Word (Entries a) k)
 
 abbrev inStore : Store → ℕ → Place
-inStore store i = inPair store (i / 2) (eqb (i % 2) 1)
+inStore store i = inPair store (i / keyWords store) (eqb (i % keyWords store) 1)
+
+-- where a thing begins in a block, from where it begins in the first
+abbrev inside : (ℕ → ℕ) → ℕ
+inside at = at 0 - blocksAt
 
 abbrev inBlock : ℕ → ℕ → Place
 inBlock a i =
-    cond (ltb i 32) (inStore (Attributes a) i)
-    (cond (ltb i 64) (inStore (Entries a) (i - 32))
-    (cond (ltb i 65) (Waits Zc a)
-    (cond (ltb i 66) (Waits Zp a)
-    (cond (ltb i 67) (Length a)
-    (Residual a (i - 67))))))
+    cond (ltb i (inside entriesAt)) (inStore (Attributes a) i)
+    (cond (ltb i (inside zcAt)) (inStore (Entries a) (i - inside entriesAt))
+    (cond (ltb i (inside zpAt)) (Waits Zc a)
+    (cond (ltb i (inside lengthAt)) (Waits Zp a)
+    (cond (ltb i (inside residualAt)) (Length a)
+    (Residual a (i - inside residualAt))))))
 
 unfoldable pub placeOf : ℕ → Place
 placeOf n =
-    cond (ltb n 1) Clock
-    (cond (ltb n 2) Agents
-    (cond (ltb n 34) (inStore Environment (n - 2))
-    (inBlock ((n - 34) / 130) ((n - 34) % 130))))
+    cond (ltb n agentsAt) Clock
+    (cond (ltb n environmentAt) Agents
+    (cond (ltb n blocksAt) (inStore Environment (n - environmentAt))
+    (inBlock ((n - blocksAt) / blockWords) ((n - blocksAt) % blockWords))))
 
-late-pair : (store : Store) (i k : ℕ) → i ≡ 2 * k + 1 → inStore store i ≡ inPair store k true
-late-pair store i k h = let q : i / 2 ≡ k = omega arith in rw (eq-eqb (i % 2) 1 (omega arith), q)
+-- a number's key and which of its words it is
+divided : (store : Store) (i k j : ℕ) → j < keyWords store → i ≡ keyWords store * k + j → (i / keyWords store ≡ k) × (i % keyWords store ≡ j)
+divided Environment i k j l h = (omega arith, omega arith)
+divided (Attributes a) i k j l h = (omega arith, omega arith)
+divided (Entries a) i k j l h = (omega arith, omega arith)
 
-early-pair : (store : Store) (i k : ℕ) → i ≡ 2 * k → inStore store i ≡ inPair store k false
-early-pair store i k h = let q : i / 2 ≡ k = omega arith in rw (ne-eqb (i % 2) 1 (omega arith), q)
+in-pair : (store : Store) (k j : ℕ) → j < keyWords store → inStore store (keyWords store * k + j) ≡ inPair store k (eqb j 1)
+in-pair store k j l = let d = divided store (keyWords store * k + j) k j l refl in rw (d .0, d .1)
 
-in-environment : (i n : ℕ) → i < 32 → n ≡ 2 + i → placeOf n ≡ inStore Environment i
+in-environment : (i n : ℕ) → i < keyLimit * pairWords → n ≡ environmentAt + i → placeOf n ≡ inStore Environment i
 unfolding placeOf
 in-environment i n h e =
-    let q : n - 2 ≡ i = omega arith in
-    rw (le-ltb n 1 (omega arith), le-ltb n 2 (omega arith), lt-ltb n 34 (omega arith), q)
+    let q : n - environmentAt ≡ i = omega arith in
+    rw (le-ltb n agentsAt (omega arith), le-ltb n environmentAt (omega arith), lt-ltb n blocksAt (omega arith), q)
 
-in-block : (a i n : ℕ) → i < 130 → n ≡ 34 + 130 * a + i → placeOf n ≡ inBlock a i
+in-block : (a i n : ℕ) → i < blockWords → n ≡ blockAt a + i → placeOf n ≡ inBlock a i
 unfolding placeOf
 in-block a i n h e =
-    let q : (n - 34) / 130 ≡ a = omega arith in
-    let r : (n - 34) % 130 ≡ i = omega arith in
-    rw (le-ltb n 1 (omega arith), le-ltb n 2 (omega arith), le-ltb n 34 (omega arith), q, r)
+    let q : (n - blocksAt) / blockWords ≡ a = omega arith in
+    let r : (n - blocksAt) % blockWords ≡ i = omega arith in
+    rw (le-ltb n agentsAt (omega arith), le-ltb n environmentAt (omega arith), le-ltb n blocksAt (omega arith), q, r)
 
-in-attributes : (a i n : ℕ) → i < 32 → n ≡ 34 + 130 * a + i → placeOf n ≡ inStore (Attributes a) i
-in-attributes a i n h e = in-block a i n (omega arith) e ∙ rw (lt-ltb i 32 h)
+in-attributes : (a i n : ℕ) → i < keyLimit * pairWords → n ≡ blockAt a + i → placeOf n ≡ inStore (Attributes a) i
+in-attributes a i n h e = in-block a i n (omega arith) e ∙ rw (lt-ltb i (inside entriesAt) h)
 
-in-entries : (a i n : ℕ) → i < 32 → n ≡ 34 + 130 * a + 32 + i → placeOf n ≡ inStore (Entries a) i
+in-entries : (a i n : ℕ) → i < keyLimit * entryWords → n ≡ entriesAt a + i → placeOf n ≡ inStore (Entries a) i
 in-entries a i n h e =
-    let q : 32 + i - 32 ≡ i = omega arith in
-    in-block a (32 + i) n (omega arith) (omega arith) ∙ rw (le-ltb (32 + i) 32 (omega arith), lt-ltb (32 + i) 64 (omega arith), q)
+    let j = inside entriesAt + i in
+    let q : j - inside entriesAt ≡ i = omega arith in
+    in-block a j n (omega arith) (omega arith) ∙ rw (le-ltb j (inside entriesAt) (omega arith), lt-ltb j (inside zcAt) (omega arith), q)
 
 -- the place of a place's number is that place
 pub place-of : (p : Place) → Inside p → placeOf (placeAt p) ≡ p
 unfolding placeOf
 place-of Clock h = refl
 place-of Agents h = refl
-place-of (Mark Environment k) h = in-environment (2 * k) (placeAt (Mark Environment k)) (omega arith) (omega arith) ∙ early-pair Environment (2 * k) k refl
-place-of (Mark (Attributes a) k) h = in-attributes a (2 * k) (placeAt (Mark (Attributes a) k)) (omega arith) (omega arith) ∙ early-pair (Attributes a) (2 * k) k refl
-place-of (Mark (Entries a) k) h = in-entries a (2 * k + 1) (placeAt (Mark (Entries a) k)) (omega arith) (omega arith) ∙ late-pair (Entries a) (2 * k + 1) k refl
-place-of (Word Environment k) h = in-environment (2 * k + 1) (placeAt (Word Environment k)) (omega arith) (omega arith) ∙ late-pair Environment (2 * k + 1) k refl
-place-of (Word (Attributes a) k) h = in-attributes a (2 * k + 1) (placeAt (Word (Attributes a) k)) (omega arith) (omega arith) ∙ late-pair (Attributes a) (2 * k + 1) k refl
-place-of (Word (Entries a) k) h = in-entries a (2 * k) (placeAt (Word (Entries a) k)) (omega arith) (omega arith) ∙ early-pair (Entries a) (2 * k) k refl
-place-of (Waits Zc a) h = in-block a 64 (placeAt (Waits Zc a)) (omega arith) (omega arith)
-place-of (Waits Zp a) h = in-block a 65 (placeAt (Waits Zp a)) (omega arith) (omega arith)
-place-of (Length a) h = in-block a 66 (placeAt (Length a)) (omega arith) (omega arith)
+place-of (Mark Environment k) h = in-environment (pairWords * k + 0) (placeAt (Mark Environment k)) (omega arith) (omega arith) ∙ in-pair Environment k 0 (omega arith)
+place-of (Mark (Attributes a) k) h = in-attributes a (pairWords * k + 0) (placeAt (Mark (Attributes a) k)) (omega arith) (omega arith) ∙ in-pair (Attributes a) k 0 (omega arith)
+place-of (Mark (Entries a) k) h = in-entries a (entryWords * k + 1) (placeAt (Mark (Entries a) k)) (omega arith) (omega arith) ∙ in-pair (Entries a) k 1 (omega arith)
+place-of (Word Environment k) h = in-environment (pairWords * k + 1) (placeAt (Word Environment k)) (omega arith) (omega arith) ∙ in-pair Environment k 1 (omega arith)
+place-of (Word (Attributes a) k) h = in-attributes a (pairWords * k + 1) (placeAt (Word (Attributes a) k)) (omega arith) (omega arith) ∙ in-pair (Attributes a) k 1 (omega arith)
+place-of (Word (Entries a) k) h = in-entries a (entryWords * k + 0) (placeAt (Word (Entries a) k)) (omega arith) (omega arith) ∙ in-pair (Entries a) k 0 (omega arith)
+place-of (Waits Zc a) h = in-block a (inside zcAt) (placeAt (Waits Zc a)) (omega arith) (omega arith)
+place-of (Waits Zp a) h = in-block a (inside zpAt) (placeAt (Waits Zp a)) (omega arith) (omega arith)
+place-of (Length a) h = in-block a (inside lengthAt) (placeAt (Length a)) (omega arith) (omega arith)
 place-of (Residual a i) h =
-    let n = 67 + i in
-    let q : n - 67 ≡ i = omega arith in
+    let n = inside residualAt + i in
+    let q : n - inside residualAt ≡ i = omega arith in
     in-block a n (placeAt (Residual a i)) (omega arith) (omega arith)
-    ∙ rw (le-ltb n 32 (omega arith), le-ltb n 64 (omega arith), le-ltb n 65 (omega arith), le-ltb n 66 (omega arith), le-ltb n 67 (omega arith), q)
+    ∙ rw (
+      le-ltb n (inside entriesAt) (omega arith),
+      le-ltb n (inside zcAt) (omega arith),
+      le-ltb n (inside zpAt) (omega arith),
+      le-ltb n (inside lengthAt) (omega arith),
+      le-ltb n (inside residualAt) (omega arith),
+      q,
+    )
 
 -- so different places have different numbers
 pub place-one : (p q : Place) → Inside p → Inside q → placeAt p ≡ placeAt q → p ≡ q
@@ -273,9 +292,9 @@ pub past-agent : (p : Place) (n : ℕ) → Inside p → blockAt n ≤ placeAt p 
 past-agent p n h l =
     ⊎-elim (λ (m : placeAgent p < n). absurd (omega (arith, place-bound p n h m))) (λ (m : n ≤ placeAgent p). m) (lt-or-le (placeAgent p) n)
 
--- there are 32 blocks
-pub place-fits : (p : Place) → Inside p → placeAgent p < 32 → placeAt p < stateWords
-place-fits p h l = place-bound p 32 h l
+-- there is a block for each agent
+pub place-fits : (p : Place) → Inside p → placeAgent p < agentLimit → placeAt p < stateWords
+place-fits p h l = place-bound p agentLimit h l
 
 -- EVERY NUMBER IS A PLACE'S
 pub record Placed (n : ℕ) : Type 0 where
@@ -291,36 +310,39 @@ placed-pair (Attributes a) k n l false e = record { place = Mark (Attributes a) 
 placed-pair (Entries a) k n l true e = record { place = Mark (Entries a) k; inside = l; at = sym e }
 placed-pair (Entries a) k n l false e = record { place = Word (Entries a) k; inside = l; at = sym e }
 
-odd-or-even : (n : ℕ) → (n % 2 ≡ 1) ⊎ (n % 2 ≡ 0)
-odd-or-even n = ⊎-elim (λ (h : n % 2 < 1). inr (omega arith)) (λ (h : 1 ≤ n % 2). inl (omega arith)) (lt-or-le (n % 2) 1)
+-- word i of a store
+abbrev Found : Store → ℕ → Bool → Type 0
+Found store i late = (i / keyWords store < keyLimit) × (placeAt (inPair store 0 false) + i ≡ placeAt (inPair store (i / keyWords store) late))
 
-placed-store : (store : Store) (i n : ℕ) → i < 32 → n ≡ placeAt (inPair store 0 false) + i → Placed n
-placed-store store i n l e = ⊎-elim (λ o. placed-pair store (i / 2) n (omega arith) true (e ∙ late store o)) (λ o. placed-pair store (i / 2) n (omega arith) false (e ∙ early store o)) (odd-or-even i)
-  where
-    late : (store : Store) → i % 2 ≡ 1 → placeAt (inPair store 0 false) + i ≡ placeAt (inPair store (i / 2) true)
-    late Environment o = omega arith
-    late (Attributes a) o = omega arith
-    late (Entries a) o = omega arith
+early : (store : Store) (i : ℕ) → i < keyWords store * keyLimit → i % keyWords store < 1 → Found store i false
+early Environment i l o = (omega arith, omega arith)
+early (Attributes a) i l o = (omega arith, omega arith)
+early (Entries a) i l o = (omega arith, omega arith)
 
-    early : (store : Store) → i % 2 ≡ 0 → placeAt (inPair store 0 false) + i ≡ placeAt (inPair store (i / 2) false)
-    early Environment o = omega arith
-    early (Attributes a) o = omega arith
-    early (Entries a) o = omega arith
+late : (store : Store) (i : ℕ) → i < keyWords store * keyLimit → 1 ≤ i % keyWords store → Found store i true
+late Environment i l o = (omega arith, omega arith)
+late (Attributes a) i l o = (omega arith, omega arith)
+late (Entries a) i l o = (omega arith, omega arith)
 
-placed-block : (a i n : ℕ) → i < 130 → n ≡ 34 + 130 * a + i → Placed n
-placed-block a i n l e =
-    ⊎-elim (λ h. placed-store (Attributes a) i n h (omega arith))
-    (λ p. ⊎-elim (λ h. placed-store (Entries a) (i - 32) n (omega arith) (omega arith))
-    (λ q. ⊎-elim (λ h. record { place = Waits Zc a; inside = tt; at = omega arith })
-    (λ r. ⊎-elim (λ h. record { place = Waits Zp a; inside = tt; at = omega arith })
-    (λ u. ⊎-elim (λ h. record { place = Length a; inside = tt; at = omega arith })
-    (λ v. record { place = Residual a (i - 67); inside = omega arith; at = omega arith })
-    (lt-or-le i 67)) (lt-or-le i 66)) (lt-or-le i 65)) (lt-or-le i 64)) (lt-or-le i 32)
+placed-store : (store : Store) (i n : ℕ) → i < keyWords store * keyLimit → n ≡ placeAt (inPair store 0 false) + i → Placed n
+placed-store store i n l e =
+    ⊎-elim (λ o. let w = early store i l o in placed-pair store (i / keyWords store) n (w .0) false (e ∙ w .1))
+    (λ o. let w = late store i l o in placed-pair store (i / keyWords store) n (w .0) true (e ∙ w .1)) (lt-or-le (i % keyWords store) 1)
+
+placed-block : (a n : ℕ) → blockAt a ≤ n → n < blockAt (a + 1) → Placed n
+placed-block a n h l =
+    ⊎-elim (λ p. placed-store (Attributes a) (n - blockAt a) n (omega arith) (omega arith))
+    (λ p. ⊎-elim (λ q. placed-store (Entries a) (n - entriesAt a) n (omega arith) (omega arith))
+    (λ q. ⊎-elim (λ r. record { place = Waits Zc a; inside = tt; at = omega arith })
+    (λ r. ⊎-elim (λ u. record { place = Waits Zp a; inside = tt; at = omega arith })
+    (λ u. ⊎-elim (λ v. record { place = Length a; inside = tt; at = omega arith })
+    (λ v. record { place = Residual a (n - residualAt a); inside = omega arith; at = omega arith })
+    (lt-or-le n (residualAt a))) (lt-or-le n (lengthAt a))) (lt-or-le n (zpAt a))) (lt-or-le n (zcAt a))) (lt-or-le n (entriesAt a))
 
 pub placed : (n : ℕ) → Placed n
 placed n =
     ⊎-elim (λ h. record { place = Clock; inside = tt; at = omega arith })
     (λ p. ⊎-elim (λ h. record { place = Agents; inside = tt; at = omega arith })
-    (λ q. ⊎-elim (λ h. placed-store Environment (n - 2) n (omega arith) (omega arith))
-    (λ r. placed-block ((n - 34) / 130) ((n - 34) % 130) n (omega arith) (omega arith))
-    (lt-or-le n 34)) (lt-or-le n 2)) (lt-or-le n 1)
+    (λ q. ⊎-elim (λ h. placed-store Environment (n - environmentAt) n (omega arith) (omega arith))
+    (λ r. placed-block ((n - blocksAt) / blockWords) n (omega arith) (omega arith))
+    (lt-or-le n blocksAt)) (lt-or-le n environmentAt)) (lt-or-le n agentsAt)

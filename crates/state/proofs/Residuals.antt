@@ -12,12 +12,12 @@ use lib.Seq.{ext-getD, getD-take, getD-drop, length-take-le}
 use borrow.Author.Tests.{eqb-true, eq-eqb}
 use Rattle.basis.proofs.Lists.{getD-part}
 use Rattle.basis.proofs.Tests.{and-left, and-right, and-both, lt-or-le}
-use Rattle.term.specs.Acceptance.{stateWords}
 use Rattle.term.specs.Terms.{Term, words, termOf}
 use Rattle.term.proofs.Words.{Low, termOf-words}
 use Rattle.state.specs.Layout.{residualWords, residualAt, lengthOf, residualOf, termIn}
 use Rattle.state.specs.WellFormed.{allZero}
 use Rattle.state.proofs.Places.{Residual, place-fits}
+use Rattle.state.specs.Standing.{HasBlocks}
 use Rattle.state.proofs.Frames.{wordAt}
 
 -- words that are all 0
@@ -47,7 +47,7 @@ module _ (s : List ℕ) (a : ℕ) where
         ap (λ (j : ℕ). getD (residualOf s a) j 0) e ∙ sym (getD-drop (length ws) (residualOf s a) (i - length ws) 0)
         ∙ zero-at (drop (length ws) (residualOf s a)) rest (i - length ws) ∙ sym (List·getD-eq-default ws 0 b)) (lt-or-le i (length ws))
 
-  module _ (whole : length s ≡ stateWords) (there : a < 32) where
+  module _ (room : HasBlocks s) (there : a < 32) where
     pub residual-length : length (residualOf s a) ≡ residualWords
     residual-length =
         let l = place-fits (Residual a (residualWords - 1)) (omega arith) there in

@@ -1,17 +1,28 @@
 -- The state's words: where things stand, what stands there, and how one of them is changed.
 use Prim.Native.Nat.{ℕ, _+_, _*_}
-use mathlib.Core.Bool.{cond}
+use mathlib.Core.Bool.{Bool, cond}
 use mathlib.Core.List.{List}
 use lib.Dec.{eqb, ltb}
-use lib.ListN.{getD, set, take, drop}
+use lib.ListN.{length, getD, set, take, drop}
 use Rattle.basis.specs.KeySets.{plus, minus}
 use Rattle.value.specs.declared.Value.{Value}
 use Rattle.value.specs.declared.Value.the-variants.{Absent, Present}
+pub use Rattle.table.specs.Tables.{agentLimit, keyLimit}
 use Rattle.term.specs.Terms.{Term, termOf}
 use Rattle.state.specs.declared.Store.{Store}
 use Rattle.state.specs.declared.Store.the-variants.{Environment, Attributes, Entries}
 
--- PLACES. Clock, A, 16 environment pairs, then agent blocks
+-- HOW MANY. Words of a pair (environment and attributes), of an entry and of a residual
+abbrev pub pairWords : ℕ
+pairWords = 2
+
+abbrev pub entryWords : ℕ
+entryWords = 2
+
+abbrev pub residualWords : ℕ
+residualWords = 63
+
+-- PLACES. Clock, A, 16 environment pairs, then 32 agent blocks
 abbrev pub clockAt : ℕ
 clockAt = 0
 
@@ -21,54 +32,57 @@ agentsAt = 1
 abbrev pub environmentAt : ℕ
 environmentAt = 2
 
-abbrev pub blockAt : ℕ → ℕ
-blockAt a = 34 + 130 * a
+abbrev pub blocksAt : ℕ
+blocksAt = environmentAt + keyLimit * pairWords
 
--- a block: 16 attribute pairs, 16 stigmergy pairs, Zc, Zp, residual length, 63 residual words
+-- a block: 16 attribute pairs, 16 stigmergy entries, Zc, Zp, residual length, 63 residual words
+abbrev pub blockWords : ℕ
+blockWords = keyLimit * pairWords + keyLimit * entryWords + 3 + residualWords
+
+abbrev pub blockAt : ℕ → ℕ
+blockAt a = blocksAt + blockWords * a
+
 abbrev pub attributesAt : ℕ → ℕ
 attributesAt a = blockAt a
 
 abbrev pub entriesAt : ℕ → ℕ
-entriesAt a = blockAt a + 32
+entriesAt a = attributesAt a + keyLimit * pairWords
 
 abbrev pub zcAt : ℕ → ℕ
-zcAt a = blockAt a + 64
+zcAt a = entriesAt a + keyLimit * entryWords
 
 abbrev pub zpAt : ℕ → ℕ
-zpAt a = blockAt a + 65
+zpAt a = zcAt a + 1
 
 abbrev pub lengthAt : ℕ → ℕ
-lengthAt a = blockAt a + 66
+lengthAt a = zpAt a + 1
 
 abbrev pub residualAt : ℕ → ℕ
-residualAt a = blockAt a + 67
+residualAt a = lengthAt a + 1
 
-abbrev pub residualWords : ℕ
-residualWords = 63
+-- where the blocks end, and the words of a state
+abbrev pub blocksEnd : ℕ
+blocksEnd = blockAt agentLimit
 
--- keys of a store, and the highest stamp
-abbrev pub keyLimit : ℕ
-keyLimit = 16
+abbrev pub stateWords : ℕ
+stateWords = blocksEnd
 
-abbrev pub clockLimit : ℕ
-clockLimit = 65535
+abbrev pub isWhole : List ℕ → Bool
+isWhole s = eqb (length s) stateWords
 
 -- the word of a pair that says whether there is a value, present or the stamp; and the word of the value.
 -- Environment and attributes: (present, value); stigmergy entries: (value, stamp)
 abbrev pub markAt : Store → ℕ → ℕ
-markAt Environment k = environmentAt + 2 * k
-markAt (Attributes a) k = attributesAt a + 2 * k
-markAt (Entries a) k = entriesAt a + 2 * k + 1
+markAt Environment k = environmentAt + pairWords * k
+markAt (Attributes a) k = attributesAt a + pairWords * k
+markAt (Entries a) k = entriesAt a + entryWords * k + 1
 
 abbrev pub valueAt : Store → ℕ → ℕ
-valueAt Environment k = environmentAt + 2 * k + 1
-valueAt (Attributes a) k = attributesAt a + 2 * k + 1
-valueAt (Entries a) k = entriesAt a + 2 * k
+valueAt Environment k = environmentAt + pairWords * k + 1
+valueAt (Attributes a) k = attributesAt a + pairWords * k + 1
+valueAt (Entries a) k = entriesAt a + entryWords * k
 
 -- WHAT STANDS THERE
-abbrev pub clockOf : List ℕ → ℕ
-clockOf s = getD s clockAt 0
-
 abbrev pub markOf : List ℕ → Store → ℕ → ℕ
 markOf s store k = getD s (markAt store k) 0
 

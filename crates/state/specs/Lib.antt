@@ -1,4 +1,5 @@
 pub mod Layout
+pub mod Entries
 pub mod Evaluation
 pub mod WellFormed
 pub mod Standing

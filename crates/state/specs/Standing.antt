@@ -1,11 +1,12 @@
 -- What code asks of a place among the state's words, and what it answers.
 use Prim.Native.Nat.{ℕ, _+_, _<_, _≤_}
 use mathlib.Core.Path.{_≡_}
+use mathlib.Core.List.{List}
+use lib.ListN.{length}
 use Rattle.table.specs.Tables.{agentLimit}
-use Rattle.term.specs.Acceptance.{stateWords}
 use Rattle.state.specs.declared.Store.{Store}
 use Rattle.state.specs.declared.Store.the-variants.{Environment, Attributes, Entries}
-use Rattle.state.specs.Layout.{keyLimit}
+use Rattle.state.specs.Layout.{blocksEnd, keyLimit}
 
 -- whose a store is; 0 where it is everyone's
 abbrev pub storeAgent : Store → ℕ
@@ -18,7 +19,11 @@ pub record Pair (store : Store) (k : ℕ) : Type 0 where
   pub agent : storeAgent store < agentLimit
   pub key : k < keyLimit
 
+-- s has room for all blocks
+abbrev pub HasBlocks : List ℕ → Type 0
+HasBlocks s = blocksEnd ≤ length s
+
 -- r is this place, and so many words stand in the state from there on
 pub record Standing (place words r : ℕ) : Type 0 where
   pub is : r ≡ place
-  pub fits : r + words ≤ stateWords
+  pub fits : r + words ≤ blocksEnd

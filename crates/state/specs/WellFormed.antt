@@ -9,10 +9,10 @@ use Rattle.basis.specs.Numbers.{every, forEach}
 use Rattle.basis.specs.KeySets.{has}
 use Rattle.table.specs.Tables.{Table, startAt}
 use Rattle.term.specs.Terms.{areTerms}
-use Rattle.term.specs.Acceptance.{stateWords}
 use Rattle.state.specs.declared.Store.{Store}
 use Rattle.state.specs.declared.Store.the-variants.{Environment, Attributes, Entries}
-use Rattle.state.specs.Layout.{agentsAt, blockAt, lengthAt, residualAt, residualWords, keyLimit, clockLimit, clockOf, markOf, wordOf, stampOf, zcOf, zpOf, lengthOf, residualOf}
+use Rattle.state.specs.Entries.{clockLimit, clockOf}
+use Rattle.state.specs.Layout.{stateWords, agentsAt, blockAt, lengthAt, residualAt, residualWords, keyLimit, markOf, wordOf, stampOf, zcOf, zpOf, lengthOf, residualOf}
 
 unfoldable pub allZero : List ℕ → Bool
 allZero [] = true
@@ -53,10 +53,14 @@ module _ (t : Table) (s : List ℕ) where
       && (every agentFormed (t .sizes .agents)
       && allZero (drop (blockAt (t .sizes .agents)) s))))
 
+-- words, as slices hold them: each of 32 bits
+abbrev pub Words : List ℕ → Type 0
+Words s = (i : ℕ) → getD s i 0 < 2 ^ 32
+
 -- the words of a state: of the right length, each of 32 bits, and well formed
 pub record Proper (t : Table) (s : List ℕ) : Type 0 where
   pub whole : length s ≡ stateWords
-  pub small : (i : ℕ) → getD s i 0 < 2 ^ 32
+  pub small : Words s
   pub formed : wellFormed t s ≡ true
 
 -- LOAD: clock 0, A, for each agent length 1 and the node that its root names; every other word is 0

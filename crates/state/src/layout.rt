@@ -4,16 +4,39 @@ ghost use Rattle.table.specs.Tables.{agentLimit};
 ghost use Rattle.state.specs.Layout.{residualWords, blockAt, zcAt, zpAt, lengthAt, residualAt, markAt, valueAt};
 ghost use Rattle.state.specs.Standing.{Pair, Standing};
 use super::Store;
+use table::KEYS;
 
 // The clock, and A.
 pub const CLOCK: usize = 0;
 
 pub const AGENTS: usize = 1;
 
-// Keys of a store, and words of a residual.
-pub const KEYS: usize = 16;
+// Words of a pair of the environment or of the attributes, of an entry, and of a residual.
+pub const PAIR_WORDS: usize = 2;
+
+pub const ENTRY_WORDS: usize = 2;
 
 pub const RESIDUAL_WORDS: usize = 63;
+
+// Where the environment and the first block stand.
+const ENVIRONMENT: usize = 2;
+
+const BLOCKS: usize = ENVIRONMENT + KEYS * PAIR_WORDS;
+
+// Where things stand in a block, its words, and those of a state.
+const ENTRIES: usize = KEYS * PAIR_WORDS;
+
+const ZC: usize = ENTRIES + KEYS * ENTRY_WORDS;
+
+const ZP: usize = ZC + 1;
+
+const LENGTH: usize = ZP + 1;
+
+const RESIDUAL: usize = LENGTH + 1;
+
+const BLOCK_WORDS: usize = RESIDUAL + RESIDUAL_WORDS;
+
+pub const STATE_WORDS: usize = BLOCKS + table::AGENTS * BLOCK_WORDS;
 
 // The highest stamp, and the set of all keys.
 pub const CLOCK_LIMIT: u32 = 65535;
@@ -25,7 +48,7 @@ pub fn block_at(agent: usize) -> usize
     requires { ⌜ agent ≤ agentLimit ⌝ }
     ensures { λ r. ⌜ Standing (blockAt agent) 0 r ⌝ }
 {
-    34 + 130 * agent
+    BLOCKS + BLOCK_WORDS * agent
 }
 
 // An agent's set of keys to confirm.
@@ -33,7 +56,7 @@ pub fn zc_at(agent: usize) -> usize
     requires { ⌜ agent < agentLimit ⌝ }
     ensures { λ r. ⌜ Standing (zcAt agent) 1 r ⌝ }
 {
-    block_at(agent) + 64
+    block_at(agent) + ZC
 }
 
 // An agent's set of keys to propagate.
@@ -41,7 +64,7 @@ pub fn zp_at(agent: usize) -> usize
     requires { ⌜ agent < agentLimit ⌝ }
     ensures { λ r. ⌜ Standing (zpAt agent) 1 r ⌝ }
 {
-    block_at(agent) + 65
+    block_at(agent) + ZP
 }
 
 // The length of an agent's residual.
@@ -49,7 +72,7 @@ pub fn length_at(agent: usize) -> usize
     requires { ⌜ agent < agentLimit ⌝ }
     ensures { λ r. ⌜ Standing (lengthAt agent) 1 r ⌝ }
 {
-    block_at(agent) + 66
+    block_at(agent) + LENGTH
 }
 
 // An agent's residual.
@@ -57,7 +80,7 @@ pub fn residual_at(agent: usize) -> usize
     requires { ⌜ agent < agentLimit ⌝ }
     ensures { λ r. ⌜ Standing (residualAt agent) residualWords r ⌝ }
 {
-    block_at(agent) + 67
+    block_at(agent) + RESIDUAL
 }
 
 // The word of a pair that says whether there is a value.
@@ -66,9 +89,9 @@ pub fn mark_at(store: Store, key: usize) -> usize
     ensures { λ r. ⌜ Standing (markAt store key) 1 r ⌝ }
 {
     match store {
-        Store::Environment => 2 + 2 * key,
-        Store::Attributes(agent) => block_at(agent) + 2 * key,
-        Store::Entries(agent) => block_at(agent) + 32 + 2 * key + 1,
+        Store::Environment => ENVIRONMENT + PAIR_WORDS * key,
+        Store::Attributes(agent) => block_at(agent) + PAIR_WORDS * key,
+        Store::Entries(agent) => block_at(agent) + ENTRIES + ENTRY_WORDS * key + 1,
     }
 }
 
@@ -78,8 +101,8 @@ pub fn value_at(store: Store, key: usize) -> usize
     ensures { λ r. ⌜ Standing (valueAt store key) 1 r ⌝ }
 {
     match store {
-        Store::Environment => 2 + 2 * key + 1,
-        Store::Attributes(agent) => block_at(agent) + 2 * key + 1,
-        Store::Entries(agent) => block_at(agent) + 32 + 2 * key,
+        Store::Environment => ENVIRONMENT + PAIR_WORDS * key + 1,
+        Store::Attributes(agent) => block_at(agent) + PAIR_WORDS * key + 1,
+        Store::Entries(agent) => block_at(agent) + ENTRIES + ENTRY_WORDS * key,
     }
 }

@@ -1,13 +1,18 @@
 // The state's words: where things stand, and how they are read and changed.
 mod layout; // layout.rt: where things stand
 mod stores; // stores.rt: values of keys, and changes of pairs and of sets of keys
+mod entries; // entries.rt: entries of agents, and the clock
 
+pub use entries::clock_of;
+pub use entries::entry_of;
+pub use entries::newer;
+pub use entries::put_entry;
+pub use entries::set_clock;
 pub use layout::AGENTS;
 pub use layout::ALL_KEYS;
-pub use layout::CLOCK;
 pub use layout::CLOCK_LIMIT;
-pub use layout::KEYS;
 pub use layout::RESIDUAL_WORDS;
+pub use layout::STATE_WORDS;
 pub use layout::block_at;
 pub use layout::length_at;
 pub use layout::mark_at;
@@ -25,4 +30,10 @@ pub enum Store {
     Environment,
     Attributes(usize),
     Entries(usize),
+}
+
+// An agent's entry for a stigmergy key: its value and its stamp, which is 0 where there is none.
+pub struct Entry {
+    pub value: u32,
+    pub stamp: u32,
 }

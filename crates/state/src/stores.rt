@@ -2,19 +2,18 @@
 ghost use mathlib.Core.Path.{_≡_};
 ghost use Prim.Native.Nat.{_<_};
 ghost use lib.ListN.{length};
-ghost use Rattle.term.specs.Acceptance.{stateWords};
 ghost use Rattle.table.specs.Tables.{agentLimit};
 ghost use Rattle.state.specs.Layout.{valueIn, put as putIn, addKey, dropKey};
-ghost use Rattle.state.specs.Standing.{storeAgent, Pair};
+ghost use Rattle.state.specs.Standing.{storeAgent, Pair, HasBlocks};
 use super::Store;
-use super::layout::KEYS;
 use super::layout::mark_at;
 use super::layout::value_at;
+use table::KEYS;
 use value::Value;
 
 // The value of a key: absent where there is none, or no such key.
 pub fn value_in(state: &[u32], store: Store, key: usize) -> Value
-    requires { ⌜ (length (now state) ≡ stateWords) × (storeAgent store < agentLimit) ⌝ }
+    requires { ⌜ HasBlocks (now state) × (storeAgent store < agentLimit) ⌝ }
     ensures { λ r. ⌜ r ≡ valueIn (now (state .entry)) store key ⌝ }
 {
     if KEYS <= key {
@@ -31,7 +30,7 @@ pub fn value_in(state: &[u32], store: Store, key: usize) -> Value
 
 // A pair gets a value and a mark.
 pub fn put(state: &mut [u32], store: Store, key: usize, value: u32, mark: u32)
-    requires { ⌜ (length (now state) ≡ stateWords) × Pair store key ⌝ }
+    requires { ⌜ HasBlocks (now state) × Pair store key ⌝ }
     ensures { λ _. ⌜ now (state .exit) ≡ putIn store key value mark (now (state .entry)) ⌝ }
 {
     let at = value_at(store, key);

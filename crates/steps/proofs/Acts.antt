@@ -21,16 +21,17 @@ use Rattle.term.specs.Terms.{words, Idle}
 use Rattle.term.specs.Accepted.{Over}
 use Rattle.term.specs.Processes.{Derivation, derivation}
 use Rattle.term.specs.Accepted.{ActionNode}
-use Rattle.term.specs.Acceptance.{stateWords}
 use Rattle.term.proofs.Words.{Low}
 use Rattle.term.proofs.Members.{place-in}
 use Rattle.term.proofs.Inside.{Inside as InsideTable, derivation-inside}
 use Rattle.state.specs.declared.Store.{Store}
 use Rattle.state.specs.declared.Store.the-variants.{Environment, Attributes, Entries}
 use Rattle.state.specs.Layout.{clockAt, zcAt, zpAt, keyLimit, residualWords, zcOf, zpOf, termIn, put, addKey}
+use Rattle.state.specs.Entries.{nextStamp}
+use Rattle.state.specs.Standing.{HasBlocks}
 use Rattle.state.proofs.Places.{Place, Zc, Zp, Clock, Mark, Word, Waits, Length, Residual, Inside, storeKind, same}
 use Rattle.state.proofs.Frames.{wordAt, SameAt, set-other, set-here, set-word, put-length, put-other, put-word, add-length, add-other, add-word}
-use Rattle.steps.specs.Acts.{nextStamp, entered, wordIn, choices, chosen, valueFor, toConfirm, storeOf, setKey, acted}
+use Rattle.steps.specs.Acts.{entered, wordIn, choices, chosen, valueFor, toConfirm, storeOf, setKey, acted}
 use Rattle.steps.proofs.Leave.{leave-length, leave-other, leave-term}
 
 -- THE STORE that an action sets
@@ -113,20 +114,20 @@ module _ (t : Table) (was : List ℕ) (x : ℕ) where
     queued-length = add-length Zp x k put-in ∙ put-length (Entries x) k v (nextStamp was) was
 
     -- the word that is at q after a stigmergy write
-    pub entry-word : length was ≡ stateWords → x < 32 → kindAt t n ≡ 3 → pAt t n < keyLimit → (q : Place) → Inside q
+    pub entry-word : HasBlocks was → x < 32 → kindAt t n ≡ 3 → pAt t n < keyLimit → (q : Place) → Inside q
         → wordAt (setKey t was x (Acting n)) q
         ≡ cond (same q Clock) (nextStamp was)
         (cond (same q (Waits Zp x)) (plus (zpOf was x) (pAt t n))
         (cond (same q (Mark (Entries x) (pAt t n))) (nextStamp was)
         (cond (same q (Word (Entries x) (pAt t n))) (wordIn (valueFor t was x n)) (wordAt was q))))
-    entry-word whole there e key q h =
+    entry-word room there e key q h =
         ap (λ (s : List ℕ). wordAt s q) (set-entry e)
-        ∙ set-word queued Clock (nextStamp was) tt (queued-length ∙ whole) (omega arith) q h
+        ∙ set-word queued Clock (nextStamp was) tt (omega (arith, queued-length, room)) (omega arith) q h
         ∙ ap (λ w. cond (same q Clock) (nextStamp was) w)
-        (add-word Zp x k put-in (put-length (Entries x) k v (nextStamp was) was ∙ whole) there q h
+        (add-word Zp x k put-in (omega (arith, put-length (Entries x) k v (nextStamp was) was, room)) there q h
         ∙ ap₂ (λ a b. cond (same q (Waits Zp x)) (plus a k) b)
         (put-other (Entries x) k v (nextStamp was) was key (Waits Zp x) tt refl refl)
-        (put-word (Entries x) k v (nextStamp was) was key whole there q h))
+        (put-word (Entries x) k v (nextStamp was) was key room there q h))
 
     -- of other words, the clock and Zp change where it is a stigmergy key, and nothing else
     pub set-key-other : pAt t n < keyLimit → (q : Place) → Inside q → same q Clock ≡ false → same q (Waits Zp x) ≡ false
@@ -166,13 +167,13 @@ module _ (t : Table) (was : List ℕ) (x : ℕ) where
     unfolding acted
     acted-other q h e f g = leave-other x (words (d .leaving)) (set keySet (zcAt x) gains) q h f g ∙ set-other keySet (Waits Zc x) gains tt q h e
 
-    module _ (whole : length was ≡ stateWords) (there : x < 32) where
+    module _ (room : HasBlocks was) (there : x < 32) where
       pub acted-zc : zcOf (acted t was x d) x ≡ plusAll (toConfirm t was x d) keyLimit (zcOf (setKey t was x (d .label)) x)
       unfolding acted
       acted-zc =
           leave-other x (words (d .leaving)) (set keySet (zcAt x) gains) (Waits Zc x) tt refl (λ i l. refl)
-          ∙ set-here keySet (Waits Zc x) gains tt (set-length (d .label) ∙ whole) there
+          ∙ set-here keySet (Waits Zc x) gains tt (omega (arith, set-length (d .label), room)) there
 
       pub acted-term : Low (d .leaving) → length (words (d .leaving)) ≤ residualWords → termIn (acted t was x d) x ≡ d .leaving
       unfolding acted
-      acted-term low short = leave-term x (d .leaving) (set keySet (zcAt x) gains) (length-set keySet (zcAt x) gains ∙ set-length (d .label) ∙ whole) there low short
+      acted-term low short = leave-term x (d .leaving) (set keySet (zcAt x) gains) (omega (arith, length-set keySet (zcAt x) gains, set-length (d .label), room)) there low short

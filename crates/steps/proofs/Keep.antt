@@ -1,7 +1,7 @@
 -- Acts, propagations and confirmations keep states well formed, of the right length, and of words of 32 bits.
 -- Assumes nothing.
 use Prim.Native.Nat.{ℕ, _^_, _<_, _≤_}
-use mathlib.Core.Bool.{Bool, true, _&&_, _||_}
+use mathlib.Core.Bool.{Bool, true, false, cond, _&&_, _||_}
 use mathlib.Core.Logic.{⊎-elim}
 use mathlib.Core.Path.{_≡_, refl, sym, ap, subst, _∙_}
 use mathlib.Core.List.{List}
@@ -11,7 +11,7 @@ use lib.ListN.{length, getD, set}
 use borrow.Author.Tests.{ltb-true, eq-eqb}
 use Rattle.basis.specs.KeySets.{plusAll}
 use Rattle.basis.proofs.Numbers.{forEach-keeps}
-use Rattle.basis.proofs.Tests.{and-right, cond-cases, same-or-other, lt-or-le}
+use Rattle.basis.proofs.Tests.{and-right, same-or-other, lt-or-le}
 use Rattle.value.specs.declared.Value.{Value}
 use Rattle.value.specs.declared.Value.the-variants.{Absent, Present}
 use Rattle.table.specs.Tables.{Table, kindAt, pAt, qAt}
@@ -19,7 +19,6 @@ use Rattle.table.specs.Sound.{Limits, Sound}
 use Rattle.table.proofs.Promises.{attribute-set-operands, stigmergy-set-operands, environment-set-operands}
 use Rattle.term.specs.declared.Label.{Label}
 use Rattle.term.specs.declared.Label.the-variants.{Ticking, Acting}
-use Rattle.term.specs.Acceptance.{stateWords}
 use Rattle.term.specs.Terms.{Term, words}
 use Rattle.term.specs.Accepted.{Over}
 use Rattle.term.specs.Processes.{Derivation}
@@ -28,14 +27,17 @@ use Rattle.term.proofs.Inside.{Inside as DerivationInside}
 use Rattle.term.proofs.Words.{over-low, words-small}
 use Rattle.state.specs.declared.Store.{Store}
 use Rattle.state.specs.declared.Store.the-variants.{Environment, Attributes, Entries}
-use Rattle.state.specs.Layout.{blockAt, keyLimit, residualWords, clockOf, stampOf, wordOf, zcAt, zpAt, zcOf, put, addKey, dropKey}
+use Rattle.state.specs.Layout.{blockAt, keyLimit, residualWords, stampOf, zcAt, zpAt, zcOf, put, addKey, dropKey}
+use Rattle.state.specs.Entries.{entryOf, newer, putEntry, clockOf, nextStamp}
+use Rattle.state.specs.declared.Entry.{Entry}
 use Rattle.state.proofs.Places.{Place, KeySet, Zc, Zp, Clock, Agents, Mark, Word, Waits, Length, Residual, placeAt, Inside, placeAgent, other-agent, past-agent, placed}
 use Rattle.state.proofs.Frames.{wordAt, SameAt, put-mark, drop-other}
 use Rattle.state.proofs.Evaluation.{SmallValue, valueOf-small}
 use Rattle.state.proofs.Formed.{ResidualFormed, ProperFacts, There, highestIn, keysIn, residual-formed}
 use Rattle.state.proofs.Keep.{Kept, kept-proper, kept-start, kept-later, kept-clock, kept-keys, kept-add, kept-drop, kept-put, pair-kept, set-kept, residual-kept, set-plusAll}
-use Rattle.steps.specs.Acts.{wordIn, nextStamp, leave, valueFor, writesEntry, guardsRead, labelReads, toConfirm, setKey, acted}
-use Rattle.steps.specs.Offers.{newer, takeEntry, linked, takes, holdsNewer, offer, offered, confirmed}
+use Rattle.steps.specs.Acts.{wordIn, leave, valueFor, writesEntry, guardsRead, labelReads, toConfirm, setKey, acted}
+use Rattle.steps.specs.declared.Response.the-variants.{Takes, Propagates, Ignores}
+use Rattle.steps.specs.Offers.{takeEntry, responded, linked, takes, holdsNewer, response, offer, offered}
 use Rattle.steps.proofs.Acts.{set-attribute, set-entry, set-environment}
 use Rattle.steps.proofs.Leave.{leave-length, leave-small, leave-other, leave-size, leave-word}
 
@@ -54,12 +56,10 @@ module _ (t : Table) (limits : Limits (t .sizes)) (was : List ℕ) where
     residuals : (a : ℕ) → a < agents → ResidualFormed t left a
     residuals a l = ⊎-elim mine else (same-or-other a x)
       where
-        whole : length left ≡ stateWords
-        whole = leave-length x (words T) s ∙ h .whole
-
         mine : a ≡ x → ResidualFormed t left a
         mine e = subst (ResidualFormed t left) (sym e)
-            (residual-formed t (omega arith) left whole x (omega arith) T over (leave-size x (words T) s (h .whole) (omega arith)) short (leave-word x (words T) s (h .whole) (omega arith)))
+            (residual-formed t (omega arith) left (omega (arith, leave-length x (words T) s, h .whole)) x (omega arith) T over
+            (leave-size x (words T) s (omega (arith, h .whole)) (omega arith)) short (leave-word x (words T) s (omega (arith, h .whole)) (omega arith)))
 
         else : (a ≡ x → ⊥) → ResidualFormed t left a
         else d = residual-kept t s left a (leave-length x (words T) s) (other (Length a) tt d) (λ i m. other (Residual a i) m d) (h .formed .residuals a l)
@@ -88,7 +88,7 @@ module _ (t : Table) (limits : Limits (t .sizes)) (was : List ℕ) where
     }
 
   -- OFFERS of x's entry for key k
-  module _ (proper : ProperFacts t was) (x k : ℕ) (there : x < agents) (key : k < t .sizes .stigmergy) (entered : 0 < stampOf was x k) (confirming : Bool) where
+  module _ (proper : ProperFacts t was) (x k : ℕ) (there : x < agents) (key : k < t .sizes .stigmergy) (entered : 0 < stampOf was x k) (counts confirming : Bool) where
     abbrev now : ℕ
     now = clockOf was
 
@@ -99,37 +99,37 @@ module _ (t : Table) (limits : Limits (t .sizes)) (was : List ℕ) where
     early : stampOf was x k ≤ now
     early = proper .formed .formed .pairs (Entries x) there k k16 .bound
 
-    offer-kept : (y : ℕ) → y < agents → (s : List ℕ) → Kept t now now was s → Kept t now now was (offer t was x k confirming y s)
-    unfolding offer takes holdsNewer takeEntry
-    offer-kept y l s h =
-        cond-cases (Kept t now now was) (linked t was x k y && newer was k x y) (λ e. take)
-        (λ e. cond-cases (Kept t now now was) (confirming && (linked t was x k y && newer was k y x)) answer (λ f. h))
+    offer-kept : (y : ℕ) → y < agents → (s : List ℕ) → Kept t now now was s → Kept t now now was (offer t was x k counts confirming y s)
+    unfolding offer responded response takes holdsNewer takeEntry
+    offer-kept y l s h = by (takes t was x k counts y) confirming (holdsNewer t was x k counts y) refl
       where
-        m : ℕ
-        m = stampOf was x k
+        e : Entry
+        e = entryOf was x k
 
-        v : ℕ
-        v = wordOf was (Entries x) k
+        entry : Kept t now now was (putEntry y k e s)
+        entry = kept-put t limits was now now s h (Entries y) k (e .value) (e .stamp) l k16 key entered early (proper .small _) (let c = proper .formed .clock in omega (arith, early))
 
-        entry : Kept t now now was (put (Entries y) k v m s)
-        entry = kept-put t limits was now now s h (Entries y) k v m l k16 key entered early (proper .small _) (let c = proper .formed .clock in omega (arith, early))
+        take : Kept t now now was (takeEntry k e y s)
+        take = kept-add t limits was now now (dropKey (zcAt y) k (putEntry y k e s)) (kept-drop t limits was now now (putEntry y k e s) entry Zc y k l) Zp y k l k16
+            (rw (drop-other Zc y k (putEntry y k e s) (Mark (Entries y) k) k16 refl, put-mark (Entries y) k (e .value) (e .stamp) s k16 (omega (arith, h .whole)) (omega arith)) entered)
 
-        take : Kept t now now was (addKey (zpAt y) k (dropKey (zcAt y) k (put (Entries y) k v m s)))
-        take = kept-add t limits was now now (dropKey (zcAt y) k (put (Entries y) k v m s)) (kept-drop t limits was now now (put (Entries y) k v m s) entry Zc y k l) Zp y k l k16
-            (rw (drop-other Zc y k (put (Entries y) k v m s) (Mark (Entries y) k) k16 refl, put-mark (Entries y) k v m s k16 (h .whole) (omega arith)) entered)
-
-        answer : (confirming && (linked t was x k y && newer was k y x)) ≡ true → Kept t now now was (addKey (zpAt y) k s)
-        answer e =
-            let f = and-right confirming (linked t was x k y && newer was k y x) e in
-            let g = ltb-true (stampOf was x k) (stampOf was y k) (and-right (linked t was x k y) (newer was k y x) f) in
+        answer : holdsNewer t was x k counts y ≡ true → Kept t now now was (addKey (zpAt y) k s)
+        answer f =
+            let g = ltb-true (stampOf was x k) (stampOf was y k) (and-right (linked t was x k counts y) (newer (entryOf was y k) (entryOf was x k)) f) in
             kept-add t limits was now now s h Zp y k l k16 (h .stamps y k k16 (omega arith))
 
-    offers-kept : Kept t now now was (offered t was x k confirming agents)
-    offers-kept = forEach-keeps (offer t was x k confirming) (Kept t now now was) agents offer-kept was (kept-start t limits was proper)
+        by : (a c b : Bool) → holdsNewer t was x k counts y ≡ b → Kept t now now was (responded k e y (cond a Takes (cond (c && b) Propagates Ignores)) s)
+        by true c b f = take
+        by false true true f = answer f
+        by false true false f = h
+        by false false b f = h
+
+    offers-kept : Kept t now now was (offered t was x k counts confirming agents)
+    offers-kept = forEach-keeps (offer t was x k counts confirming) (Kept t now now was) agents offer-kept was (kept-start t limits was proper)
 
     -- the key then leaves one of x's sets
-    pub dropped-proper : (z : KeySet) → ProperFacts t (dropKey (placeAt (Waits z x)) k (offered t was x k confirming agents))
-    dropped-proper z = kept-proper t now was _ (proper .formed .clock) (kept-drop t limits was now now (offered t was x k confirming agents) offers-kept z x k there)
+    pub dropped-proper : (z : KeySet) → ProperFacts t (dropKey (placeAt (Waits z x)) k (offered t was x k counts confirming agents))
+    dropped-proper z = kept-proper t now was _ (proper .formed .clock) (kept-drop t limits was now now (offered t was x k counts confirming agents) offers-kept z x k there)
 
 -- ACTS
 word-small : (v : Value) → SmallValue v → wordIn v < 2 ^ 32
@@ -173,7 +173,7 @@ module _ (t : Table) (sound : Sound t) (bytes : (i : ℕ) → getD (t .operands)
       let k16 : k < keyLimit = omega arith in
       let later = kept-later t limits was (clockOf was) (clockOf was) was start c (omega arith) in
       let entry = kept-put t limits was c (clockOf was) was later (Entries x) k (word n) c there k16 l (omega arith) (omega arith) (small n) (omega arith) in
-      let pending = kept-add t limits was c (clockOf was) u entry Zp x k there k16 (rw (put-mark (Entries x) k (word n) c was k16 (proper .whole) (omega arith)) (omega arith)) in
+      let pending = kept-add t limits was c (clockOf was) u entry Zp x k there k16 (rw (put-mark (Entries x) k (word n) c was k16 (omega (arith, proper .whole)) (omega arith)) (omega arith)) in
       (c, omega arith, kept-clock t limits was c (clockOf was) (addKey (zpAt x) k u) pending c (omega arith))
 
   node-set : (n : ℕ) → ActionNode t n → (writesEntry t (Acting n) ≡ true → clockOf was < 65535) → Set (setKey t was x (Acting n))

@@ -11,14 +11,14 @@ use borrow.Author.Tests.{ne-eqb}
 use Rattle.basis.specs.Numbers.{forEach}
 use Rattle.basis.proofs.Numbers.{forEach-same, forEach-at, forEach-keeps, forEach-ext}
 use Rattle.basis.proofs.Lists.{padded-length, padded-at, forEach-paste}
-use Rattle.term.specs.Acceptance.{stateWords}
 use Rattle.term.specs.Terms.{Term, words}
 use Rattle.term.proofs.Words.{Low}
 use Rattle.state.specs.declared.Store.{Store}
 use Rattle.state.specs.Layout.{residualWords, residualAt, lengthAt, lengthOf, residualOf, termIn, valueIn}
-use Rattle.state.specs.WellFormed.{allZero}
+use Rattle.state.specs.WellFormed.{allZero, Words}
+use Rattle.state.specs.Standing.{HasBlocks}
 use Rattle.state.proofs.Places.{Place, Mark, Word, Length, Residual, other-agent, Inside, same, place-fits}
-use Rattle.state.proofs.Frames.{wordAt, Small, SameAt, value-same, term-same, set-small, set-other, set-here}
+use Rattle.state.proofs.Frames.{wordAt, SameAt, value-same, term-same, set-small, set-other, set-here}
 use Rattle.state.proofs.Residuals.{residual-front, residual-rest, term-read}
 use Rattle.steps.specs.Acts.{leave}
 
@@ -36,11 +36,11 @@ module _ (x : ℕ) (ws s : List ℕ) where
   unfolding leave
   leave-length = length-set (copied residualWords) (lengthAt x) (length ws) ∙ copied-length residualWords
 
-  pub leave-small : Small s → ((i : ℕ) → getD ws i 0 < 2 ^ 32) → length ws < 2 ^ 32 → Small (leave x ws s)
+  pub leave-small : Words s → Words ws → length ws < 2 ^ 32 → Words (leave x ws s)
   unfolding leave
   leave-small small h l =
       set-small (copied residualWords) (lengthAt x) (length ws)
-      (forEach-keeps copy Small residualWords (λ i m u g. set-small u (residualAt x + i) (getD ws i 0) g (h i)) s small) l
+      (forEach-keeps copy Words residualWords (λ i m u g. set-small u (residualAt x + i) (getD ws i 0) g (h i)) s small) l
 
   copied-other : (n : ℕ) → n ≤ residualWords → (q : Place) → Inside q → ((i : ℕ) → i < n → same q (Residual x i) ≡ false) → SameAt (copied n) s q
   copied-other n b q h e = forEach-same copy (λ (u : List ℕ). wordAt u q) n (λ i l u. set-other u (Residual x i) (getD ws i 0) (omega arith) q h (e i l)) s
@@ -49,10 +49,10 @@ module _ (x : ℕ) (ws s : List ℕ) where
   unfolding leave
   leave-other q h e f = set-other (copied residualWords) (Length x) (length ws) tt q h e ∙ copied-other residualWords (omega arith) q h f
 
-  module _ (whole : length s ≡ stateWords) (there : x < 32) where
+  module _ (room : HasBlocks s) (there : x < 32) where
     pub leave-size : lengthOf (leave x ws s) x ≡ length ws
     unfolding leave
-    leave-size = set-here (copied residualWords) (Length x) (length ws) tt (copied-length residualWords ∙ whole) there
+    leave-size = set-here (copied residualWords) (Length x) (length ws) tt (omega (arith, copied-length residualWords, room)) there
 
     pub leave-word : (i : ℕ) → i < residualWords → wordAt (leave x ws s) (Residual x i) ≡ getD ws i 0
     unfolding leave
@@ -60,19 +60,19 @@ module _ (x : ℕ) (ws s : List ℕ) where
         set-other (copied residualWords) (Length x) (length ws) tt (Residual x i) l refl
         ∙ forEach-at copy (λ (u : List ℕ). wordAt u (Residual x i)) i residualWords l
         (λ j m d u. set-other u (Residual x j) (getD ws j 0) m (Residual x i) l (rw (ne-eqb i j (λ e. d (sym e))))) s
-        ∙ set-here (copied i) (Residual x i) (getD ws i 0) l (copied-length i ∙ whole) there
+        ∙ set-here (copied i) (Residual x i) (getD ws i 0) l (omega (arith, copied-length i, room)) there
 
     module _ (short : length ws ≤ residualWords) where
       pub leave-front : take (length ws) (residualOf (leave x ws s) x) ≡ ws
-      leave-front = residual-front (leave x ws s) x (leave-length ∙ whole) there ws short leave-word
+      leave-front = residual-front (leave x ws s) x (omega (arith, leave-length, room)) there ws short leave-word
 
       pub leave-rest : allZero (drop (length ws) (residualOf (leave x ws s) x)) ≡ true
-      leave-rest = residual-rest (leave x ws s) x (leave-length ∙ whole) there ws short leave-word
+      leave-rest = residual-rest (leave x ws s) x (omega (arith, leave-length, room)) there ws short leave-word
 
 -- the term that is left
-pub leave-term : (x : ℕ) (T : Term) (s : List ℕ) → length s ≡ stateWords → x < 32 → Low T → length (words T) ≤ residualWords → termIn (leave x (words T) s) x ≡ T
-leave-term x T s whole there low short =
-    term-read (leave x (words T) s) x (leave-length x (words T) s ∙ whole) there T low short (leave-size x (words T) s whole there) (leave-word x (words T) s whole there)
+pub leave-term : (x : ℕ) (T : Term) (s : List ℕ) → HasBlocks s → x < 32 → Low T → length (words T) ≤ residualWords → termIn (leave x (words T) s) x ≡ T
+leave-term x T s room there low short =
+    term-read (leave x (words T) s) x (omega (arith, leave-length x (words T) s, room)) there T low short (leave-size x (words T) s room there) (leave-word x (words T) s room there)
 
 -- values stay, and so do the terms of other agents
 module _ (x : ℕ) (ws s : List ℕ) where
@@ -87,10 +87,10 @@ module _ (x : ℕ) (ws s : List ℕ) where
       (λ i l. leave-other x ws s (Residual a i) l refl (λ j m. other-agent (Residual a i) (Residual x j) d))
 
 -- THE SAME AS A PART of the state that becomes the words, with 0 after them
-pub leave-part : (x : ℕ) (ws s : List ℕ) → length s ≡ stateWords → x < 32 → length ws ≤ residualWords
+pub leave-part : (x : ℕ) (ws s : List ℕ) → HasBlocks s → x < 32 → length ws ≤ residualWords
     → set (take (residualAt x) s ++ ((ws ++ replicate (residualWords - length ws) 0) ++ drop residualWords (drop (residualAt x) s))) (lengthAt x) (length ws) ≡ leave x ws s
 unfolding leave
-leave-part x ws s whole there short =
+leave-part x ws s room there short =
     let n = residualWords in
     let at = residualAt x in
     let zs = ws ++ replicate (n - length ws) 0 in

@@ -3,15 +3,17 @@
 use mathlib.Core.Path.{_≡_, refl, sym, ap, _∙_}
 use mathlib.Core.List.{List, _++_}
 use Prim.Native.Nat.{ℕ}
-use lib.ListN.{length}
 use Rattle.table.specs.Checks.{Check, passes, refuses, firstOf}
 use Rattle.table.specs.Tables.{tableOf}
 use Rattle.table.proofs.Checks.{append-later, append-refuses}
 use Rattle.term.specs.Acceptance.{tableChecks}
+use Rattle.state.specs.Layout.{isWhole}
 use Rattle.state.specs.WellFormed.{loaded}
+use Rattle.steps.specs.Tallies.{noTally}
 use Rattle.steps.specs.Steps.{Outcome, stateChecks, stepChecks, stepOf}
 use Rattle.steps.specs.Orders.{InOrder}
 use Rattle.steps.specs.Runs.{runOf}
+use Rattle.steps.proofs.Checks.{numbered}
 use Rattle.steps.proofs.Steps.{outcome-check, step-in, in-check, step-stopped}
 
 step-first : (bytes was : List ℕ) (scratch kind x number : ℕ)
@@ -31,13 +33,8 @@ pub in-order : InOrder
 unfolding runOf
 in-order =
     record {
-      load = λ bytes stateLength scratch. refl;
-      state = λ bytes was scratch. refl;
-      act = λ t was x c. refl;
-      propagate = λ t was x k. refl;
-      confirm = λ t was x k. refl;
-      run = λ schedule answers. refl;
-      of-load = λ bytes was scratch. outcome-check was 0 (loaded (tableOf bytes)) (firstOf (tableChecks bytes (length was) scratch));
+      numbered = numbered;
+      of-load = λ bytes was scratch. outcome-check was noTally (loaded (tableOf bytes)) (firstOf (tableChecks bytes (isWhole was) scratch));
       of-step = step-first;
       of-run = λ bytes was scratch schedule answers. refl;
     }

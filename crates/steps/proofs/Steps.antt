@@ -4,7 +4,7 @@ use Prim.Native.Nat.{ℕ, _<_, _≤_}
 use mathlib.Core.Bool.{Bool, true, false, not, _&&_}
 use mathlib.Core.Path.{_≡_, refl, sym, ap, _∙_}
 use mathlib.Core.Logic.{_↔_, ⊎-elim}
-use mathlib.Core.List.{List, [], _∷_}
+use mathlib.Core.List.{List, []}
 use native.Mathlib.Omega.{arith}
 use lib.Dec.{eqb, ltb, leb}
 use lib.ListN.{length}
@@ -18,33 +18,36 @@ use Rattle.term.specs.Terms.{words}
 use Rattle.term.specs.Processes.{allFew}
 use Rattle.term.specs.Accepted.{Acceptable}
 use Rattle.term.proofs.Acceptance.{passes-accepted, accepted-passes}
-use Rattle.state.specs.Layout.{residualWords, clockOf, zcOf, zpOf, termIn}
+use Rattle.state.specs.Layout.{stateWords, isWhole, residualWords, zcOf, zpOf, termIn}
+use Rattle.state.specs.Entries.{clockOf}
 use Rattle.state.specs.WellFormed.{wellFormed, loaded}
 use Rattle.steps.specs.Acts.{choices, chosen, allHold, lacksValue, writesEntry, actChecks}
 use Rattle.term.specs.Acceptance.{tableChecks}
-use Rattle.steps.specs.Steps.{Outcome, done, refused, outcome, loadOf, outOfRange, ownChecks, takenBy, after, stepChecks, stepIn, stateChecks, stepOf}
+use Rattle.steps.specs.declared.Tally.{Tally}
+use Rattle.steps.specs.Tallies.{noTally}
+use Rattle.steps.specs.Steps.{Outcome, done, refused, outcome, loadOf, outOfRange, ownChecks, tallyOf, after, stepChecks, stepIn, stateChecks, stepOf}
 
-module _ (was : List ℕ) (taken : ℕ) (s : List ℕ) where
-  pub outcome-check : (c : Check) → outcome c was taken s .check ≡ c
+module _ (was : List ℕ) (tally : Tally) (s : List ℕ) where
+  pub outcome-check : (c : Check) → outcome c was tally s .check ≡ c
   unfolding outcome
   outcome-check passes = refl
   outcome-check (refuses number place) = refl
 
-  pub outcome-done : (c : Check) → c ≡ passes → outcome c was taken s ≡ done taken s
+  pub outcome-done : (c : Check) → c ≡ passes → outcome c was tally s ≡ done tally s
   unfolding outcome
   outcome-done c e = rw e
 
-  pub outcome-refused : (c : Check) {number place : ℕ} → c ≡ refuses number place → outcome c was taken s ≡ refused number place was
+  pub outcome-refused : (c : Check) {number place : ℕ} → c ≡ refuses number place → outcome c was tally s ≡ refused number place was
   unfolding outcome
   outcome-refused c e = rw e
 
 -- LOAD is done where the table is accepted for the lent words
 module _ (bytes was : List ℕ) (scratch : ℕ) where
-  pub load-accepted : loadOf bytes was scratch .check ≡ passes → Acceptable bytes (length was) scratch
-  load-accepted e = passes-accepted bytes (length was) scratch (sym (outcome-check was 0 (loaded (tableOf bytes)) (firstOf (tableChecks bytes (length was) scratch))) ∙ e)
+  pub load-accepted : loadOf bytes was scratch .check ≡ passes → Acceptable bytes (isWhole was) scratch
+  load-accepted e = passes-accepted bytes (isWhole was) scratch (sym (outcome-check was noTally (loaded (tableOf bytes)) (firstOf (tableChecks bytes (isWhole was) scratch))) ∙ e)
 
-  pub accepted-load : Acceptable bytes (length was) scratch → loadOf bytes was scratch ≡ done 0 (loaded (tableOf bytes))
-  accepted-load a = outcome-done was 0 (loaded (tableOf bytes)) (firstOf (tableChecks bytes (length was) scratch)) (accepted-passes bytes (length was) scratch a)
+  pub accepted-load : Acceptable bytes (isWhole was) scratch → loadOf bytes was scratch ≡ done noTally (loaded (tableOf bytes))
+  accepted-load a = outcome-done was noTally (loaded (tableOf bytes)) (firstOf (tableChecks bytes (isWhole was) scratch)) (accepted-passes bytes (isWhole was) scratch a)
 
 -- 10 has passed
 pub record InRange (t : Table) (kind x number : ℕ) : Type 0 where
@@ -160,7 +163,8 @@ module _ (t : Table) (was : List ℕ) (x : ℕ) where
 
 -- A STEP is done where the table is accepted, the state well formed, the step in range, and its own checks have passed
 pub record Done (bytes was : List ℕ) (scratch kind x number : ℕ) : Type 0 where
-  pub accepted : Acceptable bytes (length was) scratch
+  pub accepted : Acceptable bytes (isWhole was) scratch
+  pub whole : length was ≡ stateWords
   pub formed : wellFormed (tableOf bytes) was ≡ true
   pub range : InRange (tableOf bytes) kind x number
   pub own : firstOf (ownChecks (tableOf bytes) was kind x number) ≡ passes
@@ -169,11 +173,11 @@ module _ (bytes was : List ℕ) (scratch : ℕ) where
   abbrev t : Table
   t = tableOf bytes
 
-  pub state-checks : firstOf (stateChecks bytes was scratch) ≡ passes ↔ (Acceptable bytes (length was) scratch × (wellFormed (tableOf bytes) was ≡ true))
+  pub state-checks : firstOf (stateChecks bytes was scratch) ≡ passes ↔ (Acceptable bytes (isWhole was) scratch × (wellFormed (tableOf bytes) was ≡ true))
   state-checks = (
-    λ e. let w = append-passes (tableChecks bytes (length was) scratch) _ e in
-        (passes-accepted bytes (length was) scratch (w .0), not-false (wellFormed t was) (first-passes (refuseIf 9 (not (wellFormed t was))) [] (w .1) .0)),
-    λ p. append-both (tableChecks bytes (length was) scratch) _ (accepted-passes bytes (length was) scratch (p .0))
+    λ e. let w = append-passes (tableChecks bytes (isWhole was) scratch) _ e in
+        (passes-accepted bytes (isWhole was) scratch (w .0), not-false (wellFormed t was) (first-passes (refuseIf 9 (not (wellFormed t was))) [] (w .1) .0)),
+    λ p. append-both (tableChecks bytes (isWhole was) scratch) _ (accepted-passes bytes (isWhole was) scratch (p .0))
         (first-both (refuseIf 9 (not (wellFormed t was))) [] (ap not (p .1)) none-passes),
   )
 
@@ -191,11 +195,11 @@ module _ (bytes was : List ℕ) (scratch : ℕ) where
 
     pub in-check : stepIn t was kind x number .check ≡ firstOf checks
     unfolding stepIn
-    in-check = outcome-check was (takenBy t was kind x number) (after t was kind x number) (firstOf checks)
+    in-check = outcome-check was (tallyOf t was kind x number) (after t was kind x number) (firstOf checks)
 
     -- what the checks of table and state decide
     stepBy : Check → Outcome
-    stepBy c = elim c [ passes ↦ stepIn t was kind x number | refuses n place ↦ outcome (refuses n place) was 0 was ]
+    stepBy c = elim c [ passes ↦ stepIn t was kind x number | refuses n place ↦ outcome (refuses n place) was noTally was ]
 
     -- a step that is done has passed all checks
     pub done-step : stepOf bytes was scratch kind x number .check ≡ passes → Done bytes was scratch kind x number
@@ -208,16 +212,16 @@ module _ (bytes was : List ℕ) (scratch : ℕ) where
         by passes d e =
             let p = state-checks .0 d in
             let w = first-passes (refuseIf 10 (outOfRange t kind x number)) (ownChecks t was kind x number) (sym in-check ∙ e) in
-            record { accepted = p .0; formed = p .1; range = in-range t was kind x number .0 (w .0); own = w .1 }
+            record { accepted = p .0; whole = eqb-true (length was) stateWords (p .0 .fit); formed = p .1; range = in-range t was kind x number .0 (w .0); own = w .1 }
         by (refuses n place) d e = absurd (let z : _≡_ {A = ℕ} 0 1 = cc in omega arith)
 
     -- and comes to this
     pub step-done : Done bytes was scratch kind x number
-        → stepOf bytes was scratch kind x number ≡ done (takenBy (tableOf bytes) was kind x number) (after (tableOf bytes) was kind x number)
+        → stepOf bytes was scratch kind x number ≡ done (tallyOf (tableOf bytes) was kind x number) (after (tableOf bytes) was kind x number)
     unfolding stepIn
     step-done d =
         step-in (state-checks .1 (d .accepted, d .formed))
-        ∙ outcome-done was (takenBy t was kind x number) (after t was kind x number) (firstOf checks)
+        ∙ outcome-done was (tallyOf t was kind x number) (after t was kind x number) (firstOf checks)
         (first-both (refuseIf 10 (outOfRange t kind x number)) (ownChecks t was kind x number) (in-range t was kind x number .1 (d .range)) (d .own))
 
     -- a refused step leaves the state as it was
@@ -227,5 +231,5 @@ module _ (bytes was : List ℕ) (scratch : ℕ) where
       where
         by : (c : Check) → stepBy c .check ≡ refuses n place
             → stepBy c ≡ refused n place was
-        by passes e = outcome-refused was (takenBy t was kind x number) (after t was kind x number) (firstOf checks) (sym in-check ∙ e)
-        by (refuses m at) e = ap (λ c. outcome c was 0 was) e
+        by passes e = outcome-refused was (tallyOf t was kind x number) (after t was kind x number) (firstOf checks) (sym in-check ∙ e)
+        by (refuses m at) e = ap (λ c. outcome c was noTally was) e

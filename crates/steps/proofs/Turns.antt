@@ -2,7 +2,7 @@
 -- Assumes nothing.
 use Prim.Native.Nat.{ℕ, _+_, _<_}
 use mathlib.Core.Bool.{Bool, cond}
-use mathlib.Core.Path.{_≡_, refl, sym, _∙_}
+use mathlib.Core.Path.{_≡_, refl, sym, ap, _∙_}
 use mathlib.Core.List.{List}
 use native.Mathlib.Omega.{arith}
 use Rattle.basis.proofs.Numbers.{forEach-more, howMany-more}
@@ -15,29 +15,30 @@ use Rattle.state.proofs.Places.{Place, Mark, Word, Inside, placeKind, placeAgen
 use Rattle.state.proofs.Frames.{SameAt}
 use Rattle.state.proofs.Evaluation.{SameValues, words-values, link-same}
 use Rattle.steps.proofs.Offers.{offered-other}
-use Rattle.steps.specs.Offers.{linked, takes, holdsNewer, offer, offered, takers}
+use Rattle.steps.specs.Offers.{linked, takes, holdsNewer, response, offer, offered, offerTally}
+use Rattle.steps.specs.Tallies.{tally, addTally}
 
 -- what the agents below y took changes nothing that y's turn looks at
-module _ (t : Table) (was : List ℕ) (x k : ℕ) (confirming : Bool) (key : k < keyLimit) (y : ℕ) where
+module _ (t : Table) (was : List ℕ) (x k : ℕ) (counts confirming : Bool) (key : k < keyLimit) (y : ℕ) where
   abbrev now : List ℕ
-  now = offered t was x k confirming y
+  now = offered t was x k counts confirming y
 
   mine : (p : Place) → Inside p → placeAgent p ≡ x → SameAt now was p
-  mine p h e = offered-other t was x k confirming key y p h (λ z l d j. absurd (d (sym j ∙ e)))
+  mine p h e = offered-other t was x k counts confirming key y p h (λ z l d j. absurd (d (sym j ∙ e)))
 
   theirs : (p : Place) → Inside p → placeAgent p ≡ y → SameAt now was p
-  theirs p h e = offered-other t was x k confirming key y p h (λ z l d j. absurd (omega arith))
+  theirs p h e = offered-other t was x k counts confirming key y p h (λ z l d j. absurd (omega arith))
 
   values : (store : Store) → ((p : Place) → Inside p → placeKind p ≡ storeKind store → placeAgent p ≡ storeAgent store → SameAt now was p) → SameValues now was store
   values store f = words-values now was store (λ j l. f (Mark store j) l refl refl) (λ j l. f (Word store j) l refl refl)
 
   link-judged : linkHolds t now k x y ≡ linkHolds t was k x y
   link-judged =
-      link-same t now was x y (values Environment (λ p h e f. offered-other t was x k confirming key y p h (λ z l d j. e)))
+      link-same t now was x y (values Environment (λ p h e f. offered-other t was x k counts confirming key y p h (λ z l d j. e)))
       (record { attributes = values (Attributes x) (λ p h e f. mine p h f); entries = values (Entries x) (λ p h e f. mine p h f) })
       (record { attributes = values (Attributes y) (λ p h e f. theirs p h f); entries = values (Entries y) (λ p h e f. theirs p h f) }) k
 
-  pub linked-judged : linked t now x k y ≡ linked t was x k y
+  pub linked-judged : linked t now x k counts y ≡ linked t was x k counts y
   unfolding linked
   linked-judged = rw link-judged
 
@@ -47,21 +48,21 @@ module _ (t : Table) (was : List ℕ) (x k : ℕ) (confirming : Bool) (key : k <
   their-stamp : stampOf now y k ≡ stampOf was y k
   their-stamp = theirs (Mark (Entries y) k) key refl
 
-  pub takes-judged : takes t now x k y ≡ takes t was x k y
+  pub takes-judged : takes t now x k counts y ≡ takes t was x k counts y
   unfolding takes
   takes-judged = rw (linked-judged, my-stamp, their-stamp)
 
-  pub answers-judged : holdsNewer t now x k y ≡ holdsNewer t was x k y
+  pub answers-judged : holdsNewer t now x k counts y ≡ holdsNewer t was x k counts y
   unfolding holdsNewer
   answers-judged = rw (linked-judged, my-stamp, their-stamp)
 
-  pub offer-judged : (s : List ℕ) → offer t now x k confirming y s ≡ offer t was x k confirming y s
-  unfolding offer
+  pub offer-judged : (s : List ℕ) → offer t now x k counts confirming y s ≡ offer t was x k counts confirming y s
+  unfolding offer response
   offer-judged s = rw (takes-judged, answers-judged, my-stamp, mine (Word (Entries x) k) key refl)
 
   -- so one more turn, judged on the state as it is by then, is one more turn of the step
-  pub offered-more : offered t was x k confirming (y + 1) ≡ offer t now x k confirming y now
-  offered-more = forEach-more (offer t was x k confirming) y was ∙ sym (offer-judged now)
+  pub offered-more : offered t was x k counts confirming (y + 1) ≡ offer t now x k counts confirming y now
+  offered-more = forEach-more (offer t was x k counts confirming) y was ∙ sym (offer-judged now)
 
-  pub takers-more : takers t was x k (y + 1) ≡ takers t was x k y + cond (takes t now x k y) 1 0
-  takers-more = howMany-more (takes t was x k) y ∙ rw takes-judged
+  pub tally-more : offerTally t was x k counts (y + 1) ≡ addTally (offerTally t was x k counts y) (tally (cond (takes t now x k counts y) 1 0))
+  tally-more = ap tally (howMany-more (takes t was x k counts) y ∙ rw takes-judged)

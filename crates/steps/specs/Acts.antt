@@ -17,7 +17,8 @@ use Rattle.term.specs.Terms.{words}
 use Rattle.term.specs.Processes.{Derivation, derivations, derivationAt, process, allFew}
 use Rattle.state.specs.declared.Store.{Store}
 use Rattle.state.specs.declared.Store.the-variants.{Environment, Attributes, Entries}
-use Rattle.state.specs.Layout.{clockAt, zcAt, zpAt, lengthAt, residualAt, residualWords, keyLimit, clockLimit, clockOf, stampOf, zcOf, zpOf, termIn, put, addKey}
+use Rattle.state.specs.Layout.{zcAt, zpAt, lengthAt, residualAt, residualWords, keyLimit, stampOf, zcOf, zpOf, termIn, put, addKey}
+use Rattle.state.specs.Entries.{entry, putEntry, clockLimit, clockOf, nextStamp, setClock}
 use Rattle.state.specs.Evaluation.{valueOf, holds, reads}
 
 -- absent, and the word of a value that is not
@@ -29,13 +30,9 @@ abbrev pub wordIn : Value → ℕ
 wordIn Absent = 0
 wordIn (Present v) = v
 
--- the stamp that the next write takes
-abbrev pub nextStamp : List ℕ → ℕ
-nextStamp s = clockOf s + 1
-
 -- agent x writes v to stigmergy key k: the entry takes the next stamp, which becomes the clock, and the key waits to be propagated
 abbrev pub entered : List ℕ → ℕ → ℕ → ℕ → List ℕ
-entered s x k v = set (addKey (zpAt x) k (put (Entries x) k v (nextStamp s) s)) clockAt (nextStamp s)
+entered s x k v = setClock (nextStamp s) (addKey (zpAt x) k (putEntry x k (entry v (nextStamp s)) s))
 
 -- the residual of agent x becomes these words, and 0 after them
 unfoldable pub leave : ℕ → List ℕ → List ℕ → List ℕ
@@ -106,7 +103,7 @@ module _ (t : Table) (was : List ℕ) (x : ℕ) where
   unfoldable pub setKey : Label → List ℕ
   setKey Ticking = was
   setKey (Acting n) =
-      cond (eqb (kindAt t n) kind.setStigmergy)
+      cond (writesEntry t (Acting n))
       (entered was x (pAt t n) (wordIn (valueFor n)))
       (put (storeOf t x n) (pAt t n) (wordIn (valueFor n)) 1 was)
 

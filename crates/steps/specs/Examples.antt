@@ -3,16 +3,16 @@ use Prim.Native.Nat.{ℕ, _^_, _-_}
 use mathlib.Core.Bool.{Bool, cond}
 use mathlib.Core.Path.{_≡_}
 use mathlib.Core.List.{List, [], _∷_, _++_}
-use lib.ListN.{length, set, replicate}
+use lib.ListN.{length, replicate}
 use Rattle.value.specs.declared.Value.{Value}
 use Rattle.value.specs.declared.Value.the-variants.{Absent, Present}
 use Rattle.table.specs.Checks.{numberOf}
 use Rattle.table.specs.Tables.{Table, tableOf}
 use Rattle.term.specs.Terms.{Node, parWord, tickWord, words}
 use Rattle.term.specs.Processes.{Derivation, derivations, process}
-use Rattle.term.specs.Acceptance.{stateWords}
 use Rattle.state.specs.declared.Store.the-variants.{Attributes, Entries}
-use Rattle.state.specs.Layout.{clockAt, zcAt, zpAt, wordOf, stampOf, zcOf, zpOf, put, addKey}
+use Rattle.state.specs.Layout.{stateWords, zcAt, zpAt, wordOf, stampOf, zcOf, zpOf, put, addKey}
+use Rattle.state.specs.Entries.{entry, putEntry, setClock}
 use Rattle.state.specs.Evaluation.{valueOf, holds}
 use Rattle.state.specs.WellFormed.{loaded}
 use Rattle.steps.specs.Steps.{Outcome, loadOf, stepOf}
@@ -41,7 +41,7 @@ scratch = 64
 -- agent 0 holds (v, u) and agent 1 holds (w, z) for key 0, which is in agent 0's set that stands at a place
 abbrev pub holding : ℕ → ℕ → ℕ → ℕ → ℕ → List ℕ
 holding at v u w z =
-    set (addKey at 0 (put (Entries 1) 0 w z (put (Entries 0) 0 v u (put (Attributes 0) 0 1 1 (loaded t))))) clockAt 4
+    setClock 4 (addKey at 0 (putEntry 1 0 (entry w z) (putEntry 0 0 (entry v u) (put (Attributes 0) 0 1 1 (loaded t)))))
 
 abbrev pub bit : Bool → ℕ
 bit b = cond b 1 0
@@ -49,7 +49,7 @@ bit b = cond b 1 0
 -- what a step comes to: refusal, taken, then for each agent value and stamp of key 0, Zc, Zp
 abbrev pub shown : Outcome → List ℕ
 shown o =
-    numberOf (o .check) ∷ o .taken
+    numberOf (o .check) ∷ o .tally .taken
     ∷ wordOf (o .state) (Entries 0) 0 ∷ stampOf (o .state) 0 0 ∷ zcOf (o .state) 0 ∷ zpOf (o .state) 0
     ∷ wordOf (o .state) (Entries 1) 0 ∷ stampOf (o .state) 1 0 ∷ zcOf (o .state) 1 ∷ zpOf (o .state) 1 ∷ []
 

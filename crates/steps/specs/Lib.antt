@@ -1,4 +1,5 @@
 pub mod Acts
+pub mod Tallies
 pub mod Offers
 pub mod Steps
 pub mod Runs

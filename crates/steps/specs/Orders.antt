@@ -1,26 +1,30 @@
 -- The order of the checks: the numbers of each call's list, for every input.
 use Prim.Native.Nat.{ℕ}
+use mathlib.Core.Bool.{Bool}
 use mathlib.Core.Path.{_≡_}
 use mathlib.Core.List.{List, [], _∷_, _++_, map}
-use lib.ListN.{length}
 use Rattle.table.specs.Checks.{Refusal, firstOf}
 use Rattle.table.specs.Tables.{Table, tableOf}
 use Rattle.term.specs.Acceptance.{tableChecks}
+use Rattle.state.specs.Layout.{isWhole}
 use Rattle.steps.specs.Steps.{stepChecks, stateChecks, loadOf, stepOf}
 use Rattle.steps.specs.Runs.{scheduleChecks, runOf}
 
 abbrev pub numbers : List Refusal → List ℕ
 numbers rs = map (λ (r : Refusal). r .number) rs
 
-pub record InOrder : Type 0 where
-  pub load : (bytes : List ℕ) (stateLength scratch : ℕ) → numbers (tableChecks bytes stateLength scratch) ≡ 1 ∷ 2 ∷ 3 ∷ 8 ∷ 4 ∷ 5 ∷ 6 ∷ 7 ∷ []
+pub record Numbered : Type 0 where
+  pub load : (bytes : List ℕ) (fits : Bool) (scratch : ℕ) → numbers (tableChecks bytes fits scratch) ≡ 1 ∷ 2 ∷ 3 ∷ 8 ∷ 4 ∷ 5 ∷ 6 ∷ 7 ∷ []
   pub state : (bytes was : List ℕ) (scratch : ℕ) → numbers (stateChecks bytes was scratch) ≡ 1 ∷ 2 ∷ 3 ∷ 8 ∷ 4 ∷ 5 ∷ 6 ∷ 7 ∷ 9 ∷ []
   pub act : (t : Table) (was : List ℕ) (x c : ℕ) → numbers (stepChecks t was 0 x c) ≡ 10 ∷ 11 ∷ 12 ∷ 13 ∷ 14 ∷ 15 ∷ 16 ∷ 17 ∷ []
   pub propagate : (t : Table) (was : List ℕ) (x k : ℕ) → numbers (stepChecks t was 1 x k) ≡ 10 ∷ 18 ∷ []
   pub confirm : (t : Table) (was : List ℕ) (x k : ℕ) → numbers (stepChecks t was 2 x k) ≡ 10 ∷ 18 ∷ []
   pub run : (schedule answers : List ℕ) → numbers (scheduleChecks schedule answers) ≡ 19 ∷ 20 ∷ []
+
+pub record InOrder : Type 0 where
+  pub numbered : Numbered
   -- each call's checks are one list, and the first that refuses decides: load's, a step's, and run's
-  pub of-load : (bytes was : List ℕ) (scratch : ℕ) → loadOf bytes was scratch .check ≡ firstOf (tableChecks bytes (length was) scratch)
+  pub of-load : (bytes was : List ℕ) (scratch : ℕ) → loadOf bytes was scratch .check ≡ firstOf (tableChecks bytes (isWhole was) scratch)
   pub of-step : (bytes was : List ℕ) (scratch kind x number : ℕ) →
       stepOf bytes was scratch kind x number .check ≡ firstOf (stateChecks bytes was scratch ++ stepChecks (tableOf bytes) was kind x number)
   pub of-run : (bytes was : List ℕ) (scratch : ℕ) (schedule answers : List ℕ) →

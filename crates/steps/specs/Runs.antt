@@ -8,6 +8,8 @@ use Rattle.basis.specs.Numbers.{forEach}
 use Rattle.basis.specs.Bytes.{u16At}
 use Rattle.table.specs.Checks.{Check, passes, refuses, Refusal, refuseIf, firstOf, passed, numberOf}
 use Rattle.table.specs.Tables.{Table, tableOf}
+use Rattle.steps.specs.declared.Tally.{Tally}
+use Rattle.steps.specs.Tallies.{noTally, addTally}
 use Rattle.steps.specs.Steps.{Outcome, stateChecks, stepIn}
 
 abbrev pub stepLimit : ℕ
@@ -40,10 +42,10 @@ pub record Progress : Type 0 where
   pub answers : List ℕ
   pub done : ℕ
   pub refused : ℕ
-  pub taken : ℕ
+  pub tally : Tally
 
 abbrev pub begun : List ℕ → List ℕ → Progress
-begun state answers = record { state = state; answers = answers; done = 0; refused = 0; taken = 0 }
+begun state answers = record { state = state; answers = answers; done = 0; refused = 0; tally = noTally }
 
 -- step i is added: its answer byte is 0 or the refusal
 abbrev pub added : ℕ → Progress → Outcome → Progress
@@ -53,7 +55,7 @@ added i p o =
       answers = set (p .answers) i (numberOf (o .check));
       done = p .done + cond (passed (o .check)) 1 0;
       refused = p .refused + cond (passed (o .check)) 0 1;
-      taken = p .taken + o .taken;
+      tally = addTally (p .tally) (o .tally);
     }
 
 -- steps 0 to n - 1

@@ -1,38 +1,39 @@
 -- Load and step: for every input, what is answered and the state after.
 use Prim.Native.Nat.{ℕ, zero, suc}
-use mathlib.Core.Bool.{Bool, not, _&&_, _||_}
+use mathlib.Core.Bool.{Bool, true, false, not, _&&_, _||_}
 use mathlib.Core.List.{List, [], _∷_, _++_}
 use lib.Dec.{ltb}
-use lib.ListN.{length}
 use Rattle.basis.specs.KeySets.{has}
 use Rattle.table.specs.Checks.{Check, passes, refuses, Refusal, refuseIf, firstOf}
 use Rattle.table.specs.Tables.{Table, tableOf}
 use Rattle.term.specs.Acceptance.{tableChecks}
-use Rattle.state.specs.Layout.{zcOf, zpOf}
+use Rattle.state.specs.Layout.{isWhole, zcOf, zpOf}
 use Rattle.state.specs.WellFormed.{wellFormed, loaded}
 use Rattle.steps.specs.Acts.{actChecks, chosen, acted}
-use Rattle.steps.specs.Offers.{takers, propagated, confirmed}
+use Rattle.steps.specs.Offers.{offerTally, sent}
+use Rattle.steps.specs.declared.Tally.{Tally}
+use Rattle.steps.specs.Tallies.{noTally}
 
--- what a call comes to: its check, the number of agents that took an entry, and the state after
+-- what a call comes to: its check, what it counts, and the state after
 pub record Outcome : Type 0 where
   pub check : Check
-  pub taken : ℕ
+  pub tally : Tally
   pub state : List ℕ
 
-abbrev pub done : ℕ → List ℕ → Outcome
-done taken s = record { check = passes; taken = taken; state = s }
+abbrev pub done : Tally → List ℕ → Outcome
+done tally s = record { check = passes; tally = tally; state = s }
 
 abbrev pub refused : ℕ → ℕ → List ℕ → Outcome
-refused number place s = record { check = refuses number place; taken = 0; state = s }
+refused number place s = record { check = refuses number place; tally = noTally; state = s }
 
--- a call that is refused leaves the state as it came, and takes nothing
-unfoldable pub outcome : Check → List ℕ → ℕ → List ℕ → Outcome
-outcome passes was taken state = done taken state
-outcome (refuses number place) was taken state = refused number place was
+-- a call that is refused leaves the state as it came, and counts nothing
+unfoldable pub outcome : Check → List ℕ → Tally → List ℕ → Outcome
+outcome passes was tally state = done tally state
+outcome (refuses number place) was tally state = refused number place was
 
 abbrev pub loadOf : List ℕ → List ℕ → ℕ → Outcome
 loadOf bytes was scratchLength =
-    outcome (firstOf (tableChecks bytes (length was) scratchLength)) was 0 (loaded (tableOf bytes))
+    outcome (firstOf (tableChecks bytes (isWhole was) scratchLength)) was noTally (loaded (tableOf bytes))
 
 -- kind, agent or key out of range; an act's number is a choice, of which 13 judges
 abbrev pub outOfRange : Table → ℕ → ℕ → ℕ → Bool
@@ -46,14 +47,14 @@ module _ (t : Table) (was : List ℕ) where
   ownChecks (suc zero) x k = refuseIf 18 (not (has (zpOf was x) k)) ∷ []
   ownChecks (suc (suc kind)) x k = refuseIf 18 (not (has (zcOf was x) k)) ∷ []
 
-  abbrev pub takenBy : ℕ → ℕ → ℕ → ℕ
-  takenBy zero x c = 0
-  takenBy (suc kind) x k = takers t was x k (t .sizes .agents)
+  abbrev pub tallyOf : ℕ → ℕ → ℕ → Tally
+  tallyOf zero x c = noTally
+  tallyOf (suc kind) x k = offerTally t was x k true (t .sizes .agents)
 
   abbrev pub after : ℕ → ℕ → ℕ → List ℕ
   after zero x c = acted t was x (chosen t was x c)
-  after (suc zero) x k = propagated t was x k (t .sizes .agents)
-  after (suc (suc kind)) x k = confirmed t was x k (t .sizes .agents)
+  after (suc zero) x k = sent t was x k true false (t .sizes .agents)
+  after (suc (suc kind)) x k = sent t was x k true true (t .sizes .agents)
 
   abbrev pub stepChecks : ℕ → ℕ → ℕ → List Refusal
   stepChecks kind x number = refuseIf 10 (outOfRange t kind x number) ∷ ownChecks kind x number
@@ -62,12 +63,12 @@ module _ (t : Table) (was : List ℕ) where
   unfoldable pub stepIn : ℕ → ℕ → ℕ → Outcome
   stepIn kind x number =
       outcome (firstOf (stepChecks kind x number)) was
-      (takenBy kind x number) (after kind x number)
+      (tallyOf kind x number) (after kind x number)
 
 -- 9: the state is not well formed
 abbrev pub stateChecks : List ℕ → List ℕ → ℕ → List Refusal
 stateChecks bytes was scratchLength =
-    tableChecks bytes (length was) scratchLength ++ (refuseIf 9 (not (wellFormed (tableOf bytes) was)) ∷ [])
+    tableChecks bytes (isWhole was) scratchLength ++ (refuseIf 9 (not (wellFormed (tableOf bytes) was)) ∷ [])
 
 unfoldable pub stepOf : List ℕ → List ℕ → ℕ → ℕ → ℕ → ℕ → Outcome
 stepOf bytes was scratchLength kind x number =

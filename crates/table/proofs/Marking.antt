@@ -3,13 +3,14 @@
 use Prim.Native.Nat.{ℕ, _<_, _≤_}
 use mathlib.Core.Bool.{Bool, true, false, cond, not, _&&_, _||_, or-false, or-true}
 use mathlib.Core.Path.{_≡_, refl, sym, ap, _∙_}
-use mathlib.Core.List.{List}
+use mathlib.Core.List.{List, _++_}
 use native.Mathlib.Omega.{arith}
 use lib.Dec.{eqb}
-use lib.ListN.{length, getD, set, length-set}
+use lib.ListN.{length, getD, set, replicate, length-set, length-append, length-replicate, List·getD-append}
 use lib.Seq.{getD-set-same, getD-set-other}
 use borrow.Author.Tests.{eqb-true, eqb-false}
 use Rattle.basis.proofs.Tests.{and-right}
+use Rattle.basis.proofs.Lists.{getD-row}
 use Rattle.table.specs.declared.Fields.{Fields}
 use Rattle.table.specs.declared.Look.{Look}
 use Rattle.table.specs.Tables.{Table, pAt, qAt}
@@ -52,6 +53,14 @@ shows-marked marks n test true x h l m k = by (eqb x m) refl
     by : (b : Bool) → eqb x m ≡ b → getD (set marks x 1) m 0 ≡ word (test m || b)
     by true e = rw (← eqb-true x m e) (getD-set-same marks x 1 0 (l refl) ∙ ap word (sym (or-true (test x))))
     by false e = getD-set-other marks x m 1 0 (λ (d : m ≡ x). eqb-false x m e (sym d)) ∙ h m k ∙ ap word (sym (or-false (test m)))
+
+-- no mark among words that begin with n cleared ones
+pub shows-none : {out : List ℕ} {n : ℕ} (rest : List ℕ) → out ≡ replicate n 0 → (n ≤ length (out ++ rest)) × Shows (out ++ rest) n (λ (m : ℕ). false)
+shows-none {n = n} rest e =
+    rw e (
+      omega (arith, length-append (replicate n 0) rest, length-replicate {A = ℕ} n 0),
+      (λ m l. List·getD-append (replicate n 0) rest 0 m (omega (arith, length-replicate {A = ℕ} n 0)) ∙ getD-row n m 0),
+    )
 
 -- what a mark tells
 pub shows-is : (marks : List ℕ) (n : ℕ) (test : ℕ → Bool) (x : ℕ) → Shows marks n test → x < n → isMarked marks x ≡ test x

@@ -4,7 +4,7 @@ use mathlib.Core.Path.{_≡_}
 use mathlib.Core.Bool.{true, false}
 use lib.ListN.{length}
 use Rattle.table.specs.declared.Sizes.{Sizes}
-use Rattle.table.specs.Tables.{Table, agentLimit, kindAt, rootsOf}
+use Rattle.table.specs.Tables.{Table, agentLimit, keyLimit, kindAt, rootsOf}
 use Rattle.table.specs.Nodes.{isProcess, isGuard, isExpression, badNode}
 use Rattle.table.specs.Reach.{wrongKey}
 
@@ -14,9 +14,9 @@ pub record Limits (n : Sizes) : Type 0 where
   pub definitions : n .definitions ≤ 64
   pub some-agent : 1 ≤ n .agents
   pub agents : n .agents ≤ agentLimit
-  pub attributes : n .attributes ≤ 16
-  pub stigmergy : n .stigmergy ≤ 16
-  pub environment : n .environment ≤ 16
+  pub attributes : n .attributes ≤ keyLimit
+  pub stigmergy : n .stigmergy ≤ keyLimit
+  pub environment : n .environment ≤ keyLimit
   pub roots : rootsOf n ≤ n .nodes
 
 -- 1 to 3 have passed

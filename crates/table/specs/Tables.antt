@@ -14,6 +14,10 @@ headerBytes = 12
 abbrev pub agentLimit : ℕ
 agentLimit = 32
 
+-- keys of a store: attributes, stigmergy, environment
+abbrev pub keyLimit : ℕ
+keyLimit = 16
+
 -- N, D, A, I, S, V
 abbrev pub sizesOf : List ℕ → Sizes
 sizesOf bytes =
@@ -36,7 +40,7 @@ withinLimits n =
     leb 1 (n .nodes) && (leb (n .nodes) 4096
     && (leb (n .definitions) 64
     && (leb 1 (n .agents) && (leb (n .agents) agentLimit
-    && (leb (n .attributes) 16 && (leb (n .stigmergy) 16 && (leb (n .environment) 16
+    && (leb (n .attributes) keyLimit && (leb (n .stigmergy) keyLimit && (leb (n .environment) keyLimit
     && leb (rootsOf n) (n .nodes))))))))
 
 pub record Table : Type 0 where

@@ -10,9 +10,9 @@ ghost use Rattle.table.specs.Sound.{Shaped};
 ghost use Rattle.table.specs.Marks.{Shows};
 use super::Sizes;
 use super::kinds::first_root;
-use super::marks::clear;
 use super::marks::mark_both;
 use super::nodes::look_at;
+use basis::words::clear;
 
 // The lowest bad node, if nothing is marked before.
 fn first_bad(sizes: Sizes, kinds: &[u8], operands: &[u8], marks: &mut [u32]) -> usize
@@ -43,6 +43,6 @@ pub fn lowest_bad(sizes: Sizes, kinds: &[u8], operands: &[u8], scratch: &mut [u3
     requires { ⌜ Shaped (table sizes (now kinds) (now operands)) × (sizes .nodes ≤ length (now scratch)) ⌝ }
     ensures { λ r. ⌜ r ≡ lowest (badNode (table sizes (now (kinds .entry)) (now (operands .entry)))) (sizes .nodes) ⌝ }
 {
-    clear(scratch, sizes.nodes);
+    clear(&mut scratch[..sizes.nodes], 0);
     first_bad(sizes, kinds, operands, scratch)
 }

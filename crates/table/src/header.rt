@@ -13,6 +13,9 @@ pub const HEADER_BYTES: usize = 12;
 // Agents that a fleet has at most.
 pub const AGENTS: usize = 32;
 
+// Keys that a store has at most.
+pub const KEYS: usize = 16;
+
 fn header(table: &[u8]) -> Sizes
     requires { ⌜ headerBytes ≤ length (now table) ⌝ }
     ensures { λ r. ⌜ Header (now (table .entry)) r ⌝ }
@@ -36,9 +39,9 @@ fn within(sizes: Sizes) -> bool
             & ((sizes.definitions <= 64)
                 & ((1 <= sizes.agents)
                     & ((sizes.agents <= AGENTS)
-                        & ((sizes.attributes <= 16)
-                            & ((sizes.stigmergy <= 16)
-                                & ((sizes.environment <= 16)
+                        & ((sizes.attributes <= KEYS)
+                            & ((sizes.stigmergy <= KEYS)
+                                & ((sizes.environment <= KEYS)
                                     & (sizes.definitions + sizes.stigmergy + sizes.agents
                                         <= sizes.nodes))))))))
 }

@@ -10,6 +10,7 @@ mod wrong;
 pub use bad::lowest_bad;
 pub use header::AGENTS;
 pub use header::HEADER_BYTES;
+pub use header::KEYS;
 pub use header::measure;
 pub use kinds::fields_here;
 pub use kinds::first_root;

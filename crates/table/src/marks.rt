@@ -1,9 +1,9 @@
 // Marks in lent words, one for each node: 1 where it is marked, 0 where it is not.
 ghost use mathlib.Core.Path.{_≡_};
-ghost use mathlib.Core.Bool.{true, false, cond};
-ghost use Prim.Native.Nat.{ℕ, _<_, _≤_};
+ghost use mathlib.Core.Bool.{true, cond};
+ghost use Prim.Native.Nat.{_<_};
 ghost use lib.ListN.{length};
-ghost use Rattle.table.specs.Marks.{Mark, TwoMarks, Shows};
+ghost use Rattle.table.specs.Marks.{Mark, TwoMarks};
 
 // Marks x, if asked to, and says whether it was marked.
 fn mark(marks: &mut [u32], on: bool, x: usize) -> bool
@@ -33,16 +33,4 @@ pub fn flag(on: bool) -> u32
     ensures { λ r. ⌜ r ≡ cond on 1 0 ⌝ }
 {
     if on { 1 } else { 0 }
-}
-
-// Takes the marks from the first n nodes.
-pub fn clear(marks: &mut [u32], n: usize)
-    requires { ⌜ n ≤ length (now marks) ⌝ }
-    ensures { λ _. ⌜ Shows (now (marks .exit)) n (λ (m : ℕ). false) ⌝ }
-{
-    let mut i = 0;
-    while i < n {
-        marks[i] = 0;
-        i += 1;
-    }
 }

@@ -8,7 +8,7 @@ use table::is_guard;
 use term::Label;
 ghost use mathlib.Core.Path.{_≡_};
 ghost use Prim.Native.Nat.{_≤_};
-ghost use lib.ListN.{length};
+ghost use lib.ListN.{length, take};
 ghost use Rattle.basis.specs.Numbers.{howMany};
 ghost use Rattle.table.specs.Tables.{table};
 ghost use Rattle.choice.specs.Marking.{WalkMarks};
@@ -65,10 +65,10 @@ pub fn print_last_choice(
     words: &mut [u32],
 )
     requires { ⌜ Prepared (table sizes (now kinds) (now operands)) (now scratch) ⌝ }
-    requires { ⌜ Whole (table sizes (now kinds) (now operands)) 1 (now words) ⌝ }
+    requires { ⌜ (1 ≤ length (now words)) × Whole (table sizes (now kinds) (now operands)) (take 1 (now words)) ⌝ }
     requires { ⌜ WalkMarks (table sizes (now kinds) (now operands)) (now marks) ⌝ }
 {
-    let found = count_choices(sizes, kinds, operands, scratch, words, 1);
+    let found = count_choices(sizes, scratch, &words[..1]);
     let few = found.few;
     if !few {
         return;
@@ -79,10 +79,10 @@ pub fn print_last_choice(
         return;
     }
     let c = count - 1;
-    let told = outcome(sizes, kinds, operands, scratch, words, 1, c);
+    let told = outcome(sizes, kinds, operands, scratch, &words[..1], c);
     let does = told.label;
     print_does(does);
-    collect(sizes, kinds, operands, scratch, marks, words, 1, c);
+    collect(sizes, kinds, operands, scratch, marks, &words[..1], c);
     print_number(marked_guards(kinds, marks) as u64);
     let size = told.size;
     print_number(size as u64);

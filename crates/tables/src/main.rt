@@ -41,7 +41,7 @@ fn print_start(sizes: Sizes, kinds: &[u8], operands: &[u8], scratch: &[u32])
 fn judge(bytes: &[u8], scratch: &mut [u32])
     ensures { λ _. ⌜ length (now (scratch .exit)) ≡ length (now (scratch .entry)) ⌝ }
 {
-    let answer = accept::accept(bytes, term::STATE_WORDS, scratch);
+    let answer = accept::accept(bytes, true, scratch);
     match answer {
         Acceptance::Accepted(sizes) => {
             io::write_all(OUTPUT, b"accepted");

@@ -1,7 +1,7 @@
 -- The checks pass exactly where the table is accepted; what may be relied on then.
 -- Assumes nothing.
 use Prim.Native.Nat.{ℕ, _+_, _*_, _<_, _≤_}
-use mathlib.Core.Bool.{true, false, not, _||_}
+use mathlib.Core.Bool.{Bool, true, false, not}
 use mathlib.Core.Logic.{⊎-elim}
 use mathlib.Core.Path.{_≡_, refl, ap, _∙_}
 use mathlib.Core.List.{List, [], _∷_, _++_}
@@ -21,7 +21,7 @@ use Rattle.table.proofs.Limits.{limits-within}
 use Rattle.table.proofs.Promises.{sound-table}
 use Rattle.term.specs.Processes.{idle, derivations, few, byKind, defined, nodeProcess}
 use Rattle.term.specs.Exposure.{badCall}
-use Rattle.term.specs.Acceptance.{stateWords, overfull, tableChecks}
+use Rattle.term.specs.Acceptance.{scratchWords, overfull, tableChecks}
 use Rattle.term.specs.Parts.{lentCheck, contentChecks}
 use Rattle.term.specs.Accepted.{Checked, Acceptable}
 use Rattle.term.proofs.Each.{Each}
@@ -36,7 +36,7 @@ passes-each : (rs : List Refusal) → Each (λ r. r .when ≡ false) rs → firs
 passes-each [] e = none-passes
 passes-each (r ∷ rs) e = first-both r rs (e .0) (passes-each rs (e .1))
 
-module _ (bytes : List ℕ) (stateLength scratchLength : ℕ) where
+module _ (bytes : List ℕ) (fits : Bool) (scratchLength : ℕ) where
   abbrev t : Table
   t = tableOf bytes
 
@@ -47,19 +47,19 @@ module _ (bytes : List ℕ) (stateLength scratchLength : ℕ) where
   D = sizesOf bytes .definitions
 
   -- the list by its parts, as the code goes through them
-  pub by-parts : tableChecks bytes stateLength scratchLength ≡ sizeChecks bytes ++ (lentCheck bytes stateLength scratchLength ∷ contentChecks (tableOf bytes))
+  pub by-parts : tableChecks bytes fits scratchLength ≡ sizeChecks bytes ++ (lentCheck bytes fits scratchLength ∷ contentChecks (tableOf bytes))
   by-parts = refl
 
-  pub passes-accepted : firstOf (tableChecks bytes stateLength scratchLength) ≡ passes → Acceptable bytes stateLength scratchLength
+  pub passes-accepted : firstOf (tableChecks bytes fits scratchLength) ≡ passes → Acceptable bytes fits scratchLength
   passes-accepted e =
-      let c = each-passes (tableChecks bytes stateLength scratchLength) e in
+      let c = each-passes (tableChecks bytes fits scratchLength) e in
       let limits = not-false (withinLimits (sizesOf bytes)) (c .1 .0) in
       let size = eqb-true (length bytes) (headerBytes + 5 * N) (not-false (eqb (length bytes) (headerBytes + 5 * N)) (c .1 .1 .0)) in
-      let lent = or-neither (not (eqb stateLength stateWords)) (ltb scratchLength (2 * N)) (c .1 .1 .1 .0) in
+      let lent = or-neither (not fits) (ltb scratchLength (scratchWords (sizesOf bytes))) (c .1 .1 .1 .0) in
       record {
         size = size;
-        state = eqb-true stateLength stateWords (not-false (eqb stateLength stateWords) (lent .0));
-        scratch = ltb-false scratchLength (2 * N) (lent .1);
+        fit = not-false fits (lent .0);
+        scratch = ltb-false scratchLength (scratchWords (sizesOf bytes)) (lent .1);
         table =
             record {
               sound = sound-table bytes limits size (c .1 .1 .1 .1 .0) (c .1 .1 .1 .1 .1 .0);
@@ -68,17 +68,17 @@ module _ (bytes : List ℕ) (stateLength scratchLength : ℕ) where
             };
       }
 
-  pub accepted-passes : Acceptable bytes stateLength scratchLength → firstOf (tableChecks bytes stateLength scratchLength) ≡ passes
+  pub accepted-passes : Acceptable bytes fits scratchLength → firstOf (tableChecks bytes fits scratchLength) ≡ passes
   accepted-passes a =
       let s : Sound t = a .table .sound in
-      passes-each (tableChecks bytes stateLength scratchLength) (
+      passes-each (tableChecks bytes fits scratchLength) (
         le-ltb (length bytes) headerBytes (omega (arith, a .size)),
         (
           ap not (limits-within (sizesOf bytes) (s .shaped .limits)),
           (
             ap not (eq-eqb (length bytes) (headerBytes + 5 * N) (a .size)),
             (
-              rw (eq-eqb stateLength stateWords (a .state), le-ltb scratchLength (2 * N) (a .scratch)),
+              rw (a .fit, le-ltb scratchLength (scratchWords (sizesOf bytes)) (a .scratch)),
               (
                 passes-lowest N (badNode t) (s .nodes),
                 (

@@ -1,6 +1,6 @@
 -- What the checks of a table leave, as facts.
 use Prim.Native.Nat.{ℕ, _+_, _*_, _<_, _≤_}
-use mathlib.Core.Bool.{false}
+use mathlib.Core.Bool.{Bool, true, false}
 use mathlib.Core.Path.{_≡_}
 use mathlib.Core.List.{List}
 use lib.ListN.{length}
@@ -11,7 +11,7 @@ use Rattle.term.specs.declared.Label.{Label}
 use Rattle.term.specs.declared.Label.the-variants.{Ticking, Acting}
 use Rattle.term.specs.Terms.{Term, Seq, Par, Tick, Idle, Node}
 use Rattle.term.specs.Exposure.{badCall}
-use Rattle.term.specs.Acceptance.{stateWords, overfull}
+use Rattle.term.specs.Acceptance.{scratchWords, overfull}
 
 -- 6 has passed: each exposed call names a lower definition
 abbrev pub CallsLower : Table → Type 0
@@ -24,10 +24,10 @@ pub record Checked (t : Table) : Type 0 where
   pub nodes : (n : ℕ) → n < t .sizes .nodes → overfull t n ≡ false
 
 -- of the lengths too: 1 to 8 have passed
-pub record Acceptable (bytes : List ℕ) (stateLength scratchLength : ℕ) : Type 0 where
+pub record Acceptable (bytes : List ℕ) (fits : Bool) (scratchLength : ℕ) : Type 0 where
   pub size : length bytes ≡ headerBytes + 5 * sizesOf bytes .nodes
-  pub state : stateLength ≡ stateWords
-  pub scratch : 2 * sizesOf bytes .nodes ≤ scratchLength
+  pub fit : fits ≡ true
+  pub scratch : scratchWords (sizesOf bytes) ≤ scratchLength
   pub table : Checked (tableOf bytes)
 
 -- a term over the table's process nodes

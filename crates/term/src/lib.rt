@@ -13,9 +13,6 @@ pub enum Label {
     Acting(usize),
 }
 
-// Words of a state.
-pub const STATE_WORDS: usize = 4194;
-
 // Derivations that a process may have at most.
 pub const DERIVATIONS: u64 = 65535;
 

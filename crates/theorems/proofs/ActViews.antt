@@ -6,7 +6,6 @@ use mathlib.Core.Path.{_≡_, refl, sym, ap, _∙_}
 use mathlib.Core.Logic.{⊎-elim}
 use mathlib.Core.List.{List}
 use lib.Dec.{eqb}
-use lib.ListN.{length}
 use borrow.Author.Tests.{eqb-true, eq-eqb, ne-eqb}
 use Rattle.basis.specs.KeySets.{has, plus}
 use Rattle.basis.proofs.KeySets.{has-plus}
@@ -17,35 +16,37 @@ use Rattle.term.specs.declared.Label.{Label}
 use Rattle.term.specs.declared.Label.the-variants.{Ticking, Acting}
 use Rattle.term.specs.Processes.{Derivation}
 use Rattle.term.specs.Accepted.{ActionNode, Labelled}
-use Rattle.term.specs.Acceptance.{stateWords}
 use Rattle.state.specs.declared.Store.{Store}
 use Rattle.state.specs.declared.Store.the-variants.{Entries}
+use Rattle.state.specs.declared.Entry.{Entry}
 use Rattle.state.specs.Layout.{keyLimit, wordOf, stampOf, zpOf}
+use Rattle.state.specs.Entries.{nextStamp, newer}
+use Rattle.state.specs.Standing.{HasBlocks}
 use Rattle.state.proofs.Places.{Place, Zp, Mark, Word, Waits, Inside, placeKind, same, same-not}
 use Rattle.state.proofs.Frames.{wordAt, SameAt, put-other}
-use Rattle.steps.specs.Acts.{nextStamp, wordIn, valueFor, storeOf, setKey, acted}
+use Rattle.steps.specs.Acts.{wordIn, valueFor, storeOf, setKey, acted}
 use Rattle.steps.proofs.Acts.{set-tick, set-value, store-other, entry-word, acted-other}
-use Rattle.theorems.proofs.Views.{Pair, newer, seen, links, pair-same, pick-pair, Shows, shows-same, shows-itself}
+use Rattle.theorems.proofs.Views.{seen, links, same-entry, pick-entry, Shows, shows-same, shows-itself}
 
 -- an act of agent x, seen from key j
 module _ (t : Table) (s : List ℕ) (x j : ℕ) where
   -- the write of node n
-  abbrev pub written : ℕ → Move Pair
+  abbrev pub written : ℕ → Move Entry
   written n = write x (record { value = wordIn (valueFor t s x n); stamp = nextStamp s })
 
-  abbrev pub actMove : Label → Move Pair
+  abbrev pub actMove : Label → Move Entry
   actMove Ticking = quiet
   actMove (Acting n) = cond (eqb (kindAt t n) 3) (cond (eqb (pAt t n) j) (written n) quiet) quiet
 
-  module _ (whole : length s ≡ stateWords) (there : x < 32) (low : j < keyLimit) where
+  module _ (room : HasBlocks s) (there : x < 32) (low : j < keyLimit) where
     -- a stigmergy write
     write-shows : (n : ℕ) → kindAt t n ≡ 3 → pAt t n < keyLimit → (a : ℕ)
         → Shows (setKey t s x (Acting n)) j (moved newer (links t s j) (cond (eqb (pAt t n) j) (written n) quiet) (seen s j)) a
     unfolding moved
     write-shows n e key a =
-        let after = entry-word t s x n whole there e key in
+        let after = entry-word t s x n room there e key in
         record {
-          entry = pair-same (after (Word (Entries a) j) low) (after (Mark (Entries a) j) low) ∙ rw (eqb-swap j k, eqb-swap a x) (entry (eqb k j));
+          entry = same-entry (after (Word (Entries a) j) low) (after (Mark (Entries a) j) low) ∙ rw (eqb-swap j k, eqb-swap a x) (entry (eqb k j));
           waits = ap (λ (w : ℕ). has w j) (after (Waits Zp a) tt) ∙ rw (eqb-swap a x) (gained (eqb x a) refl) ∙ waits (eqb k j);
         }
       where
@@ -57,7 +58,7 @@ module _ (t : Table) (s : List ℕ) (x j : ℕ) where
 
         entry : (b : Bool) → record { value = cond (b && eqb x a) v (wordOf s (Entries a) j); stamp = cond (b && eqb x a) (nextStamp s) (stampOf s a j) }
             ≡ moved newer (links t s j) (cond b (written n) quiet) (seen s j) .entry a
-        entry true = pick-pair (eqb x a) _ _ _ _
+        entry true = pick-entry (eqb x a) _ _ _ _
         entry false = refl
 
         gained : (b : Bool) → eqb x a ≡ b → has (cond b (plus (zpOf s x) k) (zpOf s a)) j ≡ ((eqb k j && b) || has (zpOf s a) j)

@@ -23,21 +23,21 @@ use Rattle.term.specs.declared.Label.the-variants.{Ticking, Acting}
 use Rattle.term.specs.Terms.{Term, Idle, words}
 use Rattle.term.specs.Processes.{Derivation, derivation, allFew}
 use Rattle.term.specs.Accepted.{ActionNode, Labelled}
-use Rattle.term.specs.Acceptance.{stateWords}
 use Rattle.term.specs.Accepted.{Checked}
 use Rattle.term.proofs.Words.{Low, over-low}
 use Rattle.term.proofs.Inside.{Inside as InsideTable, derivation-inside}
 use Rattle.state.specs.declared.Store.{Store}
 use Rattle.state.specs.declared.Store.the-variants.{Environment, Attributes, Entries}
-use Rattle.state.specs.Layout.{clockAt, zcAt, zpAt, keyLimit, residualWords, clockOf, zcOf, zpOf, termIn, put, addKey}
+use Rattle.state.specs.Layout.{clockAt, zpAt, keyLimit, residualWords, zcOf, zpOf, termIn, put, addKey}
+use Rattle.state.specs.Entries.{clockOf, nextStamp}
+use Rattle.state.specs.Standing.{HasBlocks}
 use Rattle.state.proofs.Places.{Place, Zc, Zp, Clock, Mark, Word, Waits, Length, Residual, Inside, placeKind, storeKind, storeAgent, same, same-not}
 use Rattle.state.proofs.Places.{placeAgent as ownerOf}
 use Rattle.state.proofs.Frames.{SameAt, set-other, set-here, value-same, term-same, put-length, put-other, put-valueIn, add-length, add-other}
 use Rattle.state.proofs.Formed.{WellFormed}
-use Rattle.steps.specs.Acts.{isAbsent, wordIn, nextStamp, allHold, valueFor, lacksValue, writesEntry, choices, chosen, toConfirm, storeOf, setKey, acted}
-use Rattle.steps.proofs.Leave.{leave-term, leave-other}
+use Rattle.steps.specs.Acts.{isAbsent, wordIn, allHold, valueFor, lacksValue, writesEntry, choices, chosen, toConfirm, storeOf, setKey, acted}
 use Rattle.steps.proofs.Steps.{Able}
-use Rattle.steps.proofs.Acts.{action-key, store-attribute, store-environment, set-tick, set-value, set-entry, set-length, acted-length, acted-other}
+use Rattle.steps.proofs.Acts.{action-key, store-attribute, store-environment, set-tick, set-value, set-entry, set-length, acted-length, acted-other, acted-zc, acted-term}
 use Rattle.labs.specs.Agents.{⟨_⸴_⸴_⸴_⸴_⟩, Agent, Interface, Keys, System, _⟦_≔_⟧, _∪｛_｝, _∪_}
 use Rattle.labs.specs.Expressions.{Expr, E⟦_⟧_⇓_, exprOf}
 use Rattle.labs.specs.Processes.{Variable, attribute, stigmergy, environment}
@@ -67,14 +67,14 @@ here j k a =
     same-test (eqb j k && eqb a a) (eqb k j) (λ e. eq-eqb k j (sym (eqb-true j k (and-left (eqb j k) (eqb a a) e))))
     (λ e. and-both (eqb j k) (eqb a a) (eq-eqb j k (sym (eqb-true k j e))) (eq-eqb a a refl))
 
-module _ (k v : ℕ) (s : List ℕ) (key : k < keyLimit) (whole : length s ≡ stateWords) where
+module _ (k v : ℕ) (s : List ℕ) (key : k < keyLimit) (room : HasBlocks s) where
   put-environment : systemOf (put Environment k v 1 s) .E ≡ (systemOf s .E ⟦ k ≔ Present v ⟧)
-  put-environment = fun-ext λ j. put-valueIn Environment k v 1 s key whole (omega arith) (omega arith) Environment j ∙ ap (λ (b : Bool). cond b (Present v) (systemOf s .E j)) (here j k 0)
+  put-environment = fun-ext λ j. put-valueIn Environment k v 1 s key room (omega arith) (omega arith) Environment j ∙ ap (λ (b : Bool). cond b (Present v) (systemOf s .E j)) (here j k 0)
 
   put-attribute : (x : ℕ) → x < 32
       → agentOf (put (Attributes x) k v 1 s) x ≡ ⟨ agentOf s x .I ⟦ k ≔ Present v ⟧ ⸴ agentOf s x .L ⸴ agentOf s x .P ⸴ agentOf s x .Zc ⸴ agentOf s x .Zp ⟩
   put-attribute x there = tuple
-      (fun-ext λ j. put-valueIn (Attributes x) k v 1 s key whole there (omega arith) (Attributes x) j ∙ ap (λ (b : Bool). cond b (Present v) (agentOf s x .I j)) (here j k x))
+      (fun-ext λ j. put-valueIn (Attributes x) k v 1 s key room there (omega arith) (Attributes x) j ∙ ap (λ (b : Bool). cond b (Present v) (agentOf s x .I j)) (here j k x))
       (L-same after s x (λ j l. other (Mark (Entries x) j) l (rw and-false) refl) (λ j l. other (Word (Entries x) j) l refl (rw and-false)))
       (term-same after s x (put-length (Attributes x) k v 1 s) (other (Length x) tt refl refl) (λ i l. other (Residual x i) l refl refl))
       (Zc-same after s x (other (Waits Zc x) tt refl refl))
@@ -87,7 +87,7 @@ module _ (k v : ℕ) (s : List ℕ) (key : k < keyLimit) (whole : length s ≡ s
       other = put-other (Attributes x) k v 1 s key
 
 -- AFTER THE KEY IS SET: Zc and the residual
-module _ (t : Table) (s : List ℕ) (x : ℕ) (d : Derivation) (whole : length s ≡ stateWords) (there : x < 32) where
+module _ (t : Table) (s : List ℕ) (x : ℕ) (d : Derivation) (room : HasBlocks s) (there : x < 32) where
   abbrev keySet : List ℕ
   keySet = setKey t s x (d .label)
 
@@ -97,21 +97,8 @@ module _ (t : Table) (s : List ℕ) (x : ℕ) (d : Derivation) (whole : length s
   abbrev gains : ℕ
   gains = plusAll (toConfirm t s x d) keyLimit (zcOf keySet x)
 
-  key-whole : length keySet ≡ stateWords
-  key-whole = set-length t s x (d .label) ∙ whole
-
   long : length final ≡ length keySet
   long = acted-length t s x d ∙ sym (set-length t s x (d .label))
-
-  final-term : Low (d .leaving) → length (words (d .leaving)) ≤ residualWords → termIn final x ≡ d .leaving
-  unfolding acted
-  final-term low short = leave-term x (d .leaving) (set keySet (zcAt x) gains) (length-set keySet (zcAt x) gains ∙ key-whole) there low short
-
-  final-zc : zcOf final x ≡ gains
-  unfolding acted
-  final-zc =
-      leave-other x (words (d .leaving)) (set keySet (zcAt x) gains) (Waits Zc x) tt refl (λ i l. refl)
-      ∙ set-here keySet (Waits Zc x) gains tt key-whole there
 
   -- what is the agent's own but neither Zc nor residual, and all that is not the agent's
   final-other : (q : Place) → Inside q → same q (Waits Zc x) ≡ false → same q (Length x) ≡ false → ((i : ℕ) → same q (Residual x i) ≡ false) → SameAt final keySet q
@@ -122,8 +109,8 @@ module _ (t : Table) (s : List ℕ) (x : ℕ) (d : Derivation) (whole : length s
   final-agent low short = tuple
       (I-same final keySet x (λ k l. final-other (Mark (Attributes x) k) l refl refl (λ i. refl)) (λ k l. final-other (Word (Attributes x) k) l refl refl (λ i. refl)))
       (L-same final keySet x (λ k l. final-other (Mark (Entries x) k) l refl refl (λ i. refl)) (λ k l. final-other (Word (Entries x) k) l refl refl (λ i. refl)))
-      (final-term low short)
-      (ap (λ (w : ℕ). λ (k : ℕ). has w k) final-zc)
+      (acted-term t s x d room there low short)
+      (ap (λ (w : ℕ). λ (k : ℕ). has w k) (acted-zc t s x d room there))
       (Zp-same final keySet x (final-other (Waits Zp x) tt refl refl (λ i. refl)))
 
   final-others : (y : ℕ) → (y ≡ x → ⊥) → agentOf final y ≡ agentOf keySet y
@@ -197,7 +184,7 @@ present-value (Present v) e = refl
 clock-agents : (s : List ℕ) (m y : ℕ) → agentOf (set s clockAt m) y ≡ agentOf s y
 clock-agents s m y = agent-same (set s clockAt m) s y (length-set s clockAt m) (λ p h k o. set-other s Clock m tt p h (apart p Clock y k o (λ l f. omega arith)))
 
-module _ (t : Table) (ok : Checked t) (s : List ℕ) (narrow : Narrow t s) (whole : length s ≡ stateWords) (formed : WellFormed t s) (x : ℕ) (is : x < t .sizes .agents) where
+module _ (t : Table) (ok : Checked t) (s : List ℕ) (narrow : Narrow t s) (room : HasBlocks s) (formed : WellFormed t s) (x : ℕ) (is : x < t .sizes .agents) where
   there : x < 32
   there = omega (arith, ok .sound .shaped .limits .agents)
 
@@ -244,16 +231,16 @@ module _ (t : Table) (ok : Checked t) (s : List ℕ) (narrow : Narrow t s) (whol
         → Acts t (systemOf s .E) (clockOf s) me d E₁ T₁ ⟨ b .I ⸴ b .L ⸴ T ⸴ (b .Zc ∪ known me (labelKeys t (Acting n))) ∪ known me (guardKeys t g) ⸴ b .Zp ⟩
         → Acted t (t .sizes .agents) x d (systemOf s) (systemOf (acted t s x d))
     finish u e E₁ T₁ b own others environs clocks =
-        finished t s x d whole there ok (inside d (r .moves)) short (t .sizes .agents) is E₁ T₁ b (ap (λ (w : List ℕ). agentOf w x) e ∙ own)
+        finished t s x d room there ok (inside d (r .moves)) short (t .sizes .agents) is E₁ T₁ b (ap (λ (w : List ℕ). agentOf w x) e ∙ own)
         (λ y o. ap (λ (w : List ℕ). agentOf w y) e ∙ others y o) (ap (λ (w : List ℕ). systemOf w .E) e ∙ environs) (ap (λ (w : List ℕ). clockOf w) e ∙ clocks)
 
     done-attribute : kindAt t n ≡ 2 → Done
     done-attribute k =
         finish (put (Attributes x) p v 1 s) (set-value t s x n (λ h. omega arith) ∙ ap (λ (store : Store). put store p v 1 s) (store-attribute t x n k))
         (systemOf s .E) (clockOf s) ⟨ me .I ⟦ p ≔ Present v ⟧ ⸴ me .L ⸴ me .P ⸴ me .Zc ⸴ me .Zp ⟩
-        (put-attribute p v s key whole x there)
+        (put-attribute p v s key room x there)
         (λ y o. put-agents (Attributes x) p v 1 s key y (λ l f. o (sym f)))
-        (fun-ext λ j. put-valueIn (Attributes x) p v 1 s key whole there (omega arith) Environment j ∙ rw and-false)
+        (fun-ext λ j. put-valueIn (Attributes x) p v 1 s key room there (omega arith) Environment j ∙ rw and-false)
         (put-other (Attributes x) p v 1 s key Clock tt refl refl)
         (EVAL-I v (ATTR (r .moves .1) (attribute-action t n k) is-settled) await value-is)
 
@@ -263,7 +250,7 @@ module _ (t : Table) (ok : Checked t) (s : List ℕ) (narrow : Narrow t s) (whol
         (systemOf s .E ⟦ p ≔ Present v ⟧) (clockOf s) me
         (put-agents Environment p v 1 s key x (λ l f. omega arith))
         (λ y o. put-agents Environment p v 1 s key y (λ l f. omega arith))
-        (put-environment p v s key whole)
+        (put-environment p v s key room)
         (put-other Environment p v 1 s key Clock tt refl refl)
         (EVAL-E v (ENV (r .moves .1) (environment-action t n k) is-settled) await value-is)
 
@@ -271,14 +258,14 @@ module _ (t : Table) (ok : Checked t) (s : List ℕ) (narrow : Narrow t s) (whol
     done-stigmergy k =
         finish (set queued clockAt m) (set-entry t s x n k)
         (systemOf s .E) (suc (clockOf s)) ⟨ me .I ⸴ me .L ⟦ p ≔ some (entry v (suc (clockOf s))) ⟧ ⸴ me .P ⸴ me .Zc ⸴ me .Zp ∪｛ p ｝ ⟩
-        (clock-agents queued m x ∙ add-zp-agent x p entered entered-whole there
-        ∙ ap (λ (o : Agent). ⟨ o .I ⸴ o .L ⸴ o .P ⸴ o .Zc ⸴ o .Zp ∪｛ p ｝ ⟩) (put-agent x p v m s key whole there (omega arith))
+        (clock-agents queued m x ∙ add-zp-agent x p entered entered-room there
+        ∙ ap (λ (o : Agent). ⟨ o .I ⸴ o .L ⸴ o .P ⸴ o .Zc ⸴ o .Zp ∪｛ p ｝ ⟩) (put-agent x p v m s key room there (omega arith))
         ∙ ap (λ (i : ℕ). ⟨ me .I ⸴ me .L ⟦ p ≔ some (entry v i) ⟧ ⸴ me .P ⸴ me .Zc ⸴ me .Zp ∪｛ p ｝ ⟩) (add-one (clockOf s)))
         (λ y o. clock-agents queued m y
         ∙ agent-same queued entered y (add-length Zp x p entered) (λ q h b f. add-other Zp x p entered q h (apart q (Waits Zp x) y b f (λ l i. o (sym i))))
         ∙ put-agents (Entries x) p v m s key y (λ l f. o (sym f)))
         (fun-ext λ j. value-same (set queued clockAt m) s Environment j (λ l. stays (Mark Environment j) l refl refl (rw and-false) refl) (λ l. stays (Word Environment j) l refl refl refl (rw and-false)))
-        (set-here queued Clock m tt (add-length Zp x p entered ∙ entered-whole) (omega arith) ∙ add-one (clockOf s))
+        (set-here queued Clock m tt (omega (arith, add-length Zp x p entered, entered-room)) (omega arith) ∙ add-one (clockOf s))
         (EVAL-L v (LSTIG (r .moves .1) (stigmergy-action t n k) is-settled) await value-is
         (inserted (me .L) p (entry v (suc (clockOf s))) (λ f i. omega (arith, sym (ap timeIn i) ∙ entry-stamp s x p key, formed .formed .pairs (Entries x) is p key .bound))))
       where
@@ -291,8 +278,8 @@ module _ (t : Table) (ok : Checked t) (s : List ℕ) (narrow : Narrow t s) (whol
         queued : List ℕ
         queued = addKey (zpAt x) p entered
 
-        entered-whole : length entered ≡ stateWords
-        entered-whole = put-length (Entries x) p v m s ∙ whole
+        entered-room : HasBlocks entered
+        entered-room = omega (arith, put-length (Entries x) p v m s, room)
 
         stays : (q : Place) → Inside q → same q Clock ≡ false → same q (Waits Zp x) ≡ false → same q (Mark (Entries x) p) ≡ false → same q (Word (Entries x) p) ≡ false
             → SameAt (set queued clockAt m) s q
@@ -304,7 +291,7 @@ module _ (t : Table) (ok : Checked t) (s : List ℕ) (narrow : Narrow t s) (whol
   act-by Ticking g T r short =
       let d = derivation Ticking g T in
       let e = set-tick t s x in
-      finished t s x d whole there ok (inside d (r .moves)) short (t .sizes .agents) is (systemOf s .E) (clockOf s) me (ap (λ (u : List ℕ). agentOf u x) e)
+      finished t s x d room there ok (inside d (r .moves)) short (t .sizes .agents) is (systemOf s .E) (clockOf s) me (ap (λ (u : List ℕ). agentOf u x) e)
       (λ y o. ap (λ (u : List ℕ). agentOf u y) e) (ap (λ (u : List ℕ). systemOf u .E) e) (ap (λ (u : List ℕ). clockOf u) e)
       (EPSILON (SKIP (r .moves .1) (settled (r .confirmed) (r .propagated))) (guards-await t s narrow x g .0 (r .guards)))
   act-by (Acting n) g T r short = let w = node n g T r short in by (kindAt t n) refl (w .1) (w .2)
@@ -365,7 +352,7 @@ module _ (t : Table) (ok : Checked t) (s : List ℕ) (narrow : Narrow t s) (whol
       let entered = put (Entries x) (pAt t n) (wordIn (valueFor t s x n)) (nextStamp s) s in
       ap (λ (u : List ℕ). clockOf u) (set-entry t s x n k)
       ∙ set-here (addKey (zpAt x) (pAt t n) entered) Clock (nextStamp s) tt
-      (add-length Zp x (pAt t n) entered ∙ put-length (Entries x) (pAt t n) (wordIn (valueFor t s x n)) (nextStamp s) s ∙ whole) (omega arith)
+      (omega (arith, add-length Zp x (pAt t n) entered, put-length (Entries x) (pAt t n) (wordIn (valueFor t s x n)) (nextStamp s) s, room)) (omega arith)
       ∙ add-one (clockOf s)
 
   clock-other : (n : ℕ) → ActionNode t n → (kindAt t n ≡ 3 → ⊥) → clockOf (setKey t s x (Acting n)) ≡ clockOf s
@@ -421,7 +408,7 @@ module _ (t : Table) (ok : Checked t) (s : List ℕ) (narrow : Narrow t s) (whol
       fits : (r : Enabled t s x d) → (clockOf (acted t s x d) ≤ 65535) ↔ (writesEntry t (d .label) ≡ true → clockOf s < 65535)
       fits r =
           let f = clock-fits (d .label) (inside d (r .moves) .label) in
-          let i = final-clock t s x d whole there in
+          let i = final-clock t s x d room there in
           (λ h. f .0 (omega arith), λ h. let g = f .1 h in omega arith)
 
       allowed : Acted t A x d (systemOf s) S′ × (allFew t (termIn s x) ≡ true) × (S′ .clock ≤ 65535) × (length (words (d .leaving)) ≤ residualWords)

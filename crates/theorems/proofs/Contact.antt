@@ -15,14 +15,16 @@ use Rattle.agreement.proofs.Turns.{neighbours-map}
 use Rattle.agreement.proofs.Machine.{before-map}
 use Rattle.table.specs.Tables.{Table, tableOf}
 use Rattle.state.specs.declared.Store.the-variants.{Entries}
+use Rattle.state.specs.declared.Entry.{Entry}
 use Rattle.state.specs.Layout.{keyLimit, stampOf, zpOf}
+use Rattle.state.specs.Entries.{newer}
 use Rattle.state.specs.WellFormed.{loaded}
 use Rattle.state.proofs.Load.{loaded-mark}
 use Rattle.steps.proofs.Steps.{load-accepted}
 use Rattle.theorems.specs.Lists.{Step, next, stateAfter}
 use Rattle.theorems.specs.Demand3.{HeldBeforeSteps}
 use Rattle.theorems.specs.Contact.{HeldBeforePropagates, NewerWaits, Silent, Agree, InContact, Contact-since, Contact-load, Contact-holds}
-use Rattle.theorems.proofs.Views.{Pair, stampIn, newer}
+use Rattle.theorems.proofs.Views.{stampIn}
 use Rattle.theorems.proofs.Lists.{machine, after-list, view-there, entry-there, turn-propagates}
 
 is-true : (b : Bool) → T b → b ≡ true
@@ -42,12 +44,12 @@ module _ (bytes : List ℕ) where
   -- newer only while it waits: of words and of the view that they show
   module _ (s : List ℕ) (k a b : ℕ) (l : k < S) where
     to-view : NewerWaits s k a b → ViewNewerWaits newer (machine bytes .view s k) a b
-    to-view h = subst (λ (v : View Pair). ViewNewerWaits newer v a b) (sym (view-there bytes s k l)) (λ n. rw (h (ltb→lt (stampOf s b k) (stampOf s a k) n)) tt)
+    to-view h = subst (λ (v : View Entry). ViewNewerWaits newer v a b) (sym (view-there bytes s k l)) (λ n. rw (h (ltb→lt (stampOf s b k) (stampOf s a k) n)) tt)
 
     to-words : ViewNewerWaits newer (machine bytes .view s k) a b → NewerWaits s k a b
     to-words h n =
         is-true (has (zpOf s a) k)
-        (subst (λ (v : View Pair). ViewNewerWaits newer v a b) (view-there bytes s k l) h (lt→ltb (stampOf s b k) (stampOf s a k) n))
+        (subst (λ (v : View Entry). ViewNewerWaits newer v a b) (view-there bytes s k l) h (lt→ltb (stampOf s b k) (stampOf s a k) n))
 
   -- the links, of words and of the machine
   links-held : (s : List ℕ) (xs : List Step) (k a b : ℕ) → b < A → HeldBeforePropagates bytes s xs k a b → MachineHeld (machine bytes) s xs k a b
@@ -72,10 +74,10 @@ module _ (bytes : List ℕ) where
           → (a b : ℕ) → List·Memᴰ a l → List·Memᴰ b l → Agree (stateAfter bytes end) k a b
       chain k l h near silent a b m n =
           let e = sym (entry-there bytes end k a h) ∙ same ∙ entry-there bytes end k b h in
-          (ap stampIn e, ap (λ (p : Pair). p .value) e)
+          (ap stampIn e, ap (λ (p : Entry). p .value) e)
         where
           none : NoneWaits l (machine bytes .view (stateAfter bytes end) k)
-          none c i w = let z = subst (λ (v : View Pair). T (v .waits c)) (view-there bytes (stateAfter bytes end) k h) w in rw (silent c i .1) at z
+          none c i w = let z = subst (λ (v : View Entry). T (v .waits c)) (view-there bytes (stateAfter bytes end) k h) w in rw (silent c i .1) at z
 
           same : machine bytes .view (stateAfter bytes end) k .entry a ≡ machine bytes .view (stateAfter bytes end) k .entry b
           same = after-list bytes few end .agreement .chain before since refl k (after-list bytes few end .comparable k) l

@@ -1,7 +1,7 @@
 -- DEMAND 2: a step is done exactly when the rules and the limits allow it, and leaves what they give.
 -- Assumes nothing.
 use Prim.Native.Nat.{ℕ, zero, suc, _<_, _≤_}
-use mathlib.Core.Bool.{Bool, true, _&&_}
+use mathlib.Core.Bool.{Bool, true, false, _&&_}
 use mathlib.Core.Logic.{_↔_}
 use mathlib.Core.Path.{_≡_, refl, sym, ap, subst, _∙_}
 use mathlib.Core.List.{List, []}
@@ -20,14 +20,16 @@ use Rattle.term.specs.Processes.{Derivation, derivation, derivations, few, proc
 use Rattle.term.specs.Terms.{Term, Seq, Par, Tick, Idle, Node}
 use Rattle.state.specs.declared.Store.{Store}
 use Rattle.state.specs.declared.Store.the-variants.{Environment, Attributes, Entries}
-use Rattle.state.specs.Layout.{keyLimit, stampOf, termIn, valueIn}
+use Rattle.state.specs.Layout.{isWhole, keyLimit, stampOf, termIn, valueIn}
 use Rattle.state.specs.WellFormed.{Proper}
+use Rattle.state.specs.Standing.{HasBlocks}
 use Rattle.state.proofs.Places.{KeySet, Zc, Zp, Waits}
 use Rattle.state.proofs.Frames.{wordAt}
 use Rattle.state.proofs.Formed.{WellFormed, ProperFacts, There, proper-facts, facts-proper}
 use Rattle.state.proofs.Exact.{show-exact}
 use Rattle.steps.specs.Acts.{choices, chosen, acted}
-use Rattle.steps.specs.Steps.{Outcome, done, takenBy, after, ownChecks, stepOf}
+use Rattle.steps.specs.declared.Tally.{Tally}
+use Rattle.steps.specs.Steps.{Outcome, done, tallyOf, after, ownChecks, stepOf}
 use Rattle.steps.proofs.Steps.{InRange, Done, act-able, state-checks, step-in, done-step, step-done}
 use Rattle.steps.proofs.Proper.{step-checked}
 use Rattle.steps.proofs.Steps.{propagates as may-propagate, confirms as may-confirm}
@@ -41,7 +43,7 @@ use Rattle.theorems.proofs.Expressions.{Narrow, entry-value, link-holds
 use Rattle.theorems.proofs.Reading.{timeIn, entry-stamp}
 use Rattle.theorems.proofs.Ready.{ready-narrow, done-ready, load-ready, load-initial}
 use Rattle.theorems.proofs.Acting.{act-exactly}
-use Rattle.theorems.proofs.Offers.{propagated-passed, confirmed-passed, passed-propagated, passed-confirmed}
+use Rattle.theorems.proofs.Offers.{sent-passed, passed-sent}
 use Rattle.theorems.proofs.Run.{run-is}
 
 same-refl : {agents : ℕ} {S : System} → Same agents S S
@@ -89,7 +91,7 @@ module _ (bytes s : List ℕ) (scratch : ℕ) (ready : Ready bytes s scratch) wh
   abbrev A : ℕ
   A = t .sizes .agents
 
-  accepted : Acceptable bytes (length s) scratch
+  accepted : Acceptable bytes (isWhole s) scratch
   accepted = state-checks bytes s scratch .0 (ready .passed) .0
 
   checked : Checked t
@@ -100,6 +102,9 @@ module _ (bytes s : List ℕ) (scratch : ℕ) (ready : Ready bytes s scratch) wh
 
   formed : WellFormed t s
   formed = proper-facts t limits s (ready .state) .formed
+
+  room : HasBlocks s
+  room = omega (arith, ready .state .whole)
 
   narrow : Narrow t s
   narrow = ready-narrow bytes s (ready .small) (ready .state .small)
@@ -112,56 +117,56 @@ module _ (bytes s : List ℕ) (scratch : ℕ) (ready : Ready bytes s scratch) wh
 
   -- A DONE STEP IS ALLOWED
   after-allowed : (kind x number : ℕ) → Done bytes s scratch kind x number →
-      Allowed t (systemOf s) (systemOf (after t s kind x number)) kind x number (takenBy t s kind x number)
+      Allowed t (systemOf s) (systemOf (after t s kind x number)) kind x number (tallyOf t s kind x number)
   after-allowed zero x c d =
       let a = act-able t s x c .0 (d .own) in
       let e = nth-in (choices t s x) c (derivation Ticking [] Idle) (a .there) in
-      let p = act-exactly t checked s narrow (ready .state .whole) formed x (d .range .agent-below) c (chosen t s x c) e (systemOf (after t s zero x c)) .1 (a, same-refl) in
+      let p = act-exactly t checked s narrow room formed x (d .range .agent-below) c (chosen t s x c) e (systemOf (after t s zero x c)) .1 (a, same-refl) in
       act (p .0) e (λ P m. few-part t m (p .1)) (p .2) (p .3)
   after-allowed (suc zero) x k d =
       let l = d .range .key-below (omega arith) in
       let h = may-propagate t s x k .0 (d .own) in
-      propagate l (propagated-passed t limits s narrow x k A (ready .state .whole) (limits .agents) (d .range .agent-below) (key k l) (pending Zp x k (d .range .agent-below) l h) h)
+      propagate l (sent-passed t limits s narrow x k A room (limits .agents) (d .range .agent-below) (key k l) (pending Zp x k (d .range .agent-below) l h) false h)
   after-allowed (suc (suc zero)) x k d =
       let l = d .range .key-below (omega arith) in
       let h = may-confirm t s x k .0 (d .own) in
-      confirm l (confirmed-passed t limits s narrow x k A (ready .state .whole) (limits .agents) (d .range .agent-below) (key k l) (pending Zc x k (d .range .agent-below) l h) h)
+      confirm l (sent-passed t limits s narrow x k A room (limits .agents) (d .range .agent-below) (key k l) (pending Zc x k (d .range .agent-below) l h) true h)
   after-allowed (suc (suc (suc kind))) x k d = absurd (omega (arith, d .range .kind-below))
 
-  allowed : (s′ : List ℕ) (kind x number taken : ℕ) → stepOf bytes s scratch kind x number ≡ done taken s′ → Allowed t (systemOf s) (systemOf s′) kind x number taken
-  allowed s′ kind x number taken e =
+  allowed : (s′ : List ℕ) (kind x number : ℕ) (counted : Tally) → stepOf bytes s scratch kind x number ≡ done counted s′ → Allowed t (systemOf s) (systemOf s′) kind x number counted
+  allowed s′ kind x number counted e =
       let d = done-step bytes s scratch kind x number (ap (λ (o : Outcome). o .check) e) in
-      let f : done (takenBy t s kind x number) (after t s kind x number) ≡ done taken s′ = sym (step-done bytes s scratch kind x number d) ∙ e in
-      subst (λ (o : Outcome). Allowed t (systemOf s) (systemOf (o .state)) kind x number (o .taken)) f (after-allowed kind x number d)
+      let f : done (tallyOf t s kind x number) (after t s kind x number) ≡ done counted s′ = sym (step-done bytes s scratch kind x number d) ∙ e in
+      subst (λ (o : Outcome). Allowed t (systemOf s) (systemOf (o .state)) kind x number (o .tally)) f (after-allowed kind x number d)
 
   -- AND WHAT IS ALLOWED IS DONE
-  abbrev Made : ℕ → ℕ → ℕ → ℕ → System → Type 0
-  Made kind x number taken S′ = (s′ : List ℕ) × (stepOf bytes s scratch kind x number ≡ done taken s′) × Same A S′ (systemOf s′)
+  abbrev Made : ℕ → ℕ → ℕ → Tally → System → Type 0
+  Made kind x number counted S′ = (s′ : List ℕ) × (stepOf bytes s scratch kind x number ≡ done counted s′) × Same A S′ (systemOf s′)
 
-  made : (kind x number taken : ℕ) (S′ : System) → InRange t kind x number → firstOf (ownChecks t s kind x number) ≡ passes →
-      taken ≡ takenBy t s kind x number → Same A S′ (systemOf (after t s kind x number)) → Made kind x number taken S′
-  made kind x number taken S′ r o e h = (
+  made : (kind x number : ℕ) (counted : Tally) (S′ : System) → InRange t kind x number → firstOf (ownChecks t s kind x number) ≡ passes →
+      counted ≡ tallyOf t s kind x number → Same A S′ (systemOf (after t s kind x number)) → Made kind x number counted S′
+  made kind x number counted S′ r o e h = (
     after t s kind x number,
-    step-done bytes s scratch kind x number (record { accepted = accepted; formed = ready .state .formed; range = r; own = o })
-        ∙ ap (λ (n : ℕ). done n (after t s kind x number)) (sym e),
+    step-done bytes s scratch kind x number (record { accepted = accepted; whole = ready .state .whole; formed = ready .state .formed; range = r; own = o })
+        ∙ ap (λ (n : Tally). done n (after t s kind x number)) (sym e),
     h,
   )
 
   in-range : (kind x k : ℕ) → kind < 3 → x < A → k < t .sizes .stigmergy → InRange t kind x k
   in-range kind x k l h i = record { kind-below = l; agent-below = h; key-below = λ p. i }
 
-  every : (kind x number taken : ℕ) (S′ : System) → Allowed t (systemOf s) S′ kind x number taken → Made kind x number taken S′
-  every kind x number taken S′ (act {d = d} a e all-few clock short) =
-      let w = act-exactly t checked s narrow (ready .state .whole) formed x (a .there) number d e S′ .0 (a, few-all t (termIn s x) all-few, clock, short) in
+  every : (kind x number : ℕ) (counted : Tally) (S′ : System) → Allowed t (systemOf s) S′ kind x number counted → Made kind x number counted S′
+  every kind x number counted S′ (act {d = d} a e all-few clock short) =
+      let w = act-exactly t checked s narrow room formed x (a .there) number d e S′ .0 (a, few-all t (termIn s x) all-few, clock, short) in
       let i : d ≡ chosen t s x number = sym (nth-is (choices t s x) number (derivation Ticking [] Idle) d e .1) in
-      made 0 x number taken S′ (record { kind-below = omega arith; agent-below = a .there; key-below = λ h. absurd (omega arith) }) (act-able t s x number .1 (w .0)) refl
+      made 0 x number counted S′ (record { kind-below = omega arith; agent-below = a .there; key-below = λ h. absurd (omega arith) }) (act-able t s x number .1 (w .0)) refl
       (subst (λ (o : Derivation). Same A S′ (systemOf (acted t s x o))) i (w .1))
-  every kind x k taken S′ (propagate l p) =
-      let w = passed-propagated t limits s narrow x k A (ready .state .whole) (limits .agents) (key k l) (pending Zp x k (p .there) l) p in
-      made 1 x k taken S′ (in-range 1 x k (omega arith) (p .there) l) (may-propagate t s x k .1 (w .0)) (w .1) (w .2)
-  every kind x k taken S′ (confirm l p) =
-      let w = passed-confirmed t limits s narrow x k A (ready .state .whole) (limits .agents) (key k l) (pending Zc x k (p .there) l) p in
-      made 2 x k taken S′ (in-range 2 x k (omega arith) (p .there) l) (may-confirm t s x k .1 (w .0)) (w .1) (w .2)
+  every kind x k counted S′ (propagate l p) =
+      let w = passed-sent t limits s narrow x k A room (limits .agents) (key k l) false (pending Zp x k (p .there) l) p in
+      made 1 x k counted S′ (in-range 1 x k (omega arith) (p .there) l) (may-propagate t s x k .1 (w .0)) (w .1) (w .2)
+  every kind x k counted S′ (confirm l p) =
+      let w = passed-sent t limits s narrow x k A room (limits .agents) (key k l) true (pending Zc x k (p .there) l) p in
+      made 2 x k counted S′ (in-range 2 x k (omega arith) (p .there) l) (may-confirm t s x k .1 (w .0)) (w .1) (w .2)
 
   -- ONE STATE FOR A SYSTEM
   module _ (u v : List ℕ) (first : Proper t u) (second : Proper t v) (same : Same A (systemOf u) (systemOf v)) where
@@ -188,17 +193,17 @@ module _ (bytes s : List ℕ) (scratch : ℕ) (ready : Ready bytes s scratch) wh
         }) (first .whole) (second .whole)
 
   -- A DONE STEP LEAVES A WELL-FORMED STATE
-  kept : (s′ : List ℕ) (kind x number taken : ℕ) → stepOf bytes s scratch kind x number ≡ done taken s′ → Proper t s′
-  kept s′ kind x number taken e =
+  kept : (s′ : List ℕ) (kind x number : ℕ) (counted : Tally) → stepOf bytes s scratch kind x number ≡ done counted s′ → Proper t s′
+  kept s′ kind x number counted e =
       let f = ap (λ (o : Outcome). o .state) (sym (step-in bytes s scratch kind x number (ready .passed)) ∙ e) in
       facts-proper t limits s′ (subst (ProperFacts t) f (step-checked bytes (ready .small) s (ready .state .small) scratch (ready .passed) kind x number))
 
-  exactly : (s′ : List ℕ) (kind x number taken : ℕ) →
-      (stepOf bytes s scratch kind x number ≡ done taken s′) ↔ (Proper t s′ × Allowed t (systemOf s) (systemOf s′) kind x number taken)
-  exactly s′ kind x number taken = (
-    λ e. (kept s′ kind x number taken e, allowed s′ kind x number taken e),
-    λ h. let w = every kind x number taken (systemOf s′) (h .1) in
-        w .1 ∙ ap (done taken) (sym (one s′ (w .0) (h .0) (kept (w .0) kind x number taken (w .1)) (w .2))),
+  exactly : (s′ : List ℕ) (kind x number : ℕ) (counted : Tally) →
+      (stepOf bytes s scratch kind x number ≡ done counted s′) ↔ (Proper t s′ × Allowed t (systemOf s) (systemOf s′) kind x number counted)
+  exactly s′ kind x number counted = (
+    λ e. (kept s′ kind x number counted e, allowed s′ kind x number counted e),
+    λ h. let w = every kind x number counted (systemOf s′) (h .1) in
+        w .1 ∙ ap (done counted) (sym (one s′ (w .0) (h .0) (kept (w .0) kind x number counted (w .1)) (w .2))),
   )
 
 pub demand-2 : Demand-2
@@ -206,8 +211,8 @@ demand-2 = record {
   ready = done-ready;
   loads = λ bytes lent scratch small e. load-ready bytes lent scratch small e;
   begins = λ bytes lent scratch small e. load-initial bytes lent scratch small e;
-  exactly = λ bytes s s′ scratch kind x number taken r. exactly bytes s scratch r s′ kind x number taken;
-  every = λ bytes s scratch kind x number taken r S′ h. every bytes s scratch r kind x number taken S′ h;
+  exactly = λ bytes s s′ scratch kind x number counted r. exactly bytes s scratch r s′ kind x number counted;
+  every = λ bytes s scratch kind x number counted r S′ h. every bytes s scratch r kind x number counted S′ h;
   one = λ bytes s s′ scratch r state same. one bytes s scratch r s s′ (r .state) state same;
   link = λ bytes s scratch k x y r hk hx hy. link-holds (tableOf bytes) s (narrow bytes s scratch r) x y (limits bytes s scratch r) k;
   transitions = λ bytes s scratch x r l. trees-listed (tableOf bytes) (checked bytes s scratch r) (agentOf s x .P);

@@ -16,12 +16,15 @@ use Rattle.agreement.specs.Machine.{Before}
 use Rattle.table.specs.Checks.{Check, passes, passed}
 use Rattle.table.specs.Tables.{tableOf}
 use Rattle.table.proofs.Checks.{passed-passes}
+use Rattle.state.specs.Layout.{isWhole}
+use Rattle.state.specs.WellFormed.{Words}
 use Rattle.state.proofs.Formed.{proper-facts}
+use Rattle.steps.specs.declared.Tally.{Tally}
 use Rattle.steps.specs.Steps.{done, stepOf}
 use Rattle.steps.proofs.Steps.{state-checks}
 use Rattle.steps.proofs.Proper.{proper-passes}
 use Rattle.labs.specs.Reading.{systemOf}
-use Rattle.theorems.specs.Demand2.{Allowed, Bytes, Words, Ready}
+use Rattle.theorems.specs.Demand2.{Allowed, Bytes, Ready}
 use Rattle.theorems.specs.Lists.{Step, outcomeOf, next}
 use Rattle.theorems.proofs.Ready.{done-ready}
 use Rattle.theorems.proofs.Demand2.{demand-2}
@@ -33,13 +36,13 @@ small-bytes l e i =
     (λ (h : length l ≤ i). rw (List·getD-eq-default l 0 h) (omega arith)) (lt-or-le i (length l))
 
 module _ (bytes : List ℕ) where
-  pub done-allowed : (s s′ : List ℕ) (scratch kind x number taken : ℕ) → Ready bytes s scratch → stepOf bytes s scratch kind x number ≡ done taken s′ →
-      Ready bytes s′ scratch × Allowed (tableOf bytes) (systemOf s) (systemOf s′) kind x number taken
-  done-allowed s s′ scratch kind x number taken r e =
-      let w = demand-2 .exactly bytes s s′ scratch kind x number taken r .0 e in
+  pub done-allowed : (s s′ : List ℕ) (scratch kind x number : ℕ) (counted : Tally) → Ready bytes s scratch → stepOf bytes s scratch kind x number ≡ done counted s′ →
+      Ready bytes s′ scratch × Allowed (tableOf bytes) (systemOf s) (systemOf s′) kind x number counted
+  done-allowed s s′ scratch kind x number counted r e =
+      let w = demand-2 .exactly bytes s s′ scratch kind x number counted r .0 e in
       let a = state-checks bytes s scratch .0 (r .passed) .0 in
       let p = proper-facts (tableOf bytes) (a .table .sound .shaped .limits) s′ (w .0) in
-      (record { small = r .small; state = w .0; passed = proper-passes bytes (length s) scratch a s′ p }, w .1)
+      (record { small = r .small; state = w .0; passed = proper-passes bytes (isWhole s) scratch a s′ p }, w .1)
 
   -- every step of a list is done, each in the state that the one before left
   abbrev pub allDone : List ℕ → List Step → Bool
@@ -50,7 +53,7 @@ module _ (bytes : List ℕ) where
   abbrev pub DoneAllowed : List ℕ → Step → Type 0
   DoneAllowed s x =
       (outcomeOf bytes s x .check ≡ passes)
-      × Allowed (tableOf bytes) (systemOf s) (systemOf (next bytes s x)) (x .kind) (x .agent) (x .number) (outcomeOf bytes s x .taken)
+      × Allowed (tableOf bytes) (systemOf s) (systemOf (next bytes s x)) (x .kind) (x .agent) (x .number) (outcomeOf bytes s x .tally)
 
   pub all-allowed : Bytes bytes → (s : List ℕ) → Words s → (xs : List Step) → allDone s xs ≡ true → Before (next bytes) DoneAllowed s xs
   all-allowed small s narrow [] e = tt
@@ -58,8 +61,8 @@ module _ (bytes : List ℕ) where
       let b = passed (outcomeOf bytes s x .check) in
       let f = passed-passes (outcomeOf bytes s x .check) (and-left b (allDone (next bytes s x) xs) e) in
       let r = done-ready bytes s (x .scratch) (x .kind) (x .agent) (x .number) small narrow f in
-      let w = done-allowed s (next bytes s x) (x .scratch) (x .kind) (x .agent) (x .number) (outcomeOf bytes s x .taken) r (is-done s x f) in
+      let w = done-allowed s (next bytes s x) (x .scratch) (x .kind) (x .agent) (x .number) (outcomeOf bytes s x .tally) r (is-done s x f) in
       ((f, w .1), all-allowed small (next bytes s x) (w .0 .state .small) xs (and-right b (allDone (next bytes s x) xs) e))
     where
-      is-done : (s : List ℕ) (x : Step) → outcomeOf bytes s x .check ≡ passes → outcomeOf bytes s x ≡ done (outcomeOf bytes s x .taken) (next bytes s x)
-      is-done s x f = ap (λ (c : Check). record { check = c; taken = outcomeOf bytes s x .taken; state = next bytes s x }) f
+      is-done : (s : List ℕ) (x : Step) → outcomeOf bytes s x .check ≡ passes → outcomeOf bytes s x ≡ done (outcomeOf bytes s x .tally) (next bytes s x)
+      is-done s x f = ap (λ (c : Check). record { check = c; tally = outcomeOf bytes s x .tally; state = next bytes s x }) f

@@ -9,7 +9,6 @@ use mathlib.Core.Logic.{_⊎_, inl, inr, ⊎-elim, _↔_}
 use mathlib.Core.Option.{Option, none, some}
 use native.Mathlib.Omega.{arith}
 use lib.Dec.{eqb, ltb}
-use lib.ListN.{getD}
 use Rattle.basis.proofs.Below.{below-both}
 use Rattle.basis.proofs.Tests.{not-both, and-left, and-right, and-both, or-either, or-left, or-right, cond-both}
 use Rattle.value.specs.declared.Value.{Value}
@@ -23,6 +22,7 @@ use Rattle.state.specs.declared.Store.{Store}
 use Rattle.state.specs.declared.Store.the-variants.{Environment, Attributes, Entries}
 use Rattle.state.specs.Layout.{keyLimit, wordOf, stampOf, valueIn}
 use Rattle.state.specs.Evaluation.{valueStep, valueOf, truthStep, holds, linkHolds}
+use Rattle.state.specs.WellFormed.{Words}
 use Rattle.state.specs.Walks.{truthBelow}
 use Rattle.state.proofs.Evaluation.{SmallValue, valueIn-small}
 use Rattle.labs.specs.Agents.{Entry}
@@ -158,7 +158,7 @@ evaluates-none know =
 -- constants and words of 32 bits
 pub record Narrow (t : Table) (s : List ℕ) : Type 0 where
   pub constants : (n : ℕ) → constantAt t n < 2 ^ 32
-  pub words : (i : ℕ) → getD s i 0 < 2 ^ 32
+  pub words : Words s
 
 module _ (t : Table) (s : List ℕ) (narrow : Narrow t s) (x y : ℕ) where
   abbrev know : Knowledge

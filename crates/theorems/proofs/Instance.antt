@@ -1,26 +1,18 @@
 -- DEMAND 2 IS ABOUT SOMETHING: a table that is accepted, its loaded state, steps of each kind that are done and allowed, and one that is neither.
 -- Assumes nothing.
 use Prim.Native.Nat.{ℕ}
+use mathlib.Core.Bool.{true}
 use mathlib.Core.Path.{_≡_, refl, sym, ap, _∙_}
 use mathlib.Core.List.{List, [], _∷_}
 use native.Mathlib.Omega.{arith}
-use Rattle.basis.specs.Below.{below}
-use Rattle.basis.specs.Numbers.{someBelow, every, lowest, howMany, forEach}
-use Rattle.basis.specs.KeySets.{has, plus, minus, plusAll}
 use Rattle.table.specs.Checks.{firstOf, passes, refuses}
-use Rattle.table.specs.Tables.{tableOf, withinLimits}
-use Rattle.table.specs.Nodes.{processRows, guardRows, expressionRows, rowOf, fieldsHere, fits, fitting, named, namesAgain, badNode}
-use Rattle.table.specs.Reach.{reachStep, reachedFrom, wrongKey}
-use Rattle.term.specs.Terms.{words, termsOf, areTerms}
-use Rattle.term.specs.Processes.{keep, joins, derivations, nodeStep, nodeWith, defined, nodeProcess, process, allFew}
-use Rattle.term.specs.Exposure.{canTick, callsBelow}
-use Rattle.term.specs.Acceptance.{stateWords, tableChecks}
-use Rattle.state.specs.Layout.{valueIn, put, addKey, dropKey}
-use Rattle.state.specs.Evaluation.{valueStep, truthStep, readsStep}
-use Rattle.state.specs.WellFormed.{allZero, pairFormed, pendingFormed, residualFormed, agentFormed, wellFormed, loaded}
-use Rattle.steps.specs.Acts.{leave, setKey, acted}
-use Rattle.steps.specs.Offers.{takeEntry, linked, takes, holdsNewer, offer}
-use Rattle.steps.specs.Steps.{Outcome, done, outcome, stepIn, stepOf}
+use Rattle.table.specs.Tables.{tableOf}
+use Rattle.term.specs.Acceptance.{tableChecks}
+use Rattle.state.specs.WellFormed.{loaded}
+use Rattle.steps.specs.declared.Tally.{Tally}
+use Rattle.steps.specs.Tallies.{tally}
+use Rattle.steps.specs.Steps.{Outcome, done, stepOf}
+use Rattle.steps.proofs.Computing.{computing}
 use Rattle.labs.specs.Agents.{System}
 use Rattle.labs.specs.Reading.{systemOf}
 use Rattle.theorems.specs.Demand2.{Allowed, Bytes, Ready}
@@ -59,36 +51,36 @@ abbrev pub s₅ : List ℕ
 s₅ = stepped s₄ 2 1 0 .state
 
 -- by computing
-table-passes : firstOf (tableChecks fleet stateWords 16) ≡ passes
-unfolding below someBelow lowest firstOf withinLimits processRows guardRows expressionRows rowOf fieldsHere fits fitting named namesAgain badNode reachStep reachedFrom wrongKey keep joins derivations nodeStep nodeWith defined nodeProcess canTick callsBelow
+table-passes : firstOf (tableChecks fleet true 16) ≡ passes
+unfolding computing
 table-passes = refl
 
-steps-come : (stepped s₀ 0 0 0 ≡ done 0 s₁) × (stepped s₁ 1 0 0 ≡ done 1 s₂) × (stepped s₂ 1 1 0 ≡ done 0 s₃) × (stepped s₃ 0 1 0 ≡ done 0 s₄) × (stepped s₄ 2 1 0 ≡ done 0 s₅)
+steps-come : (stepped s₀ 0 0 0 ≡ done (tally 0) s₁) × (stepped s₁ 1 0 0 ≡ done (tally 1) s₂) × (stepped s₂ 1 1 0 ≡ done (tally 0) s₃) × (stepped s₃ 0 1 0 ≡ done (tally 0) s₄) × (stepped s₄ 2 1 0 ≡ done (tally 0) s₅)
     × (stepped s₀ 0 1 0 .check ≡ refuses 15 0)
-unfolding below someBelow every lowest howMany forEach has plus minus plusAll firstOf withinLimits processRows guardRows expressionRows rowOf fieldsHere fits fitting named namesAgain badNode reachStep reachedFrom wrongKey words termsOf areTerms keep joins derivations nodeStep nodeWith defined nodeProcess process allFew canTick callsBelow valueIn put addKey dropKey valueStep truthStep readsStep allZero pairFormed pendingFormed residualFormed agentFormed wellFormed loaded leave setKey acted takeEntry linked takes holdsNewer offer outcome stepIn stepOf
+unfolding computing
 steps-come = (refl, refl, refl, refl, refl, refl)
 
 fleet-small : Bytes fleet
-unfolding every
+unfolding computing
 fleet-small = small-bytes fleet refl
 
 pub fleet-ready : Ready fleet s₀ 16
 fleet-ready = loaded-ready fleet fleet-small 16 table-passes
 
-pub fleet-steps : Allowed (tableOf fleet) (systemOf s₀) (systemOf s₁) 0 0 0 0 × Allowed (tableOf fleet) (systemOf s₁) (systemOf s₂) 1 0 0 1
-    × Allowed (tableOf fleet) (systemOf s₂) (systemOf s₃) 1 1 0 0 × Allowed (tableOf fleet) (systemOf s₃) (systemOf s₄) 0 1 0 0
-    × Allowed (tableOf fleet) (systemOf s₄) (systemOf s₅) 2 1 0 0
+pub fleet-steps : Allowed (tableOf fleet) (systemOf s₀) (systemOf s₁) 0 0 0 (tally 0) × Allowed (tableOf fleet) (systemOf s₁) (systemOf s₂) 1 0 0 (tally 1)
+    × Allowed (tableOf fleet) (systemOf s₂) (systemOf s₃) 1 1 0 (tally 0) × Allowed (tableOf fleet) (systemOf s₃) (systemOf s₄) 0 1 0 (tally 0)
+    × Allowed (tableOf fleet) (systemOf s₄) (systemOf s₅) 2 1 0 (tally 0)
 fleet-steps =
-    let g₁ = done-allowed fleet s₀ s₁ 16 0 0 0 0 fleet-ready (steps-come .0) in
-    let g₂ = done-allowed fleet s₁ s₂ 16 1 0 0 1 (g₁ .0) (steps-come .1) in
-    let g₃ = done-allowed fleet s₂ s₃ 16 1 1 0 0 (g₂ .0) (steps-come .2) in
-    let g₄ = done-allowed fleet s₃ s₄ 16 0 1 0 0 (g₃ .0) (steps-come .3) in
-    let g₅ = done-allowed fleet s₄ s₅ 16 2 1 0 0 (g₄ .0) (steps-come .4) in
+    let g₁ = done-allowed fleet s₀ s₁ 16 0 0 0 (tally 0) fleet-ready (steps-come .0) in
+    let g₂ = done-allowed fleet s₁ s₂ 16 1 0 0 (tally 1) (g₁ .0) (steps-come .1) in
+    let g₃ = done-allowed fleet s₂ s₃ 16 1 1 0 (tally 0) (g₂ .0) (steps-come .2) in
+    let g₄ = done-allowed fleet s₃ s₄ 16 0 1 0 (tally 0) (g₃ .0) (steps-come .3) in
+    let g₅ = done-allowed fleet s₄ s₅ 16 2 1 0 (tally 0) (g₄ .0) (steps-come .4) in
     (g₁ .1, g₂ .1, g₃ .1, g₄ .1, g₅ .1)
 
 -- agent 1 has nothing to copy yet: no rule allows its act, whatever system it would leave
-pub fleet-refuses : (S′ : System) (taken : ℕ) → Allowed (tableOf fleet) (systemOf s₀) S′ 0 1 0 taken → ⊥
-fleet-refuses S′ taken h =
-    let w = demand-2 .every fleet s₀ 16 0 1 0 taken fleet-ready S′ h in
+pub fleet-refuses : (S′ : System) (counted : Tally) → Allowed (tableOf fleet) (systemOf s₀) S′ 0 1 0 counted → ⊥
+fleet-refuses S′ counted h =
+    let w = demand-2 .every fleet s₀ 16 0 1 0 counted fleet-ready S′ h in
     let e : passes ≡ refuses 15 0 = sym (ap (λ (o : Outcome). o .check) (w .1)) ∙ steps-come .5 in
     let z : _≡_ {A = ℕ} 0 1 = cc in omega arith

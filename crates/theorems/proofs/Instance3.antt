@@ -6,26 +6,18 @@ use mathlib.Core.Path.{_≡_, refl}
 use mathlib.Core.List.{List, [], _∷_, _++_}
 use lib.ListN.{replicate}
 use Rattle.basis.specs.Below.{below}
-use Rattle.basis.specs.Numbers.{someBelow, every, lowest, howMany, forEach}
-use Rattle.basis.specs.KeySets.{has, plus, minus, plusAll}
+use Rattle.basis.specs.KeySets.{has}
 use Rattle.agreement.proofs.Machine.{before-all}
-use Rattle.table.specs.Checks.{firstOf, passes}
-use Rattle.table.specs.Tables.{tableOf, withinLimits}
-use Rattle.table.specs.Nodes.{processRows, guardRows, expressionRows, rowOf, fieldsHere, fits, fitting, named, namesAgain, badNode}
-use Rattle.table.specs.Reach.{reachStep, reachedFrom, wrongKey}
-use Rattle.term.specs.Terms.{words, termsOf, areTerms}
-use Rattle.term.specs.Processes.{keep, joins, derivations, nodeStep, nodeWith, defined, nodeProcess, process, allFew}
-use Rattle.term.specs.Exposure.{canTick, callsBelow}
-use Rattle.term.specs.Acceptance.{stateWords}
-use Rattle.state.specs.Layout.{valueIn, put, addKey, dropKey, zpOf}
-use Rattle.state.specs.Evaluation.{valueStep, truthStep, readsStep}
-use Rattle.state.specs.WellFormed.{allZero, pairFormed, pendingFormed, residualFormed, agentFormed, wellFormed, loaded}
-use Rattle.steps.specs.Acts.{leave, setKey, acted}
-use Rattle.steps.specs.Offers.{takeEntry, linked, takes, holdsNewer, offer}
-use Rattle.steps.specs.Steps.{outcome, stepIn, stepOf, loadOf}
+use Rattle.table.specs.Checks.{passes}
+use Rattle.table.specs.Tables.{tableOf}
+use Rattle.state.specs.Layout.{stateWords, zpOf}
+use Rattle.state.specs.Entries.{entryOf}
+use Rattle.state.specs.Evaluation.{truthStep}
+use Rattle.state.specs.WellFormed.{loaded}
+use Rattle.steps.specs.Steps.{loadOf}
+use Rattle.steps.proofs.Computing.{computing}
 use Rattle.theorems.specs.Lists.{Step, next, stateAfter}
 use Rattle.theorems.specs.Demand3.{history, HeldBeforeSteps}
-use Rattle.theorems.proofs.Views.{pairOf}
 use Rattle.theorems.proofs.Instance.{fleet}
 
 abbrev step : ℕ → ℕ → ℕ → Step
@@ -49,17 +41,17 @@ pub record Rehearsed : Type 0 where
   -- the history has one write
   pub one-write : history fleet (acts ++ (propagates ++ copies)) ≡ record { agent = 0; key = 0; value = 7; stamp = 1 } ∷ []
   -- after it agent 0's entry is newer than agent 1's, and the key waits in agent 0
-  pub written : pairOf (stateAfter fleet acts) 0 0 ≡ record { value = 7; stamp = 1 }
-  pub none-yet : pairOf (stateAfter fleet acts) 0 1 ≡ record { value = 0; stamp = 0 }
+  pub written : entryOf (stateAfter fleet acts) 0 0 ≡ record { value = 7; stamp = 1 }
+  pub none-yet : entryOf (stateAfter fleet acts) 1 0 ≡ record { value = 0; stamp = 0 }
   pub waits : has (zpOf (stateAfter fleet acts) 0) 0 ≡ true
   -- after the propagates it is not: the entries agree, and the key waits in neither
-  pub agree : (pairOf (stateAfter fleet (acts ++ propagates)) 0 0 ≡ record { value = 7; stamp = 1 })
-      × (pairOf (stateAfter fleet (acts ++ propagates)) 0 1 ≡ record { value = 7; stamp = 1 })
+  pub agree : (entryOf (stateAfter fleet (acts ++ propagates)) 0 0 ≡ record { value = 7; stamp = 1 })
+      × (entryOf (stateAfter fleet (acts ++ propagates)) 1 0 ≡ record { value = 7; stamp = 1 })
   pub silent : (has (zpOf (stateAfter fleet (acts ++ propagates)) 0) 0 ≡ false) × (has (zpOf (stateAfter fleet (acts ++ propagates)) 1) 0 ≡ false)
 
 -- by computing
 pub rehearsed : Rehearsed
-unfolding below someBelow every lowest howMany forEach has plus minus plusAll firstOf withinLimits processRows guardRows expressionRows rowOf fieldsHere fits fitting named namesAgain badNode reachStep reachedFrom wrongKey words termsOf areTerms keep joins derivations nodeStep nodeWith defined nodeProcess process allFew canTick callsBelow valueIn put addKey dropKey valueStep truthStep readsStep allZero pairFormed pendingFormed residualFormed agentFormed wellFormed loaded leave setKey acted takeEntry linked takes holdsNewer offer outcome stepIn stepOf
+unfolding computing
 rehearsed = record { loads = refl; one-write = refl; written = refl; none-yet = refl; waits = refl; agree = (refl, refl); silent = (refl, refl) }
 
 -- the fleet's link is true, which reads nothing: it holds before every step of any list

@@ -6,25 +6,17 @@ use mathlib.Core.Path.{_≡_, refl}
 use mathlib.Core.List.{List, [], _∷_}
 use lib.Dec.{ltb}
 use lib.ListN.{length, getD, take, drop}
-use Rattle.basis.specs.Below.{below}
-use Rattle.basis.specs.Numbers.{someBelow, every, lowest, howMany, forEach}
-use Rattle.basis.specs.KeySets.{has, plus, minus, plusAll}
+use Rattle.basis.specs.Numbers.{every}
 use Rattle.agreement.specs.Machine.{Before}
 use Rattle.table.specs.Checks.{firstOf, passes}
-use Rattle.table.specs.Tables.{tableOf, withinLimits}
-use Rattle.table.specs.Nodes.{processRows, guardRows, expressionRows, rowOf, fieldsHere, fits, fitting, named, namesAgain, badNode}
-use Rattle.table.specs.Reach.{reachStep, reachedFrom, wrongKey}
-use Rattle.term.specs.Terms.{words, termsOf, areTerms}
-use Rattle.term.specs.Processes.{keep, joins, derivations, nodeStep, nodeWith, defined, nodeProcess, process, allFew}
-use Rattle.term.specs.Exposure.{canTick, callsBelow}
-use Rattle.term.specs.Acceptance.{stateWords, tableChecks}
+use Rattle.table.specs.Tables.{tableOf}
+use Rattle.term.specs.Acceptance.{tableChecks}
 use Rattle.state.specs.declared.Store.the-variants.{Environment, Attributes, Entries}
-use Rattle.state.specs.Layout.{lengthAt, residualAt, clockOf, wordOf, stampOf, zcOf, zpOf, valueIn, put, addKey, dropKey}
-use Rattle.state.specs.Evaluation.{valueStep, truthStep, readsStep}
-use Rattle.state.specs.WellFormed.{allZero, pairFormed, pendingFormed, residualFormed, agentFormed, wellFormed, loaded}
-use Rattle.steps.specs.Acts.{leave, setKey, acted}
-use Rattle.steps.specs.Offers.{takeEntry, linked, takes, holdsNewer, offer}
-use Rattle.steps.specs.Steps.{Outcome, outcome, stepIn, stepOf}
+use Rattle.state.specs.Layout.{lengthAt, residualAt, wordOf, stampOf, zcOf, zpOf}
+use Rattle.state.specs.Entries.{clockOf}
+use Rattle.state.specs.WellFormed.{loaded}
+use Rattle.steps.specs.Steps.{Outcome}
+use Rattle.steps.proofs.Computing.{computing}
 use Rattle.theorems.specs.Lists.{Step, outcomeOf, next}
 use Rattle.theorems.proofs.Ready.{loaded-ready}
 use Rattle.theorems.proofs.DoneSteps.{small-bytes, allDone, DoneAllowed, all-allowed}
@@ -53,7 +45,7 @@ steps =
 -- and the words of what is left of the stepping agent's process
 abbrev shown : ℕ → Outcome → List ℕ
 shown x o =
-    o .taken ∷ clockOf (o .state) ∷ wordOf (o .state) Environment 0
+    o .tally .taken ∷ clockOf (o .state) ∷ wordOf (o .state) Environment 0
     ∷ wordOf (o .state) (Entries 0) 0 ∷ stampOf (o .state) 0 0 ∷ zcOf (o .state) 0 ∷ zpOf (o .state) 0
     ∷ wordOf (o .state) (Attributes 1) 0 ∷ wordOf (o .state) (Entries 1) 0 ∷ stampOf (o .state) 1 0 ∷ zcOf (o .state) 1 ∷ zpOf (o .state) 1
     ∷ take (getD (o .state) (lengthAt x) 0) (drop (residualAt x) (o .state))
@@ -78,13 +70,13 @@ expected =
     ∷ []
 
 -- by computing
-computed : (firstOf (tableChecks smallFleet stateWords 54) ≡ passes) × (every (λ (i : ℕ). ltb (getD smallFleet i 0) 256) (length smallFleet) ≡ true)
+computed : (firstOf (tableChecks smallFleet true 54) ≡ passes) × (every (λ (i : ℕ). ltb (getD smallFleet i 0) 256) (length smallFleet) ≡ true)
     × (allDone smallFleet (loaded (tableOf smallFleet)) steps ≡ true) × (allShown (loaded (tableOf smallFleet)) steps ≡ expected)
-unfolding below someBelow every lowest howMany forEach has plus minus plusAll firstOf withinLimits processRows guardRows expressionRows rowOf fieldsHere fits fitting named namesAgain badNode reachStep reachedFrom wrongKey words termsOf areTerms keep joins derivations nodeStep nodeWith defined nodeProcess process allFew canTick callsBelow valueIn put addKey dropKey valueStep truthStep readsStep allZero pairFormed pendingFormed residualFormed agentFormed wellFormed loaded leave setKey acted takeEntry linked takes holdsNewer offer outcome stepIn stepOf
+unfolding computing
 computed = (refl, refl, refl, refl)
 
 pub record Instances : Type 0 where
-  pub accepted : firstOf (tableChecks smallFleet stateWords 54) ≡ passes
+  pub accepted : firstOf (tableChecks smallFleet true 54) ≡ passes
   -- from load on, every step is done and allowed
   pub allowed : Before (next smallFleet) (DoneAllowed smallFleet) (loaded (tableOf smallFleet)) steps
   pub comes : allShown (loaded (tableOf smallFleet)) steps ≡ expected

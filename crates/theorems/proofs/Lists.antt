@@ -22,7 +22,9 @@ use Rattle.agreement.proofs.Agreement.{stamp-agreement}
 use Rattle.table.specs.Checks.{Check, passes, refuses}
 use Rattle.table.specs.Tables.{Table, tableOf, kindAt, pAt}
 use Rattle.state.specs.declared.Store.the-variants.{Entries}
-use Rattle.state.specs.Layout.{keyLimit, clockOf}
+use Rattle.state.specs.declared.Entry.{Entry}
+use Rattle.state.specs.Layout.{keyLimit}
+use Rattle.state.specs.Entries.{clockOf, entryOf, newer}
 use Rattle.state.specs.WellFormed.{loaded}
 use Rattle.state.proofs.Places.{Zp, Word}
 use Rattle.state.proofs.Load.{loaded-zero, loaded-clock, loaded-mark, loaded-set}
@@ -32,15 +34,15 @@ use Rattle.steps.proofs.Steps.{Done, done-step, step-done, step-refused}
 use Rattle.theorems.specs.Lists.{Step, outcomeOf, next, stateAfter}
 use Rattle.theorems.specs.Demand3.{Write, ifDone, adds}
 use Rattle.theorems.specs.Contact.{Propagates}
-use Rattle.theorems.proofs.Views.{Pair, absent, stampIn, newer, pairOf, pair-same, seen, links}
+use Rattle.theorems.proofs.Views.{absent, stampIn, same-entry, seen, links}
 use Rattle.theorems.proofs.ActViews.{actMove}
 use Rattle.theorems.proofs.Turns.{stepMove, stepAdds, after-shows, quiet-past, step-fresh, step-clock, written, adds-numbered, adds-entries}
 
 -- a quiet move is no propagate, and what is none is none where it is chosen
-quiet-not : (a : ℕ) → _≡_ {A = Move Pair} quiet (propagate a) → ⊥
+quiet-not : (a : ℕ) → _≡_ {A = Move Entry} quiet (propagate a) → ⊥
 quiet-not a e = let z : _≡_ {A = ℕ} 0 1 = cc in omega arith
 
-chosen-not : (b : Bool) (m : Move Pair) (a : ℕ) → (m ≡ propagate a → ⊥) → cond b m quiet ≡ propagate a → ⊥
+chosen-not : (b : Bool) (m : Move Entry) (a : ℕ) → (m ≡ propagate a → ⊥) → cond b m quiet ≡ propagate a → ⊥
 chosen-not true m a h e = h e
 chosen-not false m a h e = quiet-not a e
 
@@ -53,7 +55,7 @@ propagate-step t s zero x n k a e = absurd (act (chosen t s x n .label) e)
     act (Acting i) e = chosen-not (eqb (kindAt t i) 3) _ a (chosen-not (eqb (pAt t i) k) _ a (λ f. let z : _≡_ {A = ℕ} 0 1 = cc in omega arith)) e
 propagate-step t s (suc zero) x n k a e = let w = by (eqb n k) refl e in (refl, w .0, w .1)
   where
-    by : (b : Bool) → eqb n k ≡ b → _≡_ {A = Move Pair} (cond b (propagate x) quiet) (propagate a) → (x ≡ a) × (n ≡ k)
+    by : (b : Bool) → eqb n k ≡ b → _≡_ {A = Move Entry} (cond b (propagate x) quiet) (propagate a) → (x ≡ a) × (n ≡ k)
     by true e f = (cc, eqb-true n k e)
     by false e f = absurd (quiet-not a f)
 propagate-step t s (suc (suc kind)) x n k a e = absurd (chosen-not (eqb n k) _ a (λ f. let z : _≡_ {A = ℕ} 0 1 = cc in omega arith) e)
@@ -66,18 +68,18 @@ module _ (bytes : List ℕ) where
   S = t .sizes .stigmergy
 
   -- a key that there is not shows nothing
-  abbrev view : List ℕ → ℕ → View Pair
+  abbrev view : List ℕ → ℕ → View Entry
   view s k = cond (ltb k S) (seen s k) (blank absent)
 
   -- a refused step is quiet
-  abbrev ifPassed : Check → Move Pair → Move Pair
+  abbrev ifPassed : Check → Move Entry → Move Entry
   ifPassed passes m = m
   ifPassed (refuses number place) m = quiet
 
-  abbrev moveOf : List ℕ → Step → ℕ → Move Pair
+  abbrev moveOf : List ℕ → Step → ℕ → Move Entry
   moveOf s x k = stepMove t s (x .kind) (x .agent) (x .number) k
 
-  abbrev turn : List ℕ → Step → ℕ → Turn Pair
+  abbrev turn : List ℕ → Step → ℕ → Turn Entry
   turn s x k = record { link = links t s k; move = ifPassed (outcomeOf bytes s x .check) (moveOf s x k) }
 
   module _ (s : List ℕ) (x : Step) where
@@ -157,7 +159,7 @@ module _ (bytes : List ℕ) where
           record { kind-propagate = w .0; by-agent = w .1; of-key = w .2; is-done = e }
       by (refuses n place) e f = absurd (quiet-not a f)
 
-  abbrev pub machine : Machine absent newer
+  abbrev pub machine : Machine newer
   machine = record {
     State = List ℕ;
     Step = Step;
@@ -184,25 +186,25 @@ module _ (bytes : List ℕ) where
   }
 
   -- load leaves no entry and no key in Zp
-  start : S ≤ keyLimit → Start machine (loaded t)
+  start : S ≤ keyLimit → Start machine absent (loaded t)
   start few = record { invariant = tt; no-entry = λ k a. entry a k (ltb k S) refl; no-waits = λ k a. waits a k (ltb k S) refl }
     where
       entry : (a k : ℕ) (b : Bool) → ltb k S ≡ b → cond b (seen (loaded t) k) (blank absent) .entry a ≡ absent
       entry a k true e =
           let l = ltb-true k S e in
-          pair-same (loaded-zero t (Word (Entries a) k) (omega arith) refl (λ b h. refl) (λ b h. refl)) (loaded-mark t (Entries a) k (omega arith))
+          same-entry (loaded-zero t (Word (Entries a) k) (omega arith) refl (λ b h. refl) (λ b h. refl)) (loaded-mark t (Entries a) k (omega arith))
       entry a k false e = refl
 
       waits : (a k : ℕ) (b : Bool) → ltb k S ≡ b → cond b (seen (loaded t) k) (blank absent) .waits a ≡ false
       waits a k true e = ap (λ (w : ℕ). has w k) (loaded-set t Zp a) ∙ has-nothing k
       waits a k false e = refl
 
-  pub after-list : S ≤ keyLimit → (xs : List Step) → StampAgreement stampIn machine writes (loaded t) xs
-  after-list few = stamp-agreement stampIn refl machine writes (loaded t) (start few) (loaded-clock t)
+  pub after-list : S ≤ keyLimit → (xs : List Step) → StampAgreement stampIn machine writes absent (loaded t) xs
+  after-list few = stamp-agreement stampIn machine writes refl (loaded t) (start few) (loaded-clock t)
 
   -- a key that there is shows its words
   pub view-there : (s : List ℕ) (k : ℕ) → k < S → view s k ≡ seen s k
   view-there s k l = rw (lt-ltb k S l)
 
-  pub entry-there : (xs : List Step) (k a : ℕ) → k < S → entryAfter machine (loaded t) xs k a ≡ pairOf (stateAfter bytes xs) k a
-  entry-there xs k a l = ap (λ (v : View Pair). v .entry a) (view-there (stateAfter bytes xs) k l)
+  pub entry-there : (xs : List Step) (k a : ℕ) → k < S → entryAfter machine (loaded t) xs k a ≡ entryOf (stateAfter bytes xs) a k
+  entry-there xs k a l = ap (λ (v : View Entry). v .entry a) (view-there (stateAfter bytes xs) k l)

@@ -8,28 +8,29 @@ use mathlib.Core.Option.{Option, none, some}
 use mathlib.Core.Path.{_≡_, refl, sym, ap, subst, _∙_, fun-ext}
 use mathlib.Core.List.{List}
 use native.Mathlib.Omega.{arith}
-use lib.ListN.{length}
 use borrow.Author.Tests.{ltb-true, lt-ltb, eq-eqb, ne-eqb}
 use Rattle.basis.specs.Numbers.{howMany}
 use Rattle.basis.specs.KeySets.{has}
 use Rattle.basis.proofs.Tests.{not-both, and-left, and-right, and-both}
 use Rattle.table.specs.Tables.{Table}
 use Rattle.table.specs.Sound.{Limits}
-use Rattle.term.specs.Acceptance.{stateWords}
 use Rattle.state.specs.declared.Store.the-variants.{Environment, Entries}
-use Rattle.state.specs.Layout.{keyLimit, clockOf, zcAt, zpAt, wordOf, stampOf, zcOf, zpOf, addKey, dropKey}
-use Rattle.state.specs.Layout.{put as putPair}
+use Rattle.state.specs.Layout.{keyLimit, wordOf, stampOf, dropKey}
+use Rattle.state.specs.Entries.{entry as stored, entryOf, putEntry}
+use Rattle.state.specs.Standing.{HasBlocks}
 use Rattle.state.specs.Evaluation.{linkHolds}
 use Rattle.state.proofs.Places.{Place, KeySet, Zc, Zp, Clock, Mark, Word, Waits, placeAt, placeKind, Inside, same-not, other-agent}
-use Rattle.state.proofs.Frames.{SameAt, put-length, drop-length, drop-other, value-same}
-use Rattle.steps.specs.Offers.{takeEntry, linked, takes, holdsNewer, offer, offered, takers, propagated, confirmed}
+use Rattle.state.proofs.Frames.{wordAt, SameAt, put-length, drop-length, drop-other, value-same}
+use Rattle.steps.specs.declared.Response.the-variants.{Takes, Propagates, Ignores}
+use Rattle.steps.specs.Tallies.{tally}
+use Rattle.steps.specs.Offers.{takeEntry, responded, linked, takes, holdsNewer, response, offer, offered, offerTally, sent}
 use Rattle.steps.proofs.Offers.{offer-length, offered-length, offered-other, offered-turn}
 use Rattle.labs.specs.Agents.{⟨_⸴_⸴_⸴_⸴_⟩, Agent, Entry, System, _⟦_≔_⟧, _∪｛_｝, _∖｛_｝, Inserted}
 use Rattle.labs.specs.Systems.{Kind, put, qry, Message, message, Sends, PROPAGATE, CONFIRM, Older, Newer, Linked, Receives, PUT, QRY₁, QRY₂, STAY, Passed}
 use Rattle.labs.specs.Reading.{agentOf, systemOf}
 use Rattle.theorems.specs.Demand2.{Same}
 use Rattle.theorems.proofs.Expressions.{Narrow, link-holds}
-use Rattle.theorems.proofs.Reading.{entry, timeIn, entry-present, entry-stamp, agent-same, put-agent, with, add-zp-agent, drop-zp-agent, drop-zc-agent}
+use Rattle.theorems.proofs.Reading.{entry, timeIn, entry-present, entry-stamp, agent-same, put-agent, with, keysIn, add-zp-agent, drop-agent}
 use Rattle.theorems.proofs.Passing.{inserted, sends-zp, sends-zc, passed-unique, passed-count}
 
 -- older and newer, by the stamp
@@ -44,6 +45,10 @@ newer-time (some e) n = (λ h. h, λ h. h)
 abbrev sentKind : Bool → Kind
 sentKind confirming = cond confirming qry put
 
+-- the set that the key is then in
+abbrev setOf : Bool → KeySet
+setOf confirming = cond confirming Zc Zp
+
 asking : (confirming : Bool) → sentKind confirming ≡ qry → confirming ≡ true
 asking true e = refl
 asking false e = let z : _≡_ {A = ℕ} 0 1 = cc in absurd (omega arith)
@@ -52,62 +57,59 @@ asking false e = let z : _≡_ {A = ℕ} 0 1 = cc in absurd (omega arith)
 abbrev took : ℕ → Entry → Agent → Agent
 took k e a = ⟨ a .I ⸴ a .L ⟦ k ≔ some e ⟧ ⸴ a .P ⸴ a .Zc ∖｛ k ｝ ⸴ a .Zp ∪｛ k ｝ ⟩
 
-took-agent : (k v m y : ℕ) (s : List ℕ) → k < keyLimit → length s ≡ stateWords → y < 32 → 0 < m → agentOf (takeEntry k v m y s) y ≡ took k (entry v m) (agentOf s y)
+took-agent : (k v m y : ℕ) (s : List ℕ) → k < keyLimit → HasBlocks s → y < 32 → 0 < m → agentOf (takeEntry k (stored v m) y s) y ≡ took k (entry v m) (agentOf s y)
 unfolding takeEntry
-took-agent k v m y s key whole there pos =
-    let p : length (putPair (Entries y) k v m s) ≡ stateWords = put-length (Entries y) k v m s ∙ whole in
-    add-zp-agent y k (dropKey (zcAt y) k (putPair (Entries y) k v m s)) (drop-length Zc y k (putPair (Entries y) k v m s) ∙ p) there
+took-agent k v m y s key room there pos =
+    let given = putEntry y k (stored v m) s in
+    let p : HasBlocks given = omega (arith, put-length (Entries y) k v m s, room) in
+    add-zp-agent y k (dropKey (placeAt (Waits Zc y)) k given) (omega (arith, drop-length Zc y k given, p)) there
     ∙ ap (λ (a : Agent). with Zp a (a .Zp ∪｛ k ｝))
-    (drop-zc-agent y k (putPair (Entries y) k v m s) p there
-    ∙ ap (λ (a : Agent). with Zc a (a .Zc ∖｛ k ｝)) (put-agent y k v m s key whole there pos))
+    (drop-agent y k given p there Zc ∙ ap (λ (a : Agent). with Zc a (a .Zc ∖｛ k ｝)) (put-agent y k v m s key room there pos))
 
-module _ (t : Table) (limits : Limits (t .sizes)) (was : List ℕ) (narrow : Narrow t was) (x k agents : ℕ) (whole : length was ≡ stateWords) (few : agents ≤ 32) (there : x < agents) (key : k < keyLimit) (entered : 0 < stampOf was x k) where
+module _ (t : Table) (limits : Limits (t .sizes)) (was : List ℕ) (narrow : Narrow t was) (x k agents : ℕ) (room : HasBlocks was) (few : agents ≤ 32) (there : x < agents) (key : k < keyLimit) (entered : 0 < stampOf was x k) where
   abbrev mine : Entry
   mine = entry (wordOf was (Entries x) k) (stampOf was x k)
 
   abbrev said : Kind → Message
   said kind = message kind (agentOf was x) k mine
 
-  takes-self : takes t was x k x ≡ false
+  takes-self : takes t was x k true x ≡ false
   unfolding takes linked
   takes-self = rw (eq-eqb x x refl)
 
   module _ (confirming : Bool) where
     abbrev spread : List ℕ
-    spread = offered t was x k confirming agents
-
-    spread-whole : length spread ≡ stateWords
-    spread-whole = offered-length t was x k confirming agents ∙ whole
+    spread = offered t was x k true confirming agents
 
     sender-same : agentOf spread x ≡ agentOf was x
-    sender-same = agent-same spread was x (offered-length t was x k confirming agents) (λ p i pos e. offered-other t was x k confirming key agents p i (λ y l d o. absurd (d (sym o ∙ e))))
+    sender-same = agent-same spread was x (offered-length t was x k true confirming agents) (λ p i pos e. offered-other t was x k true confirming key agents p i (λ y l d o. absurd (d (sym o ∙ e))))
 
     -- AN AGENT THAT RECEIVES
     module _ (y : ℕ) (below : y < agents) (other : y ≡ x → ⊥) where
       abbrev now : List ℕ
-      now = offered t was x k confirming y
+      now = offered t was x k true confirming y
 
-      now-whole : length now ≡ stateWords
-      now-whole = offered-length t was x k confirming y ∙ whole
+      now-room : HasBlocks now
+      now-room = omega (arith, offered-length t was x k true confirming y, room)
 
       before : agentOf now y ≡ agentOf was y
-      before = agent-same now was y (offered-length t was x k confirming y) (λ p i pos e. offered-other t was x k confirming key y p i (λ z l d o. absurd (omega arith)))
+      before = agent-same now was y (offered-length t was x k true confirming y) (λ p i pos e. offered-other t was x k true confirming key y p i (λ z l d o. absurd (omega arith)))
 
-      turned : agentOf spread y ≡ agentOf (offer t was x k confirming y now) y
-      turned = agent-same spread (offer t was x k confirming y now) y (spread-whole ∙ sym (offer-length t was x k confirming y now ∙ now-whole))
-          (λ p i pos e. offered-turn t was x k confirming key agents y below p i e)
+      turned : agentOf spread y ≡ agentOf (offer t was x k true confirming y now) y
+      turned = agent-same spread (offer t was x k true confirming y now) y (offered-length t was x k true confirming agents ∙ sym (offer-length t was x k true confirming y now ∙ offered-length t was x k true confirming y))
+          (λ p i pos e. offered-turn t was x k true confirming key agents y below p i e)
 
       abbrev Result : Bool → Agent → Type 0
       Result b a = Receives t (systemOf was .E) (said (sentKind confirming)) (agentOf was y) b a
 
-      other-linked : linked t was x k y ≡ linkHolds t was k x y
+      other-linked : linked t was x k true y ≡ linkHolds t was k x y
       unfolding linked
       other-linked = rw (ne-eqb x y (λ (e : x ≡ y). other (sym e)))
 
-      is-linked : linked t was x k y ≡ true → Linked t (systemOf was .E) (said (sentKind confirming)) (agentOf was y)
+      is-linked : linked t was x k true y ≡ true → Linked t (systemOf was .E) (said (sentKind confirming)) (agentOf was y)
       is-linked e = link-holds t was narrow x y limits k .0 (sym other-linked ∙ e)
 
-      of-linked : Linked t (systemOf was .E) (said (sentKind confirming)) (agentOf was y) → linked t was x k y ≡ true
+      of-linked : Linked t (systemOf was .E) (said (sentKind confirming)) (agentOf was y) → linked t was x k true y ≡ true
       of-linked h = other-linked ∙ link-holds t was narrow x y limits k .1 h
 
       held : timeIn (agentOf was y .L k) ≡ stampOf was y k
@@ -119,7 +121,7 @@ module _ (t : Table) (limits : Limits (t .sizes)) (was : List ℕ) (narrow : Nar
       newer : Newer (agentOf was y .L k) (stampOf was x k) ↔ (stampOf was x k < timeIn (agentOf was y .L k))
       newer = newer-time (agentOf was y .L k) (stampOf was x k)
 
-      taking : (b : Bool) → stampOf was y k < stampOf was x k → linked t was x k y ≡ true → Receives t (systemOf was .E) (said (sentKind b)) (agentOf was y) true (took k mine (agentOf was y))
+      taking : (b : Bool) → stampOf was y k < stampOf was x k → linked t was x k true y ≡ true → Receives t (systemOf was .E) (said (sentKind b)) (agentOf was y) true (took k mine (agentOf was y))
       taking b l e = by b
         where
           is-inserted : Inserted (agentOf was y .L) k mine (agentOf was y .L ⟦ k ≔ some mine ⟧)
@@ -129,83 +131,67 @@ module _ (t : Table) (limits : Limits (t .sizes)) (was : List ℕ) (narrow : Nar
           by true = QRY₁ refl (is-linked e) (older .1 (omega (arith, held))) is-inserted
           by false = PUT refl (is-linked e) (older .1 (omega (arith, held))) is-inserted
 
-      by-offer : (b : Bool) → takes t was x k y ≡ b → (c : Bool) → (confirming && holdsNewer t was x k y) ≡ c →
-          Result b (agentOf (cond b (takeEntry k (wordOf was (Entries x) k) (stampOf was x k) y now) (cond c (addKey (zpAt y) k now) now)) y)
-      unfolding takes holdsNewer
+      by-offer : (b : Bool) → takes t was x k true y ≡ b → (c : Bool) → (confirming && holdsNewer t was x k true y) ≡ c →
+          Result b (agentOf (responded k (entryOf was x k) y (cond b Takes (cond c Propagates Ignores)) now) y)
+      unfolding takes holdsNewer responded
       by-offer true e c f =
-          subst (Result true) (sym (took-agent k (wordOf was (Entries x) k) (stampOf was x k) y now key now-whole (omega arith) entered ∙ ap (took k mine) before))
-          (taking confirming (ltb-true (stampOf was y k) (stampOf was x k) (and-right (linked t was x k y) _ e)) (and-left (linked t was x k y) _ e))
+          subst (Result true) (sym (took-agent k (wordOf was (Entries x) k) (stampOf was x k) y now key now-room (omega arith) entered ∙ ap (took k mine) before))
+          (taking confirming (ltb-true (stampOf was y k) (stampOf was x k) (and-right (linked t was x k true y) _ e)) (and-left (linked t was x k true y) _ e))
       by-offer false e true f =
           let a = and-right confirming _ f in
-          subst (Result false) (sym (add-zp-agent y k now now-whole (omega arith) ∙ ap (λ (a : Agent). with Zp a (a .Zp ∪｛ k ｝)) before))
-          (QRY₂ (ap sentKind (and-left confirming _ f)) (is-linked (and-left (linked t was x k y) _ a))
-          (newer .1 (omega (arith, held, ltb-true (stampOf was x k) (stampOf was y k) (and-right (linked t was x k y) _ a)))))
+          subst (Result false) (sym (add-zp-agent y k now now-room (omega arith) ∙ ap (λ (a : Agent). with Zp a (a .Zp ∪｛ k ｝)) before))
+          (QRY₂ (ap sentKind (and-left confirming _ f)) (is-linked (and-left (linked t was x k true y) _ a))
+          (newer .1 (omega (arith, held, ltb-true (stampOf was x k) (stampOf was y k) (and-right (linked t was x k true y) _ a)))))
       by-offer false e false f = subst (Result false) (sym before) (STAY
-          (λ h o. not-both (and-both (linked t was x k y) _ (of-linked h) (lt-ltb (stampOf was y k) (stampOf was x k) (omega (arith, held, older .0 o)))) e)
-          (λ q h o. not-both (and-both confirming _ (asking confirming q) (and-both (linked t was x k y) _ (of-linked h)
+          (λ h o. not-both (and-both (linked t was x k true y) _ (of-linked h) (lt-ltb (stampOf was y k) (stampOf was x k) (omega (arith, held, older .0 o)))) e)
+          (λ q h o. not-both (and-both confirming _ (asking confirming q) (and-both (linked t was x k true y) _ (of-linked h)
           (lt-ltb (stampOf was x k) (stampOf was y k) (omega (arith, held, newer .0 o))))) f))
 
-      received-by : (z : KeySet) → Result (takes t was x k y) (agentOf (dropKey (placeAt (Waits z x)) k spread) y)
-      unfolding offer
-      received-by z = subst (λ (a : Agent). Result (takes t was x k y) a) (sym (drop-away z ∙ turned)) (by-offer (takes t was x k y) refl (confirming && holdsNewer t was x k y) refl)
+      received-by : (z : KeySet) → Result (takes t was x k true y) (agentOf (dropKey (placeAt (Waits z x)) k spread) y)
+      unfolding offer response
+      received-by z = subst (λ (a : Agent). Result (takes t was x k true y) a) (sym (drop-away z ∙ turned)) (by-offer (takes t was x k true y) refl (confirming && holdsNewer t was x k true y) refl)
         where
           drop-away : (z : KeySet) → agentOf (dropKey (placeAt (Waits z x)) k spread) y ≡ agentOf spread y
           drop-away z = agent-same (dropKey (placeAt (Waits z x)) k spread) spread y (drop-length z x k spread)
               (λ p i pos e. drop-other z x k spread p i (other-agent p (Waits z x) (λ (o : _). other (sym e ∙ o))))
 
-  -- THE STEPS
+  -- THE STEP, by which the key leaves x's set z
   module _ (z : KeySet) (confirming : Bool) where
     abbrev after : List ℕ
     after = dropKey (placeAt (Waits z x)) k (spread confirming)
 
     -- what is everyone's
     stays : (p : Place) → Inside p → placeKind p ≡ 0 → SameAt after was p
-    stays p i e = drop-other z x k (spread confirming) p i (same-not p (Waits z x) (λ (o : p ≡ Waits z x). omega (arith, ap placeKind o))) ∙ offered-other t was x k confirming key agents p i (λ y l d o. e)
+    stays p i e = drop-other z x k (spread confirming) p i (same-not p (Waits z x) (λ (o : p ≡ Waits z x). omega (arith, ap placeKind o))) ∙ offered-other t was x k true confirming key agents p i (λ y l d o. e)
 
-    environment-stays : systemOf after .E ≡ systemOf was .E
-    environment-stays = fun-ext λ j. value-same after was Environment j (λ i. stays (Mark Environment j) i refl) (λ i. stays (Word Environment j) i refl)
+    received : Sends (agentOf was x) (said (sentKind confirming)) (with z (agentOf was x) (keysIn z (agentOf was x) ∖｛ k ｝)) →
+        Passed t agents x (sentKind confirming) k (takes t was x k true) (systemOf was) (systemOf after)
+    received sends = record {
+      there = there;
+      entry = mine;
+      sends = subst (λ (a : Agent). Sends (agentOf was x) (said (sentKind confirming)) a)
+          (sym (drop-agent x k (spread confirming) (omega (arith, offered-length t was x k true confirming agents, room)) (omega arith) z
+          ∙ ap (λ (a : Agent). with z a (keysIn z a ∖｛ k ｝)) (sender-same confirming))) sends;
+      itself = takes-self;
+      receives = λ y l d. received-by confirming y l d z;
+      environment-stays = fun-ext λ j. value-same after was Environment j (λ i. stays (Mark Environment j) i refl) (λ i. stays (Word Environment j) i refl);
+      clock-stays = stays Clock tt refl;
+    }
 
-    clock-stays : clockOf after ≡ clockOf was
-    clock-stays = stays Clock tt refl
+  pub sent-passed : (confirming : Bool) → has (wordAt was (Waits (setOf confirming) x)) k ≡ true →
+      Passed t agents x (sentKind confirming) k (takes t was x k true) (systemOf was) (systemOf (sent t was x k true confirming agents))
+  sent-passed true h = received Zc true (CONFIRM h (entry-present was x k key entered))
+  sent-passed false h = received Zp false (PROPAGATE h (entry-present was x k key entered))
 
-  pub propagated-passed : has (zpOf was x) k ≡ true → Passed t agents x put k (takes t was x k) (systemOf was) (systemOf (propagated t was x k agents))
-  propagated-passed h = record {
-    there = there;
-    entry = mine;
-    sends = subst (λ (a : Agent). Sends (agentOf was x) (said put) a)
-        (sym (drop-zp-agent x k (spread false) (spread-whole false) (omega arith) ∙ ap (λ (a : Agent). with Zp a (a .Zp ∖｛ k ｝)) (sender-same false)))
-        (PROPAGATE h (entry-present was x k key entered));
-    itself = takes-self;
-    receives = λ y l d. received-by false y l d Zp;
-    environment-stays = environment-stays Zp false;
-    clock-stays = clock-stays Zp false;
-  }
-
-  pub confirmed-passed : has (zcOf was x) k ≡ true → Passed t agents x qry k (takes t was x k) (systemOf was) (systemOf (confirmed t was x k agents))
-  confirmed-passed h = record {
-    there = there;
-    entry = mine;
-    sends = subst (λ (a : Agent). Sends (agentOf was x) (said qry) a)
-        (sym (drop-zc-agent x k (spread true) (spread-whole true) (omega arith) ∙ ap (λ (a : Agent). with Zc a (a .Zc ∖｛ k ｝)) (sender-same true)))
-        (CONFIRM h (entry-present was x k key entered));
-    itself = takes-self;
-    receives = λ y l d. received-by true y l d Zc;
-    environment-stays = environment-stays Zc true;
-    clock-stays = clock-stays Zc true;
-  }
-
--- THE THEOREMS: the rules give the step on words and no other, and the same number of takers. `pending` is what a well-formed state has
-module _ (t : Table) (limits : Limits (t .sizes)) (was : List ℕ) (narrow : Narrow t was) (x k agents : ℕ) (whole : length was ≡ stateWords) (few : agents ≤ 32) (key : k < keyLimit) {taking : ℕ → Bool} {S′ : System} where
-  pub passed-propagated : (pending : has (zpOf was x) k ≡ true → 0 < stampOf was x k) → Passed t agents x put k taking (systemOf was) S′ →
-      (has (zpOf was x) k ≡ true) × (howMany taking agents ≡ takers t was x k agents) × Same agents S′ (systemOf (propagated t was x k agents))
-  passed-propagated pending p =
-      let h = sends-zp (p .sends) refl in
-      let q = propagated-passed t limits was narrow x k agents whole few (p .there) key (pending h) h in
-      (h, passed-count p q, passed-unique p q)
-
-  pub passed-confirmed : (pending : has (zcOf was x) k ≡ true → 0 < stampOf was x k) → Passed t agents x qry k taking (systemOf was) S′ →
-      (has (zcOf was x) k ≡ true) × (howMany taking agents ≡ takers t was x k agents) × Same agents S′ (systemOf (confirmed t was x k agents))
-  passed-confirmed pending p =
-      let h = sends-zc (p .sends) refl in
-      let q = confirmed-passed t limits was narrow x k agents whole few (p .there) key (pending h) h in
-      (h, passed-count p q, passed-unique p q)
+-- THE THEOREM: the rules give the step on words and no other, and the same number of takers. `pending` is what a well-formed state has
+module _ (t : Table) (limits : Limits (t .sizes)) (was : List ℕ) (narrow : Narrow t was) (x k agents : ℕ) (room : HasBlocks was) (few : agents ≤ 32) (key : k < keyLimit) (confirming : Bool) {taking : ℕ → Bool} {S′ : System} where
+  pub passed-sent : (pending : has (wordAt was (Waits (setOf confirming) x)) k ≡ true → 0 < stampOf was x k) → Passed t agents x (sentKind confirming) k taking (systemOf was) S′ →
+      (has (wordAt was (Waits (setOf confirming) x)) k ≡ true) × (tally (howMany taking agents) ≡ offerTally t was x k true agents) × Same agents S′ (systemOf (sent t was x k true confirming agents))
+  passed-sent pending p =
+      let h = waiting confirming (p .sends) in
+      let q = sent-passed t limits was narrow x k agents room few (p .there) key (pending h) confirming h in
+      (h, ap tally (passed-count p q), passed-unique p q)
+    where
+      waiting : (b : Bool) {e : Entry} {a : Agent} → Sends (agentOf was x) (message (sentKind b) (agentOf was x) k e) a → has (wordAt was (Waits (setOf b) x)) k ≡ true
+      waiting true h = sends-zc h refl
+      waiting false h = sends-zp h refl

@@ -6,28 +6,18 @@ use mathlib.Core.Path.{_≡_, refl}
 use mathlib.Core.List.{List, [], _∷_}
 use native.Mathlib.Omega.{arith}
 use lib.ListN.{replicate}
-use Rattle.basis.specs.Below.{below}
-use Rattle.basis.specs.Numbers.{someBelow, every, lowest, howMany, forEach}
-use Rattle.basis.specs.KeySets.{has, plus, minus, plusAll}
 use Rattle.basis.proofs.Tests.{not-both}
-use Rattle.table.specs.Checks.{firstOf, passes}
-use Rattle.table.specs.Tables.{tableOf, withinLimits}
-use Rattle.table.specs.Nodes.{processRows, guardRows, expressionRows, rowOf, fieldsHere, fits, fitting, named, namesAgain, badNode}
-use Rattle.table.specs.Reach.{reachStep, reachedFrom, wrongKey}
-use Rattle.term.specs.Terms.{words, termsOf, areTerms}
-use Rattle.term.specs.Processes.{keep, joins, derivations, nodeStep, nodeWith, defined, nodeProcess, process, allFew}
-use Rattle.term.specs.Exposure.{canTick, callsBelow}
-use Rattle.term.specs.Acceptance.{stateWords}
-use Rattle.state.specs.Layout.{valueIn, put, addKey, dropKey}
-use Rattle.state.specs.Evaluation.{valueStep, truthStep, readsStep, linkHolds}
-use Rattle.state.specs.WellFormed.{allZero, pairFormed, pendingFormed, residualFormed, agentFormed, wellFormed, loaded}
-use Rattle.steps.specs.Acts.{leave, setKey, acted}
-use Rattle.steps.specs.Offers.{takeEntry, linked, takes, holdsNewer, offer}
-use Rattle.steps.specs.Steps.{outcome, stepIn, stepOf, loadOf}
+use Rattle.table.specs.Checks.{passes}
+use Rattle.table.specs.Tables.{tableOf}
+use Rattle.state.specs.Layout.{stateWords}
+use Rattle.state.specs.Entries.{entryOf}
+use Rattle.state.specs.Evaluation.{linkHolds}
+use Rattle.state.specs.WellFormed.{loaded}
+use Rattle.steps.specs.Steps.{loadOf}
+use Rattle.steps.proofs.Computing.{computing}
 use Rattle.theorems.specs.Lists.{Step, stateAfter}
 use Rattle.theorems.specs.Demand3.{HeldBeforeSteps}
 use Rattle.theorems.specs.Contact.{HeldBeforePropagates, Silent}
-use Rattle.theorems.proofs.Views.{pairOf}
 
 -- Two agents, one attribute, one key, whose link holds where the sender's attribute is 1: say, once the sender has come into range.
 -- Agent 0 sets the key to 7 (node 1) and its attribute to 1 (node 3), in the order p, q; agent 1 is idle. Nodes:
@@ -61,12 +51,12 @@ pub record Silent-disagree : Type 0 where
   pub now-linked : linkHolds (tableOf (ranged 1 3)) (stateAfter (ranged 1 3) tooEarly) 0 0 1 ≡ true
   -- the key waits in neither, agent 0 has value 7 with stamp 1, and agent 1 has no entry
   pub silent : Silent (stateAfter (ranged 1 3) tooEarly) 0 0 × Silent (stateAfter (ranged 1 3) tooEarly) 0 1
-  pub has-entry : pairOf (stateAfter (ranged 1 3) tooEarly) 0 0 ≡ record { value = 7; stamp = 1 }
-  pub has-none : pairOf (stateAfter (ranged 1 3) tooEarly) 0 1 ≡ record { value = 0; stamp = 0 }
+  pub has-entry : entryOf (stateAfter (ranged 1 3) tooEarly) 0 0 ≡ record { value = 7; stamp = 1 }
+  pub has-none : entryOf (stateAfter (ranged 1 3) tooEarly) 1 0 ≡ record { value = 0; stamp = 0 }
 
 -- by computing
 pub silent-disagree : Silent-disagree
-unfolding below someBelow every lowest howMany forEach has plus minus plusAll firstOf withinLimits processRows guardRows expressionRows rowOf fieldsHere fits fitting named namesAgain badNode reachStep reachedFrom wrongKey words termsOf areTerms keep joins derivations nodeStep nodeWith defined nodeProcess process allFew canTick callsBelow valueIn put addKey dropKey valueStep truthStep readsStep allZero pairFormed pendingFormed residualFormed agentFormed wellFormed loaded leave setKey acted takeEntry linked takes holdsNewer offer outcome stepIn stepOf
+unfolding computing
 silent-disagree = record { loads = refl; not-linked = refl; now-linked = refl; silent = (refl, refl); has-entry = refl; has-none = refl }
 
 -- PROMISED: agent 0 comes into range first. The link does not hold after load, so demand 3's words leave it out; but it holds before the propagate
@@ -77,10 +67,10 @@ pub record Covered : Type 0 where
   pub loads : loadOf (ranged 3 1) (replicate stateWords 0) 24 .check ≡ passes
   pub not-always : HeldBeforeSteps (ranged 3 1) inRange 0 0 1 → ⊥
   pub held : HeldBeforePropagates (ranged 3 1) (loaded (tableOf (ranged 3 1))) inRange 0 0 1
-  pub has-entry : pairOf (stateAfter (ranged 3 1) inRange) 0 1 ≡ record { value = 7; stamp = 1 }
+  pub has-entry : entryOf (stateAfter (ranged 3 1) inRange) 1 0 ≡ record { value = 7; stamp = 1 }
 
 pub covered : Covered
-unfolding below someBelow every lowest howMany forEach has plus minus plusAll firstOf withinLimits processRows guardRows expressionRows rowOf fieldsHere fits fitting named namesAgain badNode reachStep reachedFrom wrongKey words termsOf areTerms keep joins derivations nodeStep nodeWith defined nodeProcess process allFew canTick callsBelow valueIn put addKey dropKey valueStep truthStep readsStep allZero pairFormed pendingFormed residualFormed agentFormed wellFormed loaded leave setKey acted takeEntry linked takes holdsNewer offer outcome stepIn stepOf
+unfolding computing
 covered = record {
   loads = refl;
   not-always = λ h. not-both (h .0) refl;

@@ -1,8 +1,8 @@
 -- The agents that a state's words stand for, after a change of the words.
 -- Assumes nothing.
 use Prim.Native.Nat.{ℕ, zero, suc, _<_}
-use mathlib.Core.Bool.{Bool, true, false, cond, and-false}
-use mathlib.Core.Logic.{_⊎_, ⊎-elim}
+use mathlib.Core.Bool.{Bool, true, false, cond, not, _&&_, and-false}
+use mathlib.Core.Logic.{⊎-elim}
 use mathlib.Core.Option.{Option, none, some}
 use mathlib.Core.Path.{_≡_, refl, sym, ap, _∙_, fun-ext}
 use mathlib.Core.List.{List}
@@ -12,11 +12,11 @@ use lib.ListN.{length}
 use borrow.Author.Tests.{ltb-true, lt-ltb, ne-eqb, eq-eqb}
 use Rattle.basis.specs.KeySets.{has}
 use Rattle.basis.proofs.Tests.{same-or-other}
-use Rattle.term.specs.Acceptance.{stateWords}
 use Rattle.term.specs.Terms.{Term}
 use Rattle.state.specs.declared.Store.the-variants.{Attributes, Entries}
-use Rattle.state.specs.Layout.{keyLimit, wordOf, stampOf, zcAt, zpAt, put, addKey, dropKey}
-use Rattle.state.proofs.Places.{Place, KeySet, Zc, Zp, Mark, Word, Waits, Length, Residual, Inside, placeKind, placeAgent, same}
+use Rattle.state.specs.Layout.{keyLimit, wordOf, stampOf, zpAt, put, addKey, dropKey}
+use Rattle.state.specs.Standing.{HasBlocks}
+use Rattle.state.proofs.Places.{Place, KeySet, Zc, Zp, Mark, Word, Waits, Length, Residual, placeAt, Inside, placeKind, placeAgent, same}
 use Rattle.state.proofs.Frames.{wordAt, SameAt, value-same, term-same, put-length, put-other, put-mark, put-value, put-valueIn, add-length, add-other, has-add, drop-length, drop-other, has-drop}
 use Rattle.labs.specs.Agents.{⟨_⸴_⸴_⸴_⸴_⟩, Agent, Entry, Interface, Stigmergy, Keys, _⟦_≔_⟧, _∪｛_｝, _∖｛_｝}
 use Rattle.labs.specs.Reading.{entryOf, agentOf}
@@ -82,7 +82,7 @@ module _ (s u : List ℕ) (a : ℕ) where
       (Zc-same (h (Waits Zc a) tt (omega arith) refl)) (Zp-same (h (Waits Zp a) tt (omega arith) refl))
 
 -- AN ENTRY IS PUT
-module _ (a k v m : ℕ) (s : List ℕ) (key : k < keyLimit) (whole : length s ≡ stateWords) (there : a < 32) (pos : 0 < m) where
+module _ (a k v m : ℕ) (s : List ℕ) (key : k < keyLimit) (room : HasBlocks s) (there : a < 32) (pos : 0 < m) where
   abbrev after : List ℕ
   after = put (Entries a) k v m s
 
@@ -91,7 +91,7 @@ module _ (a k v m : ℕ) (s : List ℕ) (key : k < keyLimit) (whole : length s �
     where
       here : k ≡ j → entryOf after a j ≡ cond (eqb k j) (some (entry v m)) (entryOf s a j)
       here e = rw (← e, eq-eqb k k refl)
-          (entry-read after a k key ∙ rw (put-mark (Entries a) k v m s key whole there, put-value (Entries a) k v m s key whole there, ne-eqb m 0 (omega arith)))
+          (entry-read after a k key ∙ rw (put-mark (Entries a) k v m s key room there, put-value (Entries a) k v m s key room there, ne-eqb m 0 (omega arith)))
 
       elsewhere : (k ≡ j → ⊥) → entryOf after a j ≡ cond (eqb k j) (some (entry v m)) (entryOf s a j)
       elsewhere d =
@@ -102,7 +102,7 @@ module _ (a k v m : ℕ) (s : List ℕ) (key : k < keyLimit) (whole : length s �
 
   pub put-agent : agentOf after a ≡ ⟨ agentOf s a .I ⸴ agentOf s a .L ⟦ k ≔ some (entry v m) ⟧ ⸴ agentOf s a .P ⸴ agentOf s a .Zc ⸴ agentOf s a .Zp ⟩
   put-agent = tuple
-      (fun-ext λ j. put-valueIn (Entries a) k v m s key whole there pos (Attributes a) j ∙ rw and-false)
+      (fun-ext λ j. put-valueIn (Entries a) k v m s key room there pos (Attributes a) j ∙ rw and-false)
       (fun-ext λ j. put-L j)
       (term-same after s a (put-length (Entries a) k v m s) (put-other (Entries a) k v m s key (Length a) tt refl refl)
       (λ i l. put-other (Entries a) k v m s key (Residual a i) l refl refl))
@@ -113,6 +113,10 @@ module _ (a k v m : ℕ) (s : List ℕ) (key : k < keyLimit) (whole : length s �
 abbrev pub with : KeySet → Agent → Keys → Agent
 with Zc b Z = ⟨ b .I ⸴ b .L ⸴ b .P ⸴ Z ⸴ b .Zp ⟩
 with Zp b Z = ⟨ b .I ⸴ b .L ⸴ b .P ⸴ b .Zc ⸴ Z ⟩
+
+abbrev pub keysIn : KeySet → Agent → Keys
+keysIn Zc b = b .Zc
+keysIn Zp b = b .Zp
 
 module _ (u s : List ℕ) (a : ℕ) (e : length u ≡ length s) where
   pub waits-agent : (z : KeySet) → ((q : Place) → Inside q → same q (Waits z a) ≡ false → SameAt u s q) →
@@ -129,18 +133,17 @@ module _ (u s : List ℕ) (a : ℕ) (e : length u ≡ length s) where
       (Zc-same u s a (other (Waits Zc a) tt refl)) refl
 
 -- a key is added or dropped
-module _ (a k : ℕ) (s : List ℕ) (whole : length s ≡ stateWords) (there : a < 32) where
+module _ (a k : ℕ) (s : List ℕ) (room : HasBlocks s) (there : a < 32) where
   pub add-zp-agent : agentOf (addKey (zpAt a) k s) a ≡ with Zp (agentOf s a) (agentOf s a .Zp ∪｛ k ｝)
   add-zp-agent =
       waits-agent (addKey (zpAt a) k s) s a (add-length Zp a k s) Zp (add-other Zp a k s)
-      ∙ ap (with Zp (agentOf s a)) (fun-ext λ j. has-add Zp a k s whole there j)
+      ∙ ap (with Zp (agentOf s a)) (fun-ext λ j. has-add Zp a k s room there j)
 
-  pub drop-zp-agent : agentOf (dropKey (zpAt a) k s) a ≡ with Zp (agentOf s a) (agentOf s a .Zp ∖｛ k ｝)
-  drop-zp-agent =
-      waits-agent (dropKey (zpAt a) k s) s a (drop-length Zp a k s) Zp (drop-other Zp a k s)
-      ∙ ap (with Zp (agentOf s a)) (fun-ext λ j. has-drop Zp a k s whole there j)
-
-  pub drop-zc-agent : agentOf (dropKey (zcAt a) k s) a ≡ with Zc (agentOf s a) (agentOf s a .Zc ∖｛ k ｝)
-  drop-zc-agent =
-      waits-agent (dropKey (zcAt a) k s) s a (drop-length Zc a k s) Zc (drop-other Zc a k s)
-      ∙ ap (with Zc (agentOf s a)) (fun-ext λ j. has-drop Zc a k s whole there j)
+  pub drop-agent : (z : KeySet) → agentOf (dropKey (placeAt (Waits z a)) k s) a ≡ with z (agentOf s a) (keysIn z (agentOf s a) ∖｛ k ｝)
+  drop-agent z =
+      waits-agent (dropKey (placeAt (Waits z a)) k s) s a (drop-length z a k s) z (drop-other z a k s)
+      ∙ ap (with z (agentOf s a)) (fun-ext λ j. has-drop z a k s room there j ∙ ap (λ b. not (eqb k j) && b) (by z j))
+    where
+      by : (z : KeySet) (j : ℕ) → has (wordAt s (Waits z a)) j ≡ keysIn z (agentOf s a) j
+      by Zc j = refl
+      by Zp j = refl

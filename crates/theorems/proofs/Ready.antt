@@ -2,6 +2,7 @@
 -- and no other state has a step that is done.
 -- Assumes nothing.
 use Prim.Native.Nat.{ℕ, _+_, _*_, _<_}
+use mathlib.Core.Bool.{Bool, true}
 use mathlib.Core.Option.{Option, none}
 use mathlib.Core.Path.{_≡_, refl, sym, ap, subst, _∙_, fun-ext}
 use mathlib.Core.List.{List}
@@ -17,13 +18,13 @@ use Rattle.table.specs.Checks.{passes, firstOf}
 use Rattle.table.specs.Tables.{Table, sizesOf, tableOf, pAt, startAt}
 use Rattle.table.specs.Sound.{Limits}
 use Rattle.table.proofs.Promises.{start-process}
-use Rattle.term.specs.Acceptance.{stateWords, tableChecks}
+use Rattle.term.specs.Acceptance.{tableChecks}
 use Rattle.term.specs.Accepted.{Acceptable}
 use Rattle.term.proofs.Acceptance.{passes-accepted, accepted-passes}
 use Rattle.term.specs.Terms.{Node}
 use Rattle.state.specs.declared.Store.the-variants.{Environment, Attributes, Entries}
 use Rattle.state.specs.Layout.{keyLimit}
-use Rattle.state.specs.WellFormed.{Proper, loaded}
+use Rattle.state.specs.WellFormed.{Proper, loaded, Words}
 use Rattle.state.proofs.Places.{Zc, Zp}
 use Rattle.state.proofs.Formed.{proper-facts, facts-proper}
 use Rattle.state.proofs.Load.{loaded-clock, loaded-mark, loaded-value, loaded-set, loaded-term}
@@ -33,7 +34,7 @@ use Rattle.steps.proofs.Steps.{state-checks, done-step, load-accepted, accepted
 use Rattle.labs.specs.Agents.{Entry}
 use Rattle.labs.specs.Roots.{startOf}
 use Rattle.labs.specs.Reading.{entryOf, systemOf, initial}
-use Rattle.theorems.specs.Demand2.{Bytes, Words, Same, Ready}
+use Rattle.theorems.specs.Demand2.{Bytes, Same, Ready}
 use Rattle.theorems.proofs.Expressions.{Narrow}
 use Rattle.theorems.proofs.Reading.{tuple}
 
@@ -47,22 +48,22 @@ ready-narrow bytes s small narrow = record {
     operand : (i : ℕ) → getD (tableOf bytes .operands) i 0 < 256
     operand i = rw (getD-drop (12 + sizesOf bytes .nodes) bytes i 0) (small (12 + sizesOf bytes .nodes + i))
 
-module _ (bytes : List ℕ) (small : Bytes bytes) (scratch : ℕ) (pass : firstOf (tableChecks bytes stateWords scratch) ≡ passes) where
+module _ (bytes : List ℕ) (small : Bytes bytes) (scratch : ℕ) (pass : firstOf (tableChecks bytes true scratch) ≡ passes) where
   abbrev t : Table
   t = tableOf bytes
 
-  accepted : Acceptable bytes stateWords scratch
-  accepted = passes-accepted bytes stateWords scratch pass
+  accepted : Acceptable bytes true scratch
+  accepted = passes-accepted bytes true scratch pass
 
   limits : Limits (t .sizes)
   limits = accepted .table .sound .shaped .limits
 
   -- a well-formed state of an accepted table is ready
   pub state-ready : (s : List ℕ) → Proper (tableOf bytes) s → Ready bytes s scratch
-  state-ready s h = record { small = small; state = h; passed = proper-passes bytes stateWords scratch accepted s (proper-facts t limits s h) }
+  state-ready s h = record { small = small; state = h; passed = proper-passes bytes true scratch accepted s (proper-facts t limits s h) }
 
   pub loaded-ready : Ready bytes (loaded (tableOf bytes)) scratch
-  loaded-ready = state-ready (loaded t) (facts-proper t limits (loaded t) (load-proper bytes stateWords scratch pass))
+  loaded-ready = state-ready (loaded t) (facts-proper t limits (loaded t) (load-proper bytes true scratch pass))
 
   no-entry : (a k : ℕ) → entryOf (loaded t) a k ≡ none
   no-entry a k = cond-cases (λ (o : Option Entry). o ≡ none) (ltb k keyLimit) (λ e. rw (loaded-mark t (Entries a) k (ltb-true k keyLimit e))) (λ e. refl)
@@ -87,17 +88,17 @@ done-ready bytes s scratch kind x number small narrow e =
     let d = done-step bytes s scratch kind x number e in
     record {
       small = small;
-      state = record { whole = d .accepted .state; small = narrow; formed = d .formed };
+      state = record { whole = d .whole; small = narrow; formed = d .formed };
       passed = state-checks bytes s scratch .1 (d .accepted, d .formed);
     }
 
 -- whatever words were lent, load leaves a ready state, of the initial system
 module _ (bytes lent : List ℕ) (scratch : ℕ) (small : Bytes bytes) (e : loadOf bytes lent scratch .check ≡ passes) where
-  by-load : (P : List ℕ → Type 0) → (firstOf (tableChecks bytes stateWords scratch) ≡ passes → P (loaded (tableOf bytes))) → P (loadOf bytes lent scratch .state)
+  by-load : (P : List ℕ → Type 0) → (firstOf (tableChecks bytes true scratch) ≡ passes → P (loaded (tableOf bytes))) → P (loadOf bytes lent scratch .state)
   by-load P h =
       let a = load-accepted bytes lent scratch e in
-      let p : Acceptable bytes stateWords scratch = subst (λ (n : ℕ). Acceptable bytes n scratch) (a .state) a in
-      subst (λ (o : Outcome). P (o .state)) (sym (accepted-load bytes lent scratch a)) (h (accepted-passes bytes stateWords scratch p))
+      let p : Acceptable bytes true scratch = subst (λ (b : Bool). Acceptable bytes b scratch) (a .fit) a in
+      subst (λ (o : Outcome). P (o .state)) (sym (accepted-load bytes lent scratch a)) (h (accepted-passes bytes true scratch p))
 
   pub load-ready : Ready bytes (loadOf bytes lent scratch .state) scratch
   load-ready = by-load (λ s. Ready bytes s scratch) (loaded-ready bytes small scratch)

@@ -14,13 +14,15 @@ use Rattle.agreement.proofs.Machine.{afterSteps-append}
 use Rattle.table.specs.Checks.{Check, passes, refuses, passed, firstOf, numberOf}
 use Rattle.table.specs.Tables.{Table, tableOf}
 use Rattle.table.proofs.Checks.{append-passes, append-both}
+use Rattle.state.specs.Layout.{isWhole}
+use Rattle.state.specs.WellFormed.{Words}
 use Rattle.state.proofs.Formed.{ProperFacts}
 use Rattle.steps.specs.Steps.{Outcome, stateChecks, stepIn}
 use Rattle.steps.specs.Runs.{Progress, begun, added, ran, kindIn, agentIn, numberIn, stepsOf, scheduleChecks, runOf}
 use Rattle.steps.proofs.Steps.{step-in}
 use Rattle.steps.proofs.Schedules.{schedule-checks}
 use Rattle.steps.proofs.Proper.{checks-accepted, checks-proper, step-checked, proper-passes}
-use Rattle.theorems.specs.Demand2.{Bytes, Words}
+use Rattle.theorems.specs.Demand2.{Bytes}
 use Rattle.theorems.specs.Lists.{next}
 use Rattle.theorems.specs.Run.{stepAt, firstSteps, stateBefore, outcomeAt, InTurn, Run}
 
@@ -58,7 +60,7 @@ module _ (bytes s : List ℕ) (scratch : ℕ) (schedule answers : List ℕ) wher
     same-length = length-set (p .answers) n byte ∙ r .same-length;
     done = ap (λ (m : ℕ). m + cond (passed (at n .check)) 1 0) (r .done);
     refused = ap (λ (m : ℕ). p .refused + m) (refused-counted (at n .check)) ∙ ap (λ (m : ℕ). m + cond (not (passed (at n .check))) 1 0) (r .refused);
-    taken = ap (λ (m : ℕ). m + at n .taken) (r .taken);
+    taken = ap (λ (m : ℕ). m + at n .tally .taken) (r .taken);
     total = omega (arith, r .total, one-counted (at n .check));
   }
     where
@@ -68,7 +70,7 @@ module _ (bytes s : List ℕ) (scratch : ℕ) (schedule answers : List ℕ) wher
   module _ (small : Bytes bytes) (narrow : Words s) (pass : firstOf (stateChecks bytes s scratch) ≡ passes) where
     -- the checks that have passed pass of every proper state, and every step leaves one
     passing : (u : List ℕ) → ProperFacts (tableOf bytes) u → firstOf (stateChecks bytes u scratch) ≡ passes
-    passing = proper-passes bytes (length s) scratch (checks-accepted bytes small s narrow scratch pass)
+    passing = proper-passes bytes (isWhole s) scratch (checks-accepted bytes small s narrow scratch pass)
 
     step-at : (n : ℕ) → ProperFacts (tableOf bytes) (before n) → at n ≡ stepIn (tableOf bytes) (before n) (kindIn schedule n) (agentIn schedule n) (numberIn schedule n)
     step-at n h = step-in bytes (before n) scratch (kindIn schedule n) (agentIn schedule n) (numberIn schedule n) (passing (before n) h)

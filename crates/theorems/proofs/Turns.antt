@@ -18,25 +18,27 @@ use Rattle.table.proofs.Promises.{stigmergy-set-operands}
 use Rattle.term.specs.declared.Label.{Label}
 use Rattle.term.specs.declared.Label.the-variants.{Ticking, Acting}
 use Rattle.term.specs.Accepted.{ActionNode, Labelled}
-use Rattle.term.specs.Acceptance.{stateWords}
 use Rattle.state.specs.declared.Store.the-variants.{Entries}
-use Rattle.state.specs.Layout.{keyLimit, clockOf, stampOf}
+use Rattle.state.specs.declared.Entry.{Entry}
+use Rattle.state.specs.Layout.{keyLimit, stampOf}
+use Rattle.state.specs.Entries.{clockOf, nextStamp, newer}
+use Rattle.state.specs.Standing.{HasBlocks}
 use Rattle.state.proofs.Places.{Zp, Zc, Clock}
 use Rattle.state.proofs.Frames.{put-other, drop-other}
 use Rattle.state.proofs.Formed.{WellFormed, well-formed-read}
-use Rattle.steps.specs.Acts.{chosen, nextStamp, wordIn, valueFor, storeOf, setKey}
+use Rattle.steps.specs.Acts.{chosen, wordIn, valueFor, storeOf, setKey}
 use Rattle.steps.specs.Offers.{offered}
 use Rattle.steps.specs.Steps.{after}
 use Rattle.steps.proofs.Steps.{Done, act-able}
 use Rattle.steps.proofs.Acts.{chosen-inside, action-key, set-tick, set-value, entry-word, acted-other}
 use Rattle.steps.proofs.Offers.{offered-other}
 use Rattle.theorems.specs.Demand3.{Write, writeOf}
-use Rattle.theorems.proofs.Views.{Pair, newer, seen, links, Shows}
+use Rattle.theorems.proofs.Views.{seen, links, Shows}
 use Rattle.theorems.proofs.ActViews.{actMove, act-shows}
 use Rattle.theorems.proofs.OfferViews.{propagate-shows, confirm-shows}
 
 -- what a done step is to key j
-abbrev pub stepMove : Table → List ℕ → ℕ → ℕ → ℕ → ℕ → Move Pair
+abbrev pub stepMove : Table → List ℕ → ℕ → ℕ → ℕ → ℕ → Move Entry
 stepMove t s zero x c j = actMove t s x j (chosen t s x c .label)
 stepMove t s (suc zero) x k j = cond (eqb k j) (propagate x) quiet
 stepMove t s (suc (suc kind)) x k j = cond (eqb k j) (confirm x) quiet
@@ -47,7 +49,7 @@ stepAdds bytes s kind x number = cond (eqb kind 0) (writeOf bytes s x (chosen (t
 
 -- a well-formed state, as facts
 formed : (bytes s : List ℕ) (scratch kind x number : ℕ) → Done bytes s scratch kind x number → WellFormed (tableOf bytes) s
-formed bytes s scratch kind x number done = well-formed-read (tableOf bytes) (done .accepted .table .sound .shaped .limits) s (done .accepted .state) (done .formed)
+formed bytes s scratch kind x number done = well-formed-read (tableOf bytes) (done .accepted .table .sound .shaped .limits) s (omega (arith, done .whole)) (done .formed)
 
 -- an act's label is of an action node
 labelled : (bytes s : List ℕ) (scratch x c : ℕ) → Done bytes s scratch 0 x c → Labelled (tableOf bytes) (chosen (tableOf bytes) s x c .label)
@@ -61,14 +63,14 @@ pub after-shows : (bytes s : List ℕ) (scratch kind x number : ℕ) → Done by
     → Shows (after (tableOf bytes) s kind x number) j (moved newer (links (tableOf bytes) s j) (stepMove (tableOf bytes) s kind x number j) (seen s j)) a
 after-shows bytes s scratch zero x c done j l a =
     let t = tableOf bytes in
-    act-shows t s x j (done .accepted .state) (omega arith) (omega arith) (chosen t s x c) (labelled bytes s scratch x c done)
+    act-shows t s x j (omega (arith, done .whole)) (omega arith) (omega arith) (chosen t s x c) (labelled bytes s scratch x c done)
     (action-key t s x (done .accepted .table .sound)) a
 after-shows bytes s scratch (suc zero) x k done j l a =
     let key = done .range .key-below (omega arith) in
-    propagate-shows (tableOf bytes) s x k (omega arith) (omega arith) (done .accepted .state) (done .range .agent-below) j (omega arith) a
+    propagate-shows (tableOf bytes) s x k (omega arith) (omega arith) (omega (arith, done .whole)) (done .range .agent-below) j (omega arith) a
 after-shows bytes s scratch (suc (suc kind)) x k done j l a =
     let key = done .range .key-below (omega arith) in
-    confirm-shows (tableOf bytes) s x k (omega arith) (omega arith) (done .accepted .state) (done .range .agent-below) j (omega arith) a
+    confirm-shows (tableOf bytes) s x k (omega arith) (omega arith) (omega (arith, done .whole)) (done .range .agent-below) j (omega arith) a
 
 -- to a key that there is not a step is nothing
 pub quiet-past : (bytes s : List ℕ) (scratch kind x number : ℕ) → Done bytes s scratch kind x number → (j : ℕ) → tableOf bytes .sizes .stigmergy ≤ j
@@ -93,7 +95,7 @@ quiet-past bytes s scratch (suc (suc kind)) x k done j l =
     rw (ne-eqb k j (λ e. omega arith))
 
 -- a write is newer than what it replaces
-fresh-either : (b c : Bool) (m : Move Pair) (v : View Pair) → Fresh newer m v → Fresh newer (cond b (cond c m quiet) quiet) v
+fresh-either : (b c : Bool) (m : Move Entry) (v : View Entry) → Fresh newer m v → Fresh newer (cond b (cond c m quiet) quiet) v
 fresh-either true true m v f = f
 fresh-either true false m v f = tt
 fresh-either false c m v f = tt
@@ -111,16 +113,16 @@ step-fresh bytes s scratch (suc zero) x k done j l = fresh-either true (eqb k j)
 step-fresh bytes s scratch (suc (suc kind)) x k done j l = fresh-either true (eqb k j) (confirm x) (seen s j) tt
 
 -- the clock rises by one for each write
-set-clock : (bytes s : List ℕ) (x : ℕ) → length s ≡ stateWords → x < 32 → (m : Label) → Labelled (tableOf bytes) m → ((n : ℕ) → ActionNode (tableOf bytes) n → pAt (tableOf bytes) n < keyLimit)
+set-clock : (bytes s : List ℕ) (x : ℕ) → HasBlocks s → x < 32 → (m : Label) → Labelled (tableOf bytes) m → ((n : ℕ) → ActionNode (tableOf bytes) n → pAt (tableOf bytes) n < keyLimit)
     → clockOf (setKey (tableOf bytes) s x m) ≡ clockOf s + length (writeOf bytes s x m)
-set-clock bytes s x whole there Ticking i key = ap (λ (u : List ℕ). clockOf u) (set-tick (tableOf bytes) s x) ∙ omega arith
-set-clock bytes s x whole there (Acting n) i key = ⊎-elim entered other (same-or-other (kindAt t n) 3)
+set-clock bytes s x room there Ticking i key = ap (λ (u : List ℕ). clockOf u) (set-tick (tableOf bytes) s x) ∙ omega arith
+set-clock bytes s x room there (Acting n) i key = ⊎-elim entered other (same-or-other (kindAt t n) 3)
   where
     t : Table
     t = tableOf bytes
 
     entered : kindAt (tableOf bytes) n ≡ 3 → clockOf (setKey (tableOf bytes) s x (Acting n)) ≡ clockOf s + length (writeOf bytes s x (Acting n))
-    entered e = entry-word t s x n whole there e (key n i) Clock tt ∙ rw (eq-eqb (kindAt t n) 3 e)
+    entered e = entry-word t s x n room there e (key n i) Clock tt ∙ rw (eq-eqb (kindAt t n) 3 e)
 
     other : (kindAt (tableOf bytes) n ≡ 3 → ⊥) → clockOf (setKey (tableOf bytes) s x (Acting n)) ≡ clockOf s + length (writeOf bytes s x (Acting n))
     other d =
@@ -133,20 +135,20 @@ pub step-clock : (bytes s : List ℕ) (scratch kind x number : ℕ) → Done byt
 step-clock bytes s scratch zero x c done =
     let t = tableOf bytes in
     acted-other t s x (chosen t s x c) Clock tt refl refl (λ i l. refl)
-    ∙ set-clock bytes s x (done .accepted .state) (omega arith) (chosen t s x c .label) (labelled bytes s scratch x c done) (action-key t s x (done .accepted .table .sound))
+    ∙ set-clock bytes s x (omega (arith, done .whole)) (omega arith) (chosen t s x c .label) (labelled bytes s scratch x c done) (action-key t s x (done .accepted .table .sound))
 step-clock bytes s scratch (suc zero) x k done =
     let t = tableOf bytes in
     let key = done .range .key-below (omega arith) in
-    drop-other Zp x k (offered t s x k false (t .sizes .agents)) Clock tt refl
-    ∙ offered-other t s x k false (omega arith) (t .sizes .agents) Clock tt (λ y l d e. refl) ∙ omega arith
+    drop-other Zp x k (offered t s x k true false (t .sizes .agents)) Clock tt refl
+    ∙ offered-other t s x k true false (omega arith) (t .sizes .agents) Clock tt (λ y l d e. refl) ∙ omega arith
 step-clock bytes s scratch (suc (suc kind)) x k done =
     let t = tableOf bytes in
     let key = done .range .key-below (omega arith) in
-    drop-other Zc x k (offered t s x k true (t .sizes .agents)) Clock tt refl
-    ∙ offered-other t s x k true (omega arith) (t .sizes .agents) Clock tt (λ y l d e. refl) ∙ rw (eqb·suc-zero (suc kind)) (omega arith)
+    drop-other Zc x k (offered t s x k true true (t .sizes .agents)) Clock tt refl
+    ∙ offered-other t s x k true true (omega arith) (t .sizes .agents) Clock tt (λ y l d e. refl) ∙ rw (eqb·suc-zero (suc kind)) (omega arith)
 
 -- the writes bear the stamps that the clock gives, and are what the step writes to each key
-abbrev pub written : Write → Pair
+abbrev pub written : Write → Entry
 written w = record { value = w .value; stamp = w .stamp }
 
 pub adds-numbered : (bytes s : List ℕ) (kind x number : ℕ) → Numbered (λ (w : Write). w .stamp) (clockOf s) (stepAdds bytes s kind x number)
@@ -161,7 +163,7 @@ adds-numbered bytes s kind x number = by (eqb kind 0) (chosen (tableOf bytes) s 
     by true (Acting n) = one (eqb (kindAt (tableOf bytes) n) 3) _ refl
     by false m = tt
 
-wrote-nothing : (b : Bool) (m : Move Pair) → wrote m ≡ [] → wrote (cond b m quiet) ≡ []
+wrote-nothing : (b : Bool) (m : Move Entry) → wrote m ≡ [] → wrote (cond b m quiet) ≡ []
 wrote-nothing true m e = e
 wrote-nothing false m e = refl
 

@@ -1,4 +1,4 @@
--- One key of a state seen as a view: each agent's pair, and who has the key in Zp.
+-- One key of a state seen as a view: each agent's entry, and who has the key in Zp.
 -- Assumes nothing.
 use Prim.Native.Nat.{ℕ}
 use mathlib.Core.Bool.{Bool, true, false, cond, _&&_}
@@ -10,63 +10,53 @@ use borrow.Author.Tests.{eq-eqb, ne-eqb}
 use Rattle.basis.specs.KeySets.{has}
 use Rattle.basis.proofs.Tests.{same-or-other}
 use Rattle.agreement.specs.View.{View}
-use Rattle.agreement.specs.Stamps.{byStamp}
 use Rattle.agreement.specs.Moves.{Move, quiet, moved}
 use Rattle.table.specs.Tables.{Table}
 use Rattle.state.specs.declared.Store.the-variants.{Entries}
-use Rattle.state.specs.Layout.{wordOf, stampOf, zpOf}
+use Rattle.state.specs.declared.Entry.{Entry}
+use Rattle.state.specs.Layout.{zpOf}
+use Rattle.state.specs.Entries.{entryOf, newer}
 use Rattle.state.specs.Evaluation.{linkHolds}
 use Rattle.state.proofs.Places.{Zp, Mark, Word, Waits}
 use Rattle.state.proofs.Frames.{SameAt}
 
--- an agent's pair for a key; it is an entry where the stamp is above 0
-pub record Pair : Type 0 where
-  pub value : ℕ
-  pub stamp : ℕ
-
-abbrev pub absent : Pair
+abbrev pub absent : Entry
 absent = record { value = 0; stamp = 0 }
 
-abbrev pub stampIn : Pair → ℕ
+abbrev pub stampIn : Entry → ℕ
 stampIn e = e .stamp
 
-abbrev pub newer : Pair → Pair → Bool
-newer = byStamp stampIn
-
--- agent a's pair for key k, and the key's view
-abbrev pub pairOf : List ℕ → ℕ → ℕ → Pair
-pairOf s k a = record { value = wordOf s (Entries a) k; stamp = stampOf s a k }
-
-abbrev pub seen : List ℕ → ℕ → View Pair
-seen s k = record { entry = pairOf s k; waits = λ a. has (zpOf s a) k }
+-- the view of key k
+abbrev pub seen : List ℕ → ℕ → View Entry
+seen s k = record { entry = λ a. entryOf s a k; waits = λ a. has (zpOf s a) k }
 
 -- the key's link, to agents that there are
 abbrev pub links : Table → List ℕ → ℕ → ℕ → ℕ → Bool
 links t s k a b = ltb b (t .sizes .agents) && linkHolds t s k a b
 
-pub pair-same : {v w m n : ℕ} → v ≡ w → m ≡ n → _≡_ {A = Pair} (record { value = v; stamp = m }) (record { value = w; stamp = n })
-pair-same p q = λ i. record { value = p i; stamp = q i }
+pub same-entry : {v w m n : ℕ} → v ≡ w → m ≡ n → _≡_ {A = Entry} (record { value = v; stamp = m }) (record { value = w; stamp = n })
+same-entry p q = λ i. record { value = p i; stamp = q i }
 
 -- agent a's part of key k is as this view has it
-pub record Shows (s : List ℕ) (k : ℕ) (v : View Pair) (a : ℕ) : Type 0 where
+pub record Shows (s : List ℕ) (k : ℕ) (v : View Entry) (a : ℕ) : Type 0 where
   pub entry : seen s k .entry a ≡ v .entry a
   pub waits : seen s k .waits a ≡ v .waits a
 
 -- words that are the same show the same
-pub shows-same : (s u : List ℕ) (k : ℕ) (v : View Pair) (a : ℕ) → SameAt s u (Word (Entries a) k) → SameAt s u (Mark (Entries a) k) → SameAt s u (Waits Zp a)
+pub shows-same : (s u : List ℕ) (k : ℕ) (v : View Entry) (a : ℕ) → SameAt s u (Word (Entries a) k) → SameAt s u (Mark (Entries a) k) → SameAt s u (Waits Zp a)
     → Shows u k v a → Shows s k v a
-shows-same s u k v a p q r w = record { entry = pair-same p q ∙ w .entry; waits = ap (λ (z : ℕ). has z k) r ∙ w .waits }
+shows-same s u k v a p q r w = record { entry = same-entry p q ∙ w .entry; waits = ap (λ (z : ℕ). has z k) r ∙ w .waits }
 
 pub shows-itself : (s : List ℕ) (k a : ℕ) → Shows s k (seen s k) a
 shows-itself s k a = record { entry = refl; waits = refl }
 
-pub pick-pair : (b : Bool) (v w m n : ℕ)
-    → _≡_ {A = Pair} (record { value = cond b v w; stamp = cond b m n }) (cond b (record { value = v; stamp = m }) (record { value = w; stamp = n }))
-pick-pair true v w m n = refl
-pick-pair false v w m n = refl
+pub pick-entry : (b : Bool) (v w m n : ℕ)
+    → _≡_ {A = Entry} (record { value = cond b v w; stamp = cond b m n }) (cond b (record { value = v; stamp = m }) (record { value = w; stamp = n }))
+pick-entry true v w m n = refl
+pick-entry false v w m n = refl
 
 -- a move of key k, seen from any key j
-pub shows-key : (t : Table) (s u : List ℕ) (k j a : ℕ) (m : Move Pair) → Shows u k (moved newer (links t s k) m (seen s k)) a → ((k ≡ j → ⊥) → Shows u j (seen s j) a)
+pub shows-key : (t : Table) (s u : List ℕ) (k j a : ℕ) (m : Move Entry) → Shows u k (moved newer (links t s k) m (seen s k)) a → ((k ≡ j → ⊥) → Shows u j (seen s j) a)
     → Shows u j (moved newer (links t s j) (cond (eqb k j) m quiet) (seen s j)) a
 unfolding moved
 shows-key t s u k j a m own other =

@@ -1,5 +1,5 @@
 -- Demand 2: a step is done exactly when a rule of LAbS and the paper's limits allow it, and the state after it is the one that they give.
-use Prim.Native.Nat.{ℕ, _^_, _≤_, _<_}
+use Prim.Native.Nat.{ℕ, _≤_, _<_}
 use mathlib.Core.Bool.{Bool, true}
 use mathlib.Core.Path.{_≡_}
 use mathlib.Core.Logic.{_↔_}
@@ -12,7 +12,9 @@ use Rattle.table.specs.Tables.{Table, tableOf}
 use Rattle.term.specs.Terms.{Term, words}
 use Rattle.term.specs.Processes.{Derivation, derivations, process}
 use Rattle.state.specs.Evaluation.{linkHolds}
-use Rattle.state.specs.WellFormed.{Proper}
+use Rattle.state.specs.WellFormed.{Proper, Words}
+use Rattle.steps.specs.declared.Tally.{Tally}
+use Rattle.steps.specs.Tallies.{tally, noTally}
 use Rattle.steps.specs.Steps.{done, stateChecks, loadOf, stepOf}
 use Rattle.labs.specs.Agents.{System}
 use Rattle.labs.specs.Expressions.{_⊨_, φ}
@@ -21,23 +23,20 @@ use Rattle.labs.specs.Systems.{Acted, Passed, put, qry, between}
 use Rattle.labs.specs.Reading.{systemOf, initial}
 use Rattle.theorems.specs.Run.{Run}
 
--- The step (kind, agent, number) may take S to S′, and this many agents take an entry: a rule gives it and the limits allow it:
+-- The step (kind, agent, number) may take S to S′ and tallies the agents that take an entry: a rule gives it and the limits allow it:
 -- at most 65,535 derivations of every subterm of the residual, a clock of at most 65,535, at most 63 words left
-pub data Allowed (t : Table) (S S′ : System) : ℕ → ℕ → ℕ → ℕ → Type 0 where
+pub data Allowed (t : Table) (S S′ : System) : ℕ → ℕ → ℕ → Tally → Type 0 where
   act : {x c : ℕ} {d : Derivation} → Acted t (t .sizes .agents) x d S S′ → getElem? (derivations (process t (S .agent x .P))) c ≡ some d →
       ((P : Term) → Subterm P (S .agent x .P) → length (derivations (process t P)) ≤ 65535) →
-      S′ .clock ≤ 65535 → length (words (d .leaving)) ≤ 63 → Allowed t S S′ 0 x c 0
+      S′ .clock ≤ 65535 → length (words (d .leaving)) ≤ 63 → Allowed t S S′ 0 x c noTally
   propagate : {x k : ℕ} {took : ℕ → Bool} → k < t .sizes .stigmergy → Passed t (t .sizes .agents) x put k took S S′ →
-      Allowed t S S′ 1 x k (howMany took (t .sizes .agents))
+      Allowed t S S′ 1 x k (tally (howMany took (t .sizes .agents)))
   confirm : {x k : ℕ} {took : ℕ → Bool} → k < t .sizes .stigmergy → Passed t (t .sizes .agents) x qry k took S S′ →
-      Allowed t S S′ 2 x k (howMany took (t .sizes .agents))
+      Allowed t S S′ 2 x k (tally (howMany took (t .sizes .agents)))
 
--- numbers of a width, as slices hold them
+-- bytes, as slices hold them
 abbrev pub Bytes : List ℕ → Type 0
 Bytes l = (i : ℕ) → getD l i 0 < 256
-
-abbrev pub Words : List ℕ → Type 0
-Words l = (i : ℕ) → getD l i 0 < 2 ^ 32
 
 -- two systems with the same environment, clock and agents
 pub record Same (agents : ℕ) (S S′ : System) : Type 0 where
@@ -69,13 +68,13 @@ pub record Demand-2 : Type 0 where
   pub begins : (bytes lent : List ℕ) (scratch : ℕ) → Bytes bytes → loadOf bytes lent scratch .check ≡ passes →
       Same (tableOf bytes .sizes .agents) (systemOf (loadOf bytes lent scratch .state)) (initial (tableOf bytes))
   -- a step is done with these words exactly when they are a well-formed state, and the rules and limits allow the system that they stand for
-  pub exactly : (bytes s s′ : List ℕ) (scratch kind x number taken : ℕ) → Ready bytes s scratch →
-      (stepOf bytes s scratch kind x number ≡ done taken s′)
-      ↔ (Proper (tableOf bytes) s′ × Allowed (tableOf bytes) (systemOf s) (systemOf s′) kind x number taken)
+  pub exactly : (bytes s s′ : List ℕ) (scratch kind x number : ℕ) (counted : Tally) → Ready bytes s scratch →
+      (stepOf bytes s scratch kind x number ≡ done counted s′)
+      ↔ (Proper (tableOf bytes) s′ × Allowed (tableOf bytes) (systemOf s) (systemOf s′) kind x number counted)
   -- whatever system the rules and limits allow, the step is done and leaves words that stand for it
-  pub every : (bytes s : List ℕ) (scratch kind x number taken : ℕ) → Ready bytes s scratch → (S′ : System) →
-      Allowed (tableOf bytes) (systemOf s) S′ kind x number taken →
-      (s′ : List ℕ) × (stepOf bytes s scratch kind x number ≡ done taken s′) × Same (tableOf bytes .sizes .agents) S′ (systemOf s′)
+  pub every : (bytes s : List ℕ) (scratch kind x number : ℕ) (counted : Tally) → Ready bytes s scratch → (S′ : System) →
+      Allowed (tableOf bytes) (systemOf s) S′ kind x number counted →
+      (s′ : List ℕ) × (stepOf bytes s scratch kind x number ≡ done counted s′) × Same (tableOf bytes .sizes .agents) S′ (systemOf s′)
   -- two well-formed states that stand for one system are the same words
   pub one : (bytes s s′ : List ℕ) (scratch : ℕ) → Ready bytes s scratch → Proper (tableOf bytes) s′ →
       Same (tableOf bytes .sizes .agents) (systemOf s) (systemOf s′) → s ≡ s′

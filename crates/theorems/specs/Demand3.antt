@@ -15,9 +15,10 @@ use Rattle.term.specs.declared.Label.{Label}
 use Rattle.term.specs.declared.Label.the-variants.{Ticking, Acting}
 use Rattle.state.specs.declared.Store.the-variants.{Entries}
 use Rattle.state.specs.Layout.{wordOf, stampOf, zpOf}
+use Rattle.state.specs.Entries.{nextStamp}
 use Rattle.state.specs.Evaluation.{linkHolds}
 use Rattle.state.specs.WellFormed.{loaded}
-use Rattle.steps.specs.Acts.{chosen, valueFor, wordIn, nextStamp}
+use Rattle.steps.specs.Acts.{chosen, valueFor, wordIn}
 use Rattle.steps.specs.Steps.{loadOf}
 use Rattle.theorems.specs.Lists.{Step, outcomeOf, next, stateAfter}
 

@@ -7,7 +7,7 @@ use lib.Dec.{eqb}
 use lib.ListN.{replicate, set}
 use Rattle.table.specs.Checks.{numberOf, placeOf}
 use Rattle.table.specs.Tables.{sizesOf}
-use Rattle.term.specs.Acceptance.{stateWords}
+use Rattle.state.specs.Layout.{stateWords}
 use Rattle.steps.specs.Steps.{Outcome, loadOf}
 use Rattle.steps.specs.Runs.{Rehearsal, stepsOf, runOf}
 use Rattle.theorems.specs.Cases.{Case, cases}
@@ -21,7 +21,7 @@ wordsFrom i (w ∷ ws) = cond (eqb w 0) (wordsFrom (suc i) ws) (i ∷ w ∷ word
 abbrev pub summary : Outcome → Rehearsal → List ℕ
 summary l r =
     numberOf (l .check) ∷ placeOf (l .check) ∷ numberOf (r .check) ∷ placeOf (r .check)
-    ∷ r .progress .done ∷ r .progress .refused ∷ r .progress .taken ∷ (r .progress .answers ++ wordsFrom 0 (r .progress .state))
+    ∷ r .progress .done ∷ r .progress .refused ∷ r .progress .tally .taken ∷ (r .progress .answers ++ wordsFrom 0 (r .progress .state))
 
 -- words with some of them replaced: a place and a word, and so on
 unfoldable pub patched : List ℕ → List ℕ → List ℕ

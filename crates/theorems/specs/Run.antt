@@ -9,6 +9,7 @@ use Rattle.basis.specs.Numbers.{howMany, forEach}
 use Rattle.basis.specs.Bytes.{u16At}
 use Rattle.agreement.specs.Machine.{afterSteps}
 use Rattle.table.specs.Checks.{passes, refuses, firstOf, passed, numberOf}
+use Rattle.steps.specs.Tallies.{noTally}
 use Rattle.steps.specs.Steps.{Outcome, stateChecks}
 use Rattle.steps.specs.Runs.{Progress, runOf}
 use Rattle.theorems.specs.Lists.{Step, outcomeOf, next}
@@ -44,7 +45,7 @@ module _ (bytes s : List ℕ) (scratch : ℕ) (schedule : List ℕ) where
     pub same-length : length (p .answers) ≡ length answers
     pub done : p .done ≡ howMany (λ (i : ℕ). passed (outcomeAt i .check)) n
     pub refused : p .refused ≡ howMany (λ (i : ℕ). not (passed (outcomeAt i .check))) n
-    pub taken : p .taken ≡ forEach (λ (i sum : ℕ). sum + outcomeAt i .taken) n 0
+    pub taken : p .tally .taken ≡ forEach (λ (i sum : ℕ). sum + outcomeAt i .tally .taken) n 0
     pub total : p .done + p .refused ≡ n
 
   pub record Run (answers : List ℕ) : Type 0 where
@@ -56,4 +57,4 @@ module _ (bytes s : List ℕ) (scratch : ℕ) (schedule : List ℕ) where
         InTurn answers (size schedule) (runOf bytes s scratch schedule answers .progress)
     -- a refused run leaves state and answers as they came, and its totals are 0
     pub run-refused : (number place : ℕ) → runOf bytes s scratch schedule answers .check ≡ refuses number place →
-        runOf bytes s scratch schedule answers .progress ≡ record { state = s; answers = answers; done = 0; refused = 0; taken = 0 }
+        runOf bytes s scratch schedule answers .progress ≡ record { state = s; answers = answers; done = 0; refused = 0; tally = noTally }

@@ -9,8 +9,9 @@ use lib.ListN.{getD}
 use borrow.Author.Tests.{eq-eqb, ne-eqb, lt-leb, le-leb}
 use Rattle.basis.specs.KeySets.{has}
 use Rattle.state.specs.declared.Store.{Store}
-use Rattle.state.specs.declared.Store.the-variants.{Entries}
-use Rattle.state.specs.Layout.{markOf, wordOf, markAt, zcAt, zpAt}
+use Rattle.state.specs.declared.Entry.{Entry}
+use Rattle.state.specs.Layout.{markOf, wordOf, zcAt, zpAt}
+use Rattle.state.specs.Entries.{entryOf}
 use Rattle.state.specs.WellFormed.{pairFormed, pendingFormed}
 
 module _ (s : List ℕ) (store : Store) (highest keys k mark : ℕ) (is : mark ≡ markOf s store k) where
@@ -26,8 +27,8 @@ module _ (s : List ℕ) (store : Store) (highest keys k mark : ℕ) (is : mark �
   unfolding pairFormed
   pair-present h e = rw (← is, le-leb mark highest h, ne-eqb mark 0 e)
 
--- c, p and m are the places of both sets and of the key's stamp
-pub pending-is : (s : List ℕ) (a k c p m : ℕ) → c ≡ zcAt a → p ≡ zpAt a → m ≡ markAt (Entries a) k
-    → (x y : Bool) → x ≡ has (getD s c 0) k → y ≡ has (getD s p 0) k → (not (x || y) || ltb 0 (getD s m 0)) ≡ pendingFormed s a k
+-- c and p are the places of both sets, e is the key's entry
+pub pending-is : (s : List ℕ) (a k c p : ℕ) → c ≡ zcAt a → p ≡ zpAt a → (x y : Bool) → x ≡ has (getD s c 0) k → y ≡ has (getD s p 0) k
+    → (e : Entry) → e ≡ entryOf s a k → (not (x || y) || ltb 0 (e .stamp)) ≡ pendingFormed s a k
 unfolding pendingFormed
-pending-is s a k c p m ec ep em x y ex ey = rw (ex, ey, ec, ep, em)
+pending-is s a k c p ec ep x y ex ey e ee = rw (ex, ey, ec, ep, ee)

@@ -2,8 +2,8 @@
 use crate::pairs::store_formed;
 use crate::pending::all_pending_formed;
 use crate::residuals::residual_formed;
-use state::CLOCK;
 use state::Store;
+use state::clock_of;
 use state::zc_at;
 use state::zp_at;
 use table::Sizes;
@@ -22,7 +22,8 @@ fn agent_formed(sizes: Sizes, kinds: &[u8], state: &[u32], agent: usize) -> bool
     if !store_formed(state, Store::Attributes(agent), 1, sizes.attributes) {
         return false;
     }
-    if !store_formed(state, Store::Entries(agent), state[CLOCK], sizes.stigmergy) {
+    let clock = clock_of(state);
+    if !store_formed(state, Store::Entries(agent), clock, sizes.stigmergy) {
         return false;
     }
     let zc = zc_at(agent);

@@ -10,10 +10,10 @@ use agents::agents_formed;
 pub use loading::write_loaded;
 use pairs::store_formed;
 use state::AGENTS;
-use state::CLOCK;
 use state::CLOCK_LIMIT;
 use state::Store;
 use state::block_at;
+use state::clock_of;
 use table::Sizes;
 use zeros::all_zero;
 ghost use mathlib.Core.Path.{_≡_};
@@ -31,7 +31,7 @@ pub fn well_formed(sizes: Sizes, kinds: &[u8], state: &[u32]) -> bool
     if state[AGENTS] as usize != sizes.agents {
         return false;
     }
-    if CLOCK_LIMIT < state[CLOCK] {
+    if CLOCK_LIMIT < clock_of(state) {
         return false;
     }
     if !store_formed(state, Store::Environment, 1, sizes.environment) {

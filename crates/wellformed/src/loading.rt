@@ -1,5 +1,5 @@
 // The words that load writes.
-use residual::clear;
+use basis::words::clear;
 use state::AGENTS;
 use state::length_at;
 use state::residual_at;

@@ -7,15 +7,16 @@ use native.Mathlib.Omega.{arith}
 use denote.Ref.{now}
 use lib.ListN.{length, take, drop}
 use borrow.Author.Needs.{needs}
+use borrow.Author.Tests.{not-true, not-false}
 use Rattle.table.specs.declared.Sizes.{Sizes}
 use Rattle.table.specs.Tables.{Table, table, sizesOf, tableOf}
-use Rattle.table.specs.Sound.{Shaped}
+use Rattle.table.specs.Sound.{Limits, Shaped}
 use Rattle.table.proofs.Measuring.{measured-length, measured-shape}
 use Rattle.term.specs.Parts.{contentChecks}
 use Rattle.accept.specs.Answers.{Judged}
 use Rattle.accept.proofs.judge_lent.Statement.{statement}
 use Rattle.accept.proofs.judge_lent.Tie as tie
-use Rattle.accept.proofs.Answering.{judged-refused, judged-later, lent-table, lent-state, lent-short, lent-enough}
+use Rattle.accept.proofs.Answering.{judged-refused, judged-later, lent-table, lent-not, lent-short, lent-enough}
 
 abbrev bytes : tie.Start → List ℕ
 bytes a = now (a .args .table)
@@ -36,15 +37,15 @@ whole : (a : tie.Start) → length (bytes a) ≡ 12 + 5 * N a
 whole a = let e = same-nodes a in let w = measured-length (bytes a) (a .pre .0) in omega arith
 
 returns : tie.Need-returns
-returns c = judged-refused (lent-state (bytes (c .before .before .before)) _ _ (c .if1 .taken)) refl
+returns c = let a = c .before .before .before in judged-refused (lent-not (bytes a) (a .args .fits) _ (not-true (a .args .fits) (c .if1 .taken))) refl
 
-mul-if2 : tie.Need-mul-if2
-mul-if2 c = let w = whole (c .before .before .before .before) in omega arith
+scratch-words-requires : tie.Need-scratch-words-requires
+scratch-words-requires c κs = let a = c .before .before .before in subst Limits (sym (a .pre .1)) (measured-shape (bytes a) (a .pre .0) .limits)
 
 returns-2 : tie.Need-returns-2
 returns-2 c =
-    let e = same-nodes (c .before .before .before .before .before) in
-    judged-refused (lent-short (bytes (c .before .before .before .before .before)) _ _ (c .before .before .if1 .left) (omega arith)) refl
+    let a = c .before .before .before .before .before in
+    judged-refused (lent-short (bytes a) (a .args .fits) _ (not-false (a .args .fits) (c .before .before .if1 .left)) (omega (arith, same-nodes a, c .before .scratch-words .ensures))) refl
 
 add-operands : tie.Need-add-operands
 add-operands c = search needs
@@ -79,7 +80,7 @@ returns-3 : tie.Need-returns-3
 returns-3 c =
     let a = c .before .before .before .before .before .before .before .before .before .before .before .before in
     let e = same-nodes a in
-    judged-later (lent-enough (bytes a) _ _ (c .before .before .before .before .before .before .before .before .before .if1 .left) (omega arith))
+    judged-later (lent-enough (bytes a) (a .args .fits) _ (not-false (a .args .fits) (c .before .before .before .before .before .before .before .before .before .if1 .left)) (omega (arith, c .before .before .before .before .before .before .before .before .scratch-words .ensures)))
     (subst (λ (t : Table). Judged t (contentChecks t) (c .before .before .judge .last .1 .1 .1 .0) (c .before .before .judge .result)) (is-table a) (c .before .before .judge .ensures))
 
 pub judge-lent-spec : {M : Type 1} → statement M
@@ -87,7 +88,7 @@ judge-lent-spec =
     tie.close
     (tie.spec
     returns
-    mul-if2
+    scratch-words-requires
     returns-2
     add-operands
     sub-judge

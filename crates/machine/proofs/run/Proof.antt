@@ -1,10 +1,7 @@
 -- `machine::run` meets its contract.
 -- Assumes nothing.
-use mathlib.Core.Path.{sym, ap, _∙_}
 use native.Mathlib.Omega.{arith}
 use denote.Ref.{now}
-use Rattle.table.specs.Checks.{refusalCheck}
-use Rattle.machine.proofs.Schedules.{passes-runnable}
 use Rattle.machine.proofs.Opened.{opened-nodes, opened-ready, opened-proper, run-refused, run-unscheduled, run-opened}
 use borrow.Author.Needs.{needs}
 use Rattle.machine.proofs.run.Statement.{statement}
@@ -19,6 +16,55 @@ enum-known-opened c = search needs
 judge-schedule-requires : tie.Need-judge-schedule-requires
 judge-schedule-requires c κs = search needs
 
+enum-known-scheduled : tie.Need-enum-known-scheduled
+enum-known-scheduled c = search needs
+
+add-operands : tie.Need-add-operands
+add-operands c =
+    let j = c .before .before .before .before in
+    let o = j .before .before .before .before .before .before .before .«open» .ensures .opened _ (j .before .before .before .opened .given .1) in
+    omega (arith, opened-nodes o)
+
+sub-run-steps : tie.Need-sub-run-steps
+sub-run-steps c = search needs
+
+part-run-steps-start : tie.Need-part-run-steps-start
+part-run-steps-start c = search needs
+
+part-run-steps-end : tie.Need-part-run-steps-end
+part-run-steps-end c =
+    let j = c .before .before .before .before in
+    let o = j .before .before .before .before .before .before .before .«open» .ensures .opened _ (j .before .before .before .opened .given .1) in
+    omega (arith, o .size)
+
+sub-run-steps-2 : tie.Need-sub-run-steps-2
+sub-run-steps-2 c =
+    let j = c .before .before .before .before .before in
+    let o = j .before .before .before .before .before .before .before .«open» .ensures .opened _ (j .before .before .before .opened .given .1) in
+    omega (arith, o .size)
+
+part-run-steps-start-2 : tie.Need-part-run-steps-start-2
+part-run-steps-start-2 c =
+    let j = c .before .before .before .before .before in
+    let o = j .before .before .before .before .before .before .before .«open» .ensures .opened _ (j .before .before .before .opened .given .1) in
+    omega (arith, o .size)
+
+part-run-steps-end-2 : tie.Need-part-run-steps-end-2
+part-run-steps-end-2 c = search needs
+
+run-steps-requires : tie.Need-run-steps-requires
+run-steps-requires c κs =
+    let j = c .before .before .before .before .before .before .before .before .before in
+    let o = j .before .before .before .before .before .before .before .«open» .ensures .opened _ (j .before .before .before .opened .given .1) in
+    let steps = rw (c .before .before .before .before .before .before .before .scheduled .given .1) at (j .judge-schedule .ensures) in
+    (opened-ready o, (opened-proper o, steps .1))
+
+enum-known-scheduled-2 : tie.Need-enum-known-scheduled-2
+enum-known-scheduled-2 c = search needs
+
+enum-known-opened-2 : tie.Need-enum-known-opened-2
+enum-known-opened-2 c = search needs
+
 same-length : tie.Need-same-length
 same-length c = search needs
 
@@ -30,38 +76,10 @@ same-length-3 c = search needs
 
 returns : tie.Need-returns
 returns c =
-    let a = c .before .before .before .before .before .before .before .before .before .before .before .before .before .before .before .before .args in
-    run-unscheduled (c .before .before .before .before .before .before .before .before .«open» .ensures) (now (a .schedule)) (now (a .answers)) (c .before .before .before .before .opened .given .1) (c .before .judge-schedule .ensures) (c .if1 .taken)
-
-add-operands : tie.Need-add-operands
-add-operands c = let l = opened-nodes (c .before .before .before .before .before .before .before .before .before .«open» .ensures .opened _ (c .before .before .before .before .before .opened .given .1)) in omega arith
-
-sub-run-steps : tie.Need-sub-run-steps
-sub-run-steps c = search needs
-
-part-run-steps-start : tie.Need-part-run-steps-start
-part-run-steps-start c = search needs
-
-part-run-steps-end : tie.Need-part-run-steps-end
-part-run-steps-end c = let l = c .before .before .before .before .before .before .before .before .before .«open» .ensures .opened _ (c .before .before .before .before .before .opened .given .1) .size in omega arith
-
-sub-run-steps-2 : tie.Need-sub-run-steps-2
-sub-run-steps-2 c = let l = c .before .before .before .before .before .before .before .before .before .before .«open» .ensures .opened _ (c .before .before .before .before .before .before .opened .given .1) .size in omega arith
-
-part-run-steps-start-2 : tie.Need-part-run-steps-start-2
-part-run-steps-start-2 c = let l = c .before .before .before .before .before .before .before .before .before .before .«open» .ensures .opened _ (c .before .before .before .before .before .before .opened .given .1) .size in omega arith
-
-part-run-steps-end-2 : tie.Need-part-run-steps-end-2
-part-run-steps-end-2 c = search needs
-
-run-steps-requires : tie.Need-run-steps-requires
-run-steps-requires c κs =
-    let o = c .before .before .before .before .before .before .before .before .before .before .before .before .before .before .«open» .ensures .opened _ (c .before .before .before .before .before .before .before .before .before .before .opened .given .1) in
-    let a = c .before .before .before .before .before .before .before .before .before .before .before .before .before .before .before .before .before .before .before .before .before .before .args in
-    (opened-ready o, (opened-proper o, passes-runnable (now (a .schedule)) (now (a .answers)) (sym (c .before .before .before .before .before .before .before .judge-schedule .ensures) ∙ ap refusalCheck (c .before .before .before .before .before .before .if1 .left))))
-
-enum-known-opened-2 : tie.Need-enum-known-opened-2
-enum-known-opened-2 c = search needs
+    let j = c .before .before .before .before .before .before .before .before .before .before .before .before .before .before in
+    let a = j .before .before .before .before .before .before .before .before .before .before .before .before .before .before .before .args in
+    let steps = rw (c .before .before .before .before .before .before .before .before .before .before .before .before .scheduled .given .1) at (j .judge-schedule .ensures) in
+    run-opened (j .before .before .before .before .before .before .before .«open» .ensures) (now (a .schedule)) (now (a .answers)) (j .before .before .before .opened .given .1) (steps .0) (steps .1 .is) (c .before .before .before .before .run-steps .ensures)
 
 same-length-4 : tie.Need-same-length-4
 same-length-4 c = search needs
@@ -74,8 +92,9 @@ same-length-6 c = search needs
 
 returns-2 : tie.Need-returns-2
 returns-2 c =
-    let a = c .before .before .before .before .before .before .before .before .before .before .before .before .before .before .before .before .before .before .before .before .before .before .before .before .before .before .before .args in
-    run-opened (c .before .before .before .before .before .before .before .before .before .before .before .before .before .before .before .before .before .before .before .«open» .ensures) (now (a .schedule)) (now (a .answers)) (c .before .before .before .before .before .before .before .before .before .before .before .before .before .before .before .opened .given .1) (sym (c .before .before .before .before .before .before .before .before .before .before .before .before .judge-schedule .ensures) ∙ ap refusalCheck (c .before .before .before .before .before .before .before .before .before .before .before .if1 .left)) (c .before .before .before .before .run-steps .ensures)
+    let j = c .before .before .before in
+    let a = j .before .before .before .before .before .before .before .before .before .before .before .before .before .before .before .args in
+    run-unscheduled (j .before .before .before .before .before .before .before .«open» .ensures) (now (a .schedule)) (now (a .answers)) (j .before .before .before .opened .given .1) (rw (c .before .scheduled2 .given .1) at (j .judge-schedule .ensures))
 
 same-length-7 : tie.Need-same-length-7
 same-length-7 c = search needs
@@ -95,10 +114,7 @@ run-spec =
     open-requires
     enum-known-opened
     judge-schedule-requires
-    same-length
-    same-length-2
-    same-length-3
-    returns
+    enum-known-scheduled
     add-operands
     sub-run-steps
     part-run-steps-start
@@ -107,7 +123,12 @@ run-spec =
     part-run-steps-start-2
     part-run-steps-end-2
     run-steps-requires
+    enum-known-scheduled-2
     enum-known-opened-2
+    same-length
+    same-length-2
+    same-length-3
+    returns
     same-length-4
     same-length-5
     same-length-6

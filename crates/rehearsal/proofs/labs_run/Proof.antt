@@ -3,10 +3,10 @@
 use mathlib.Core.Path.{sym, ap, _∙_}
 use Rattle.machine.specs.declared.Ran.{Ran}
 use Rattle.machine.specs.Answers.{runCheck, runTotals}
-use Rattle.rehearsal.specs.Packing.{packed}
+use Rattle.rehearsal.specs.Packing.{packed, packedTotals}
 use Rattle.rehearsal.proofs.Places.{run-near}
 use Rattle.rehearsal.proofs.Totals.{run-within}
-use Rattle.rehearsal.proofs.Packed.{packedOf, run-packs, run-place, run-totals}
+use Rattle.rehearsal.proofs.Packed.{run-packs, run-place, run-totals}
 use borrow.Author.Needs.{needs}
 use Rattle.rehearsal.proofs.labs_run.Statement.{statement}
 use Rattle.rehearsal.proofs.labs_run.Tie as tie
@@ -38,7 +38,7 @@ same-length-3 c = search needs
 returns : tie.Need-returns
 returns c =
     let e = c .before .before .answer .given .1 in
-    run-packs (c .before .before .before .before .before .before .before .before .before .before .run .ensures) (c .pack-totals .ensures ∙ sym (ap (λ (x : Ran). packed (runCheck x) (packedOf (runTotals x))) e))
+    run-packs (c .before .before .before .before .before .before .before .before .before .before .run .ensures) (c .pack-totals .ensures ∙ sym (ap (λ (x : Ran). packed (runCheck x) (packedTotals (runTotals x))) e))
 
 same-length-4 : tie.Need-same-length-4
 same-length-4 c = search needs
@@ -52,7 +52,7 @@ same-length-6 c = search needs
 returns-2 : tie.Need-returns-2
 returns-2 c =
     let e = c .before .before .answer2 .given .1 in
-    run-packs (c .before .before .before .before .before .before .before .before .before .before .run .ensures) (c .pack-refusal .ensures ∙ sym (ap (λ (x : Ran). packed (runCheck x) (packedOf (runTotals x))) e))
+    run-packs (c .before .before .before .before .before .before .before .before .before .before .run .ensures) (c .pack-refusal .ensures ∙ sym (ap (λ (x : Ran). packed (runCheck x) (packedTotals (runTotals x))) e))
 
 pub labs-run-spec : {M : Type 1} → statement M
 labs-run-spec =

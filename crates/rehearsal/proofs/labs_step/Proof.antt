@@ -2,7 +2,7 @@
 -- Assumes nothing.
 use mathlib.Core.Path.{sym, ap, _∙_}
 use Rattle.machine.specs.declared.Stepped.{Stepped}
-use Rattle.machine.specs.Answers.{stepCheck, stepTaken}
+use Rattle.machine.specs.Answers.{stepCheck, stepTally}
 use Rattle.rehearsal.specs.Packing.{packed}
 use Rattle.rehearsal.proofs.Places.{step-near}
 use Rattle.rehearsal.proofs.Packed.{step-packs, step-place}
@@ -31,7 +31,7 @@ same-length-2 c = search needs
 returns : tie.Need-returns
 returns c =
     let e = c .before .answer .given .1 in
-    step-packs (c .before .before .before .before .before .before .before .step .ensures) (sym (ap (λ (x : Stepped). packed (stepCheck x) (stepTaken x)) e))
+    step-packs (c .before .before .before .before .before .before .before .step .ensures) (sym (ap (λ (x : Stepped). packed (stepCheck x) (stepTally x .taken)) e))
 
 same-length-3 : tie.Need-same-length-3
 same-length-3 c = search needs
@@ -42,7 +42,7 @@ same-length-4 c = search needs
 returns-2 : tie.Need-returns-2
 returns-2 c =
     let e = c .before .before .answer2 .given .1 in
-    step-packs (c .before .before .before .before .before .before .before .before .step .ensures) (c .pack-refusal .ensures ∙ sym (ap (λ (x : Stepped). packed (stepCheck x) (stepTaken x)) e))
+    step-packs (c .before .before .before .before .before .before .before .before .step .ensures) (c .pack-refusal .ensures ∙ sym (ap (λ (x : Stepped). packed (stepCheck x) (stepTally x .taken)) e))
 
 pub labs-step-spec : {M : Type 1} → statement M
 labs-step-spec =

@@ -1,13 +1,14 @@
 -- `tables::judge` ends, and calls by contract: an accepted table's parts are those of its bytes.
 -- Assumes nothing.
 use Prim.Native.Nat.{ℕ, _+_, _-_, _*_}
+use mathlib.Core.Bool.{true}
 use mathlib.Core.List.{List}
 use mathlib.Core.Path.{_≡_, sym, ap, subst}
 use native.Mathlib.Omega.{arith}
 use denote.Ref.{now}
-use lib.ListN.{length, take, drop}
+use lib.ListN.{length}
 use Rattle.table.specs.declared.Sizes.{Sizes}
-use Rattle.table.specs.Tables.{Table, table, sizesOf, tableOf}
+use Rattle.table.specs.Tables.{Table, table, sizesOf}
 use Rattle.term.specs.Accepted.{Acceptable}
 use Rattle.accept.proofs.Answering.{accepted-table, lent-table}
 use Rattle.choice.specs.Turns.{Prepared}
@@ -28,7 +29,7 @@ bytes c = now (start c .args .bytes)
 abbrev sizes : At → Sizes
 sizes c = c .before .before .before .before .answer .given .0 .0
 
-accepted : (c : At) → Acceptable (bytes c) 4194 (length (now (start c .args .scratch)))
+accepted : (c : At) → Acceptable (bytes c) true (length (now (start c .args .scratch)))
 accepted c = accepted-table (c .before .before .before .before .before .before .before .before .accept .ensures) (c .before .before .before .before .answer .given .1)
 
 same-sizes : (c : At) → sizes c ≡ sizesOf (bytes c)

@@ -54,7 +54,7 @@ print-last-choice-requires c κs =
     let w = c .before .before .before .whole-term in (
       a .pre,
       (
-        record { fits = omega arith; room = omega arith; term = sym (w .ensures (now (a .args .operands))) ∙ not-false (w .result) (c .before .before .if1 .left) },
+        (omega arith, record { room = omega arith; term = sym (w .ensures (now (a .args .operands))) ∙ not-false (w .result) (c .before .before .if1 .left) }),
         marks-zero (table (a .args .sizes) (now (a .args .kinds)) (now (a .args .operands))) (replicate 4096 0) (omega (arith, a .pre .checked .sound .shaped .limits .nodes)) (λ n. getD-row 4096 n 0),
       ),
     )

@@ -13,7 +13,8 @@ use Rattle.basis.specs.Numbers.{every}
 use Rattle.basis.proofs.Lists.{take-rest}
 use Rattle.table.specs.Tables.{Table, table}
 use Rattle.state.specs.declared.Store.the-variants.{Environment}
-use Rattle.state.specs.Layout.{agentsAt, keyLimit, clockLimit, clockOf}
+use Rattle.state.specs.Layout.{agentsAt, keyLimit}
+use Rattle.state.specs.Entries.{clockLimit, clockOf}
 use Rattle.state.specs.WellFormed.{allZero, pairFormed, agentFormed, wellFormed}
 use borrow.Author.Needs.{needs}
 use Rattle.wellformed.proofs.well_formed.Statement.{statement}
@@ -39,7 +40,7 @@ agents : (c : tie.Else1) → eqb (getD (now (start1 c .args .state)) agentsAt 0)
 agents c = eq-eqb _ _ (c .if1 .left)
 
 clock : (c : tie.Else2) → leb (clockOf (now (start2 c .args .state))) clockLimit ≡ true
-clock c = le-leb _ _ (c .if2 .left)
+clock c = rw (c .before .clock-of .ensures) at (le-leb _ _ (c .if2 .left))
 
 environment : (c : tie.Else3) → every (pairFormed (now (start3 c .args .state)) Environment 1 (start3 c .args .sizes .environment)) keyLimit ≡ true
 environment c = sym (c .before .store-formed .ensures) ∙ not-false _ (c .if3 .left)
@@ -58,12 +59,12 @@ returns : tie.Need-returns
 unfolding wellFormed
 returns c operands = rw (ne-eqb _ _ (c .if1 .taken))
 
-shared-slice-read-if2 : tie.Need-shared-slice-read-if2
-shared-slice-read-if2 c = search needs
+clock-of-requires : tie.Need-clock-of-requires
+clock-of-requires c κs = search needs
 
 returns-2 : tie.Need-returns-2
 unfolding wellFormed
-returns-2 c operands = rw (agents (c .before .before), lt-leb _ _ (c .if2 .taken))
+returns-2 c operands = rw (agents (c .before .before), ← c .before .clock-of .ensures, lt-leb _ _ (c .if2 .taken))
 
 store-formed-requires : tie.Need-store-formed-requires
 store-formed-requires c κs = search needs
@@ -120,7 +121,7 @@ well-formed-spec =
     shared-slice-read-if1
     cast-if1
     returns
-    shared-slice-read-if2
+    clock-of-requires
     returns-2
     store-formed-requires
     returns-3

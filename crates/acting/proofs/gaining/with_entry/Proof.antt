@@ -13,11 +13,6 @@ use Rattle.acting.specs.Gaining.{hasEntry}
 use Rattle.acting.proofs.Gains.{entry-more}
 use Rattle.acting.proofs.gaining.with_entry.Statement.{statement}
 use Rattle.acting.proofs.gaining.with_entry.Tie as tie
-use Rattle.acting.proofs.gaining.with_entry.Reads as reads
-use Rattle.acting.proofs.gaining.with_entry.Lts as lts
-use Rattle.basis.proofs.has.Reads as has-reads
-use Rattle.basis.proofs.plus.Reads as plus-reads
-use Rattle.state.proofs.mark_at.Reads as mark-at-reads
 
 abbrev Inv-loop : tie.InvT-loop
 Inv-loop state agent keys found₀ key₀ found key = (key ≤ keyLimit) × (found ≡ plusAll (hasEntry state agent keys) key 0)
@@ -28,17 +23,11 @@ abbrev μ-loop : tie.MeasureT-loop
 loop-holds : tie.Need-loop-holds Inv-loop μ-loop
 loop-holds c = (omega arith, sym (plusAll-zero _ 0))
 
-mark-at-requires : tie.Need-mark-at-requires Inv-loop μ-loop
-mark-at-requires c κs = search needs
+entry-of-requires : tie.Need-entry-of-requires Inv-loop μ-loop
+entry-of-requires c κs = search needs
 
 has-requires : tie.Need-has-requires Inv-loop μ-loop
 has-requires c κs = search needs
-
-mul-if1 : tie.Need-mul-if1 Inv-loop μ-loop
-mul-if1 c = search needs
-
-shared-slice-read-if1 : tie.Need-shared-slice-read-if1 Inv-loop μ-loop
-shared-slice-read-if1 c = search needs
 
 plus-requires : tie.Need-plus-requires Inv-loop μ-loop
 plus-requires c κs = search needs
@@ -53,11 +42,11 @@ loop-again : tie.Need-loop-again Inv-loop μ-loop
 loop-again c =
     let a = c .before .before .before .before .before .before .before in
     let l = c .before .before .before .before .before .loop in
-    let m = c .before .before .before .mark-at in
+    let m = c .before .before .before .entry-of in
     let h = c .before .before .has in (
       omega (arith, c .before .before .before .before .loop-test .taken),
-      ⊎-elim (λ w. entry-more (now (a .args .state)) (a .args .agent) (a .args .keys) (l .key) (l .found) (m .result) (h .result) true (c .if1 .found) (h .ensures) (m .ensures .is) (l .inv .1) (w .0 .taken) (w .2 ∙ w .1 .ensures))
-          (λ w. entry-more (now (a .args .state)) (a .args .agent) (a .args .keys) (l .key) (l .found) (m .result) (h .result) false (c .if1 .found) (h .ensures) (m .ensures .is) (l .inv .1) (w .0 .left) (w .1)) (c .if1 .came),
+      ⊎-elim (λ w. entry-more (now (a .args .state)) (a .args .agent) (a .args .keys) (l .key) (l .found) (m .result) (h .result) true (c .if1 .found) (h .ensures) (m .ensures) (l .inv .1) (w .0 .taken) (w .2 ∙ w .1 .ensures))
+          (λ w. entry-more (now (a .args .state)) (a .args .agent) (a .args .keys) (l .key) (l .found) (m .result) (h .result) false (c .if1 .found) (h .ensures) (m .ensures) (l .inv .1) (w .0 .left) (w .1)) (c .if1 .came),
     )
 
 returns : tie.Need-returns Inv-loop μ-loop
@@ -73,10 +62,8 @@ with-entry-spec =
     Inv-loop
     μ-loop
     loop-holds
-    mark-at-requires
+    entry-of-requires
     has-requires
-    mul-if1
-    shared-slice-read-if1
     plus-requires
     add-key
     loop-less

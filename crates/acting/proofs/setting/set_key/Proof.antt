@@ -19,7 +19,7 @@ write-entry-requires : tie.Need-write-entry-requires
 write-entry-requires c κs =
     let p = c .before .before .before .before .before .before .before .pre in
     let e = c .before .before .before .p-at .ensures .is in
-    record { whole = p .whole; agent = p .agent; key = rw e (p .key); room = p .room (c .before .if1 .taken) }
+    record { blocks = p .blocks; agent = p .agent; key = rw e (p .key); room = p .room (c .before .if1 .taken) }
 
 store-of-requires : tie.Need-store-of-requires
 store-of-requires c κs = search needs
@@ -27,7 +27,7 @@ store-of-requires c κs = search needs
 put-requires : tie.Need-put-requires
 put-requires c κs =
     let a = c .before .before .before .before .before .before .before .before in
-    (a .pre .whole, record { agent = c .before .store-of .ensures .agent; key = rw (c .before .before .before .before .p-at .ensures .is) (a .pre .key) })
+    (a .pre .blocks, record { agent = c .before .store-of .ensures .agent; key = rw (c .before .before .before .before .p-at .ensures .is) (a .pre .key) })
 
 same-length : tie.Need-same-length
 same-length c = search needs

@@ -1,7 +1,7 @@
 -- `perform` meets its contract. Assumes nothing.
 use denote.Ref.{now}
 use Rattle.table.specs.Tables.{Table, table}
-use Rattle.acting.proofs.Performs.{decided-gaining, decided-setting, decided-leaving, decided-acted}
+use Rattle.acting.proofs.Performs.{allowed-gaining, allowed-setting, allowed-leaving, allowed-acted}
 use borrow.Author.Needs.{needs}
 use Rattle.acting.proofs.writing.perform.Statement.{statement}
 use Rattle.acting.proofs.writing.perform.Tie as tie
@@ -12,12 +12,12 @@ tb a = table (a .args .sizes) (now (a .args .kinds)) (now (a .args .operands))
 gained-requires : tie.Need-gained-requires
 gained-requires c κs =
     let a = c .before .before .before .before .before .before in
-    decided-gaining (tb a) (now (a .args .scratch)) (a .pre .0) (now (a .args .state)) (a .pre .1 .0) (a .args .agent) (a .pre .1 .1 .0) (a .args .c) (now (a .args .marks)) (a .args .label) (a .args .value) (a .pre .1 .1 .1)
+    allowed-gaining (tb a) (now (a .args .scratch)) (a .pre .0) (now (a .args .state)) (a .pre .1 .0) (a .args .agent) (a .pre .1 .1 .0) (a .args .c) (now (a .args .marks)) (a .args .label) (a .args .value) (a .pre .1 .1 .1)
 
 set-label-requires : tie.Need-set-label-requires
 set-label-requires c κs =
     let a = c .before .before .before .before .before .before .before .before in
-    decided-setting (tb a) (now (a .args .scratch)) (a .pre .0) (now (a .args .state)) (a .pre .1 .0) (a .args .agent) (a .pre .1 .1 .0) (a .args .c) (now (a .args .marks)) (a .args .label) (a .args .value) (a .pre .1 .1 .1)
+    allowed-setting (tb a) (now (a .args .scratch)) (a .pre .0) (now (a .args .state)) (a .pre .1 .0) (a .args .agent) (a .pre .1 .1 .0) (a .args .c) (now (a .args .marks)) (a .args .label) (a .args .value) (a .pre .1 .1 .1)
 
 set-zc-requires : tie.Need-set-zc-requires
 set-zc-requires c κs = search needs
@@ -26,7 +26,7 @@ leave-requires : tie.Need-leave-requires
 leave-requires c κs =
     let a = c .before .before .before .before .before .before .before .before .before .before .before .before .before .before .before .before in (
       a .pre .0,
-      decided-leaving (tb a) (now (a .args .scratch)) (a .pre .0) (now (a .args .state)) (a .pre .1 .0) (a .args .agent) (a .pre .1 .1 .0) (a .args .c) (now (a .args .marks)) (a .args .label) (a .args .value) (a .pre .1 .1 .1) (c .before .before .before .before .before .before .before .before .before .gained .result) _ _ (c .before .before .before .before .before .before .before .set-label .ensures) (c .before .before .before .set-zc .ensures),
+      allowed-leaving (tb a) (now (a .args .scratch)) (a .pre .0) (now (a .args .state)) (a .pre .1 .0) (a .args .agent) (a .pre .1 .1 .0) (a .args .c) (now (a .args .marks)) (a .args .label) (a .args .value) (a .pre .1 .1 .1) (c .before .before .before .before .before .before .before .before .before .gained .result) _ _ (c .before .before .before .before .before .before .before .set-label .ensures) (c .before .before .before .set-zc .ensures),
     )
 
 same-length : tie.Need-same-length
@@ -35,7 +35,7 @@ same-length c = search needs
 returns : tie.Need-returns
 returns c =
     let a = c .before .before .before .before .before .before .before .before .before .before .before .before .before .before .before .before .before .before .before in
-    decided-acted (tb a) (now (a .args .scratch)) (a .pre .0) (now (a .args .state)) (a .pre .1 .0) (a .args .agent) (a .pre .1 .1 .0) (a .args .c) (now (a .args .marks)) (a .args .label) (a .args .value) (a .pre .1 .1 .1) (c .before .before .before .before .before .before .before .before .before .before .before .before .gained .result) _ _ (c .before .before .before .before .before .before .before .before .before .before .set-label .ensures) (c .before .before .before .before .before .before .set-zc .ensures) (c .before .before .before .before .before .before .before .before .before .before .before .before .gained .ensures) _ (c .before .before .leave .ensures)
+    allowed-acted (tb a) (now (a .args .scratch)) (a .pre .0) (now (a .args .state)) (a .pre .1 .0) (a .args .agent) (a .pre .1 .1 .0) (a .args .c) (now (a .args .marks)) (a .args .label) (a .args .value) (a .pre .1 .1 .1) (c .before .before .before .before .before .before .before .before .before .before .before .before .gained .result) _ _ (c .before .before .before .before .before .before .before .before .before .before .set-label .ensures) (c .before .before .before .before .before .before .set-zc .ensures) (c .before .before .before .before .before .before .before .before .before .before .before .before .gained .ensures) _ (c .before .before .leave .ensures)
 
 pub perform-spec : {M : Type 1} → statement M
 perform-spec =

@@ -2,9 +2,12 @@
 -- Assumes nothing.
 use native.Mathlib.Omega.{arith}
 use borrow.Author.Needs.{needs}
+use Prim.Native.Nat.{_≤_}
+use lib.ListN.{getD}
+use Rattle.state.specs.Layout.{residualWords}
 use denote.Ref.{now}
 use Rattle.table.specs.Tables.{Table, table}
-use Rattle.judging.proofs.Choosing.{agent-11, agent-given}
+use Rattle.judging.proofs.Choosing.{agent-11, agent-short, agent-given}
 use Rattle.judging.proofs.acts.judge.Statement.{statement}
 use Rattle.judging.proofs.acts.judge.Tie as tie
 
@@ -29,13 +32,10 @@ mul-if1-2 c = search needs
 shared-slice-read-if1-2 : tie.Need-shared-slice-read-if1-2
 shared-slice-read-if1-2 c = search needs
 
-refused-requires : tie.Need-refused-requires
-refused-requires c κs = search needs
-
 returns : tie.Need-returns
 returns c =
-    let a = c .before .before .before .before .before .before .before .before .before .before .before in
-    agent-11 (here a) (now (a .args .state)) (a .args .agent) _ _ (c .before .before .before .before .before .zc-at .ensures .is) (c .before .before .before .before .zp-at .ensures .is) (c .before .if1 .taken) (a .args .c) _ (c .refused .result) (c .refused .ensures)
+    let a = c .before .before .before .before .before .before .before .before .before .before in
+    agent-11 (here a) (now (a .args .state)) (a .args .agent) _ _ (c .before .before .before .before .zc-at .ensures .is) (c .before .before .before .zp-at .ensures .is) (c .if1 .taken) (a .args .c) _
 
 length-at-requires : tie.Need-length-at-requires
 length-at-requires c κs = search needs
@@ -52,8 +52,12 @@ cast-size c = omega (arith, c .shared-slice-known7 .given (c .before .length-at 
 residual-at-requires : tie.Need-residual-at-requires
 residual-at-requires c κs = search needs
 
+-- the residual's words are in the state
+short : (c : tie.After-residual-at) → let a = c .before .before .before .before .before .before .before .before .before .before .before .before .before in getD (now (a .args .state)) (c .before .before .length-at .result) 0 ≤ residualWords
+short c = let a = c .before .before .before .before .before .before .before .before .before .before .before .before .before in agent-short (a .pre .0) (a .pre .1 .0) (a .pre .1 .1 .0) _ (c .before .before .length-at .ensures .is)
+
 add-end : tie.Need-add-end
-add-end c = search needs
+add-end c = omega (arith, short c, c .residual-at .ensures)
 
 mul-judge-choice : tie.Need-mul-judge-choice
 mul-judge-choice c = search needs
@@ -65,7 +69,7 @@ part-judge-choice-start : tie.Need-part-judge-choice-start
 part-judge-choice-start c = search needs
 
 part-judge-choice-end : tie.Need-part-judge-choice-end
-part-judge-choice-end c = search needs
+part-judge-choice-end c = omega (arith, short c, c .residual-at .ensures, c .before .before .before .before .before .before .before .before .before .before .before .before .before .pre .1 .0 .whole)
 
 judge-choice-requires : tie.Need-judge-choice-requires
 judge-choice-requires c κs =
@@ -90,7 +94,6 @@ judge-spec =
     shared-slice-read-if1
     mul-if1-2
     shared-slice-read-if1-2
-    refused-requires
     returns
     length-at-requires
     mul-size

@@ -1,5 +1,6 @@
 -- `judging::acts::judge_choice` meets its contract.
 -- Assumes nothing.
+use mathlib.Core.Path.{refl}
 use native.Mathlib.Omega.{arith}
 use borrow.Author.Needs.{needs}
 use borrow.Author.Tests.{not-true, not-false}
@@ -15,32 +16,26 @@ abbrev here : tie.Start → Table
 here a = table (a .args .sizes) (now (a .args .kinds)) (now (a .args .operands))
 
 -- after 12 and 13 the choice is there
-taking : (c : tie.Else2) → let a = c .before .before .before .before .before .before .before .before .before .before .before in Taking (here a) (residualTerm (a .args .size) (now (a .args .words))) (a .args .c)
+taking : (c : tie.Else2) → let a = c .before .before .before .before .before .before .before .before .before .before .before in Taking (here a) (residualTerm (now (a .args .words))) (a .args .c)
 taking c =
     let a = c .before .before .before .before .before .before .before .before .before .before .before in
     let k = c .before .before .before .before .count-choices in
-    agent-taking (a .pre .0) (k .result) (k .ensures) (not-false (k .result .few) (c .before .before .if1 .left)) (a .args .c) (omega arith)
+    agent-taking (a .pre .0) (k .result) (k .ensures (here a) refl (a .pre .0 .ready) (whole-residual (a .pre .0))) (not-false (k .result .few) (c .before .before .if1 .left)) (a .args .c) (omega arith)
 
 count-choices-requires : tie.Need-count-choices-requires
-count-choices-requires c κs = let a = c .before .before .before .before .before .before in (a .pre .0 .ready, whole-residual (a .pre .0))
-
-refused-requires : tie.Need-refused-requires
-refused-requires c κs = search needs
+count-choices-requires c κs = let a = c .before .before .before .before .before .before in (here a, refl, a .pre .0 .ready)
 
 returns : tie.Need-returns
 returns c =
-    let a = c .before .before .before .before .before .before .before .before .before .before in
-    let k = c .before .before .before .count-choices in
-    agent-12 (a .pre .0) (k .result) (k .ensures) (not-true (k .result .few) (c .before .if1 .taken)) (a .args .c) _ (c .refused .result) (c .refused .ensures)
-
-refused-requires-2 : tie.Need-refused-requires-2
-refused-requires-2 c κs = search needs
+    let a = c .before .before .before .before .before .before .before .before .before in
+    let k = c .before .before .count-choices in
+    agent-12 (a .pre .0) (k .result) (k .ensures (here a) refl (a .pre .0 .ready) (whole-residual (a .pre .0))) (not-true (k .result .few) (c .if1 .taken)) (a .args .c) _
 
 returns-2 : tie.Need-returns-2
 returns-2 c =
-    let a = c .before .before .before .before .before .before .before .before .before .before .before .before in
-    let k = c .before .before .before .before .before .count-choices in
-    agent-13 (a .pre .0) (k .result) (k .ensures) (not-false (k .result .few) (c .before .before .before .if1 .left)) (a .args .c) (omega arith) _ (c .refused2 .result) (c .refused2 .ensures)
+    let a = c .before .before .before .before .before .before .before .before .before .before .before in
+    let k = c .before .before .before .before .count-choices in
+    agent-13 (a .pre .0) (k .result) (k .ensures (here a) refl (a .pre .0 .ready) (whole-residual (a .pre .0))) (not-false (k .result .few) (c .before .before .if1 .left)) (a .args .c) (omega arith) _
 
 collect-requires : tie.Need-collect-requires
 collect-requires c κs =
@@ -50,17 +45,14 @@ collect-requires c κs =
 all-hold-requires : tie.Need-all-hold-requires
 all-hold-requires c κs = let a = c .before .before .before .before .before .before .before .before .before .before .before .before .before .before .before .before in agent-guards (a .pre .0) (a .args .c) (taking (c .before .before .before .before .before)) (a .pre .1) (c .before .before .before .collect .ensures)
 
-refused-requires-3 : tie.Need-refused-requires-3
-refused-requires-3 c κs = search needs
-
 same-length : tie.Need-same-length
 same-length c = search needs
 
 returns-3 : tie.Need-returns-3
 returns-3 c =
-    let a = c .before .before .before .before .before .before .before .before .before .before .before .before .before .before .before .before .before .before .before in
-    let h = c .before .before .all-hold in
-    agent-14 (a .pre .0) (a .args .c) (taking (c .before .before .before .before .before .before .before .before)) (a .pre .1) (c .before .before .before .before .before .before .collect .ensures) (h .result) (h .ensures) (not-true (h .result) (c .before .if3 .taken)) (c .refused3 .result) (c .refused3 .ensures)
+    let a = c .before .before .before .before .before .before .before .before .before .before .before .before .before .before .before .before .before .before in
+    let h = c .before .all-hold in
+    agent-14 (a .pre .0) (a .args .c) (taking (c .before .before .before .before .before .before .before)) (a .pre .1) (c .before .before .before .before .before .collect .ensures) (h .result) (h .ensures) (not-true (h .result) (c .if3 .taken))
 
 outcome-requires : tie.Need-outcome-requires
 outcome-requires c κs = let a = c .before .before .before .before .before .before .before .before .before .before .before .before .before .before .before .before .before .before in (a .pre .0 .ready, (whole-residual (a .pre .0), taking (c .before .before .before .before .before .before .before)))
@@ -83,13 +75,10 @@ judge-choice-spec =
     tie.close
     (tie.spec
     count-choices-requires
-    refused-requires
     returns
-    refused-requires-2
     returns-2
     collect-requires
     all-hold-requires
-    refused-requires-3
     same-length
     returns-3
     outcome-requires

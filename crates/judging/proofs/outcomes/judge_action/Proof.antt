@@ -28,38 +28,32 @@ value-of-requires c κs = search needs
 enum-told : tie.Need-enum-told
 enum-told c = search needs
 
-refused-requires : tie.Need-refused-requires
-refused-requires c κs = search needs
-
 enum-known-value : tie.Need-enum-known-value
 enum-known-value c = search needs
 
 shared-slice-read-if1 : tie.Need-shared-slice-read-if1
 shared-slice-read-if1 c = search needs
 
-shared-slice-read-if1-2 : tie.Need-shared-slice-read-if1-2
-shared-slice-read-if1-2 c = search needs
-
-refused-requires-2 : tie.Need-refused-requires-2
-refused-requires-2 c κs = search needs
+clock-of-requires : tie.Need-clock-of-requires
+clock-of-requires c κs = search needs
 
 returns : tie.Need-returns
 returns c =
-    let a = c .before .before .before .before .before .before .before .before .before .before .before .before in
-    full-ends (here a) (now (a .args .state)) (a .args .agent) (a .args .n) (a .args .size) _ (sym (value-is (c .before .before .before .before .before .before .before)) ∙ c .before .before .before .before .before .value .given .1) (c .before .if1 .taken) (c .refused2 .result) (c .refused2 .ensures)
+    let a = c .before .before .before .before .before .before .before .before .before .before .before in
+    full-ends (here a) (now (a .args .state)) (a .args .agent) (a .args .n) (a .args .size) _ (sym (value-is (c .before .before .before .before .before .before)) ∙ c .before .before .before .before .value .given .1) _ (c .before .clock-of .ensures) (c .if1 .taken)
 
 sized-requires : tie.Need-sized-requires
 sized-requires c κs = search needs
 
 returns-2 : tie.Need-returns-2
 returns-2 c =
-    let a = c .before .before .before .before .before .before .before .before in
-    absent-ends (here a) (now (a .args .state)) (a .args .agent) (a .args .n) (a .args .size) (sym (value-is (c .before .before .before)) ∙ c .before .enum-told .given .1) (c .refused .result) (c .refused .ensures)
+    let a = c .before .before .before .before .before .before .before in
+    absent-ends (here a) (now (a .args .state)) (a .args .agent) (a .args .n) (a .args .size) (sym (value-is (c .before .before)) ∙ c .enum-told .given .1)
 
 returns-3 : tie.Need-returns-3
 returns-3 c =
     let a = c .before .before .before .before .before .before .before .before .before .before .before .before in
-    action-ends (here a) (now (a .args .state)) (a .args .agent) (a .args .n) (a .args .size) _ (sym (value-is (c .before .before .before .before .before .before .before)) ∙ c .before .before .before .before .before .value .given .1) (c .before .if1 .left) (c .sized .result) (c .sized .ensures)
+    action-ends (here a) (now (a .args .state)) (a .args .agent) (a .args .n) (a .args .size) _ (sym (value-is (c .before .before .before .before .before .before .before)) ∙ c .before .before .before .before .before .value .given .1) _ (c .before .before .clock-of .ensures) (c .before .if1 .left) (c .sized .result) (c .sized .ensures)
 
 pub judge-action-spec : {M : Type 1} → statement M
 judge-action-spec =
@@ -68,11 +62,9 @@ judge-action-spec =
     q-at-requires
     value-of-requires
     enum-told
-    refused-requires
     enum-known-value
     shared-slice-read-if1
-    shared-slice-read-if1-2
-    refused-requires-2
+    clock-of-requires
     returns
     sized-requires
     returns-2

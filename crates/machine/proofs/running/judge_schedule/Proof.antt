@@ -1,7 +1,7 @@
 -- `machine::running::judge_schedule` meets its contract.
 -- Assumes nothing.
 use Prim.Native.Nat.{ℕ}
-use mathlib.Core.Path.{_≡_, sym}
+use mathlib.Core.Path.{_≡_}
 use mathlib.Core.List.{List}
 use native.Mathlib.Omega.{arith}
 use denote.Ref.{now}
@@ -18,7 +18,7 @@ abbrev answers : tie.Start → List ℕ
 answers a = now (a .args .answers)
 
 returns : tie.Need-returns
-returns c = let a = c .before .before .before in sym (schedule-short (schedule a) (answers a) (c .if1 .taken))
+returns c = let a = c .before .before .before in schedule-short (schedule a) (answers a) (c .if1 .taken)
 
 u16-at-requires : tie.Need-u16-at-requires
 u16-at-requires c κs = search needs
@@ -33,27 +33,27 @@ returns-2 : tie.Need-returns-2
 returns-2 c =
     let a = c .before .before .before .before .before in
     let u : c .before .u16-at .result ≡ stepsOf (schedule a) = c .before .u16-at .ensures .is in
-    sym (schedule-odd (schedule a) (answers a) (λ e. c .if2 .taken (omega arith)))
+    schedule-odd (schedule a) (answers a) (λ e. c .if2 .taken (omega arith))
 
 returns-3 : tie.Need-returns-3
 returns-3 c =
     let a = c .before .before .before .before .before .before in
     let u : c .before .before .u16-at .result ≡ stepsOf (schedule a) = c .before .before .u16-at .ensures .is in
-    sym (schedule-long (schedule a) (answers a) (omega arith))
+    schedule-long (schedule a) (answers a) (omega arith)
 
 returns-4 : tie.Need-returns-4
 returns-4 c =
     let a = c .before .before .before .before .before .before .before in
     let u : c .before .before .before .u16-at .result ≡ stepsOf (schedule a) = c .before .before .before .u16-at .ensures .is in
     let e = c .before .before .if2 .left in
-    sym (answers-short (schedule a) (answers a) (omega arith) (omega arith) (omega arith))
+    answers-short (schedule a) (answers a) (omega arith) (omega arith) (omega arith)
 
 returns-5 : tie.Need-returns-5
 returns-5 c =
     let a = c .before .before .before .before .before .before .before in
     let u : c .before .before .before .u16-at .result ≡ stepsOf (schedule a) = c .before .before .before .u16-at .ensures .is in
     let e = c .before .before .if2 .left in
-    sym (schedule-passes (schedule a) (answers a) (omega arith) (omega arith) (omega arith))
+    (schedule-passes (schedule a) (answers a) (omega arith) (omega arith) (omega arith), record { is = u; size = e; steps = omega arith; room = omega arith })
 
 pub judge-schedule-spec : {M : Type 1} → statement M
 judge-schedule-spec =

@@ -10,20 +10,21 @@ use denote.Ref.{now}
 use lib.ListN.{getD, set}
 use borrow.Author.Needs.{needs}
 use Rattle.table.specs.Tables.{Table, table}
-use Rattle.steps.specs.Runs.{stepsOf, begun, ran}
+use Rattle.steps.specs.Runs.{begun, ran}
 use Rattle.machine.specs.declared.Totals.{Totals}
 use Rattle.machine.specs.Answers.{Reports}
 use Rattle.machine.specs.Running.{tallied}
-use Rattle.machine.proofs.Going.{Halfway, none-done, taken-few, next-done, within-more}
+use Rattle.machine.proofs.Going.{Halfway, none-done, totals-within, next-done}
+use Rattle.machine.proofs.Sums.{step-within}
 use Rattle.machine.proofs.running.run_steps.Statement.{statement}
 use Rattle.machine.proofs.running.run_steps.Tie as tie
 
 abbrev Inv-loop : tie.InvT-loop
-Inv-loop sizes kinds operands scratch state₀ schedule answers₀ n totals₀ i₀ state answers totals i =
+Inv-loop sizes kinds operands scratch state₀ schedule n answers₀ totals₀ i₀ state answers totals i =
     Halfway (table sizes kinds operands) schedule state₀ answers₀ i state answers totals × (i ≤ n)
 
 abbrev μ-loop : tie.MeasureT-loop
-μ-loop sizes kinds operands scratch state₀ schedule answers₀ n totals₀ i₀ state answers totals i =
+μ-loop sizes kinds operands scratch state₀ schedule n answers₀ totals₀ i₀ state answers totals i =
     n - i
 
 abbrev Start : Type 0
@@ -44,18 +45,17 @@ bytes a = now (a .args .answers)
 narrow : (a : Start) → ((i : ℕ) → Fits w8 (getD (now (a .args .operands)) i 0)) → (i : ℕ) → getD (T a .operands) i 0 < 256
 narrow a f i = f i .fits
 
-u16-at-requires : tie.Need-u16-at-requires Inv-loop μ-loop
-u16-at-requires c κs = let r = c .before .before .before .before .before .before .pre .1 .1 .size in omega arith
+no-tally-requires : tie.Need-no-tally-requires Inv-loop μ-loop
+no-tally-requires c κs = tt
 
 loop-holds : tie.Need-loop-holds Inv-loop μ-loop
-loop-holds c = let a = c .before .before .before .before .before .before .before in (none-done (T a) (schedule a) (was a) (bytes a) (a .pre .1 .0), omega arith)
+loop-holds c = let a = c .before .before .before .before .before .before .before in (none-done (T a) (schedule a) (was a) (bytes a) (a .pre .1 .0) (c .no-tally .ensures), omega arith)
 
 step-at-requires : tie.Need-step-at-requires Inv-loop μ-loop
 step-at-requires c κs =
     let a = c .before .before .before .before .before .before .before .before .before .before in
-    let u : c .before .before .before .u16-at .result ≡ stepsOf (schedule a) = c .before .before .before .u16-at .ensures .is in
-    let r = a .pre .1 .1 .size in
-    (a .pre .0, (c .before .before .loop .inv .0 .proper, (omega arith, u, c .before .loop-test .taken)))
+    let r = a .pre .1 .1 in
+    (a .pre .0, (c .before .before .loop .inv .0 .proper, (r .size, r .is, c .before .loop-test .taken)))
 
 answer-byte-requires : tie.Need-answer-byte-requires Inv-loop μ-loop
 answer-byte-requires c κs = search needs
@@ -63,7 +63,6 @@ answer-byte-requires c κs = search needs
 slice-write-answers : tie.Need-slice-write-answers Inv-loop μ-loop
 slice-write-answers c =
     let a = c .before .before .before .before .before .before .before .before .before .before .before .before .before .before in
-    let u : c .before .before .before .before .before .before .before .u16-at .result ≡ stepsOf (schedule a) = c .before .before .before .before .before .before .before .u16-at .ensures .is in
     let r = a .pre .1 .1 .room in
     let s = c .before .before .before .before .before .before .loop .inv .0 .same in
     omega arith
@@ -72,10 +71,10 @@ add-requires : tie.Need-add-requires Inv-loop μ-loop
 add-requires c κs =
     let a = c .before .before .before .before .before .before .before .before .before .before .before .before .before .before in
     let h = c .before .before .before .before .before .before .loop .inv in
-    let u : c .before .before .before .before .before .before .before .u16-at .result ≡ stepsOf (schedule a) = c .before .before .before .before .before .before .before .u16-at .ensures .is in
-    let r = a .pre .1 .1 .steps in (
-      within-more _ (c .before .before .before .before .before .before .loop .i) 8192 (omega arith) (h .0 .within),
-      taken-few (T a) (schedule a) (was a) (bytes a) (c .before .before .before .before .before .before .loop .i) _ _ _ (h .0) _ _ (c .before .before .before .step-at .ensures) (a .pre .0 .checked .sound .shaped .limits .agents),
+    let r = a .pre .1 .1 .steps in
+    let few = a .pre .0 .checked .sound .shaped .limits .agents in (
+      totals-within (T a) (schedule a) (was a) (bytes a) _ _ _ _ (h .0) few (omega arith),
+      rw (c .before .before .before .step-at .ensures .tally) (step-within (T a) few _ _ _ _),
     )
 
 add-i : tie.Need-add-i Inv-loop μ-loop
@@ -88,12 +87,11 @@ loop-again : tie.Need-loop-again Inv-loop μ-loop
 loop-again c =
     let a = c .before .before .before .before .before .before .before .before .before .before .before .before .before .before .before in
     let h = c .before .before .before .before .before .before .before .loop .inv in
-    let l = a .pre .0 .checked .sound .shaped .limits .agents in
     let i = c .before .before .before .before .before .before .before .loop .i in
     let out = c .before .before .before .before .before .before .before .loop .answers in
     let left = c .before .before .before .before .step-at .last .1 .1 .1 .1 .0 in
     let n = next-done (T a) (schedule a) (was a) (bytes a) i (c .before .before .before .before .before .before .before .loop .state) out (c .before .before .before .before .before .before .before .loop .totals) (h .0) (c .before .before .before .before .step-at .result) left (c .before .before .before .before .step-at .ensures)
-    (a .pre .0 .checked .sound) (narrow a (c .before .before .before .before .before .before .before .before .before .before .before .before .before .shared-slice-known2 .given)) l in (
+    (a .pre .0 .checked .sound) (narrow a (c .before .before .before .before .before .before .before .before .before .before .before .before .before .shared-slice-known2 .given)) in (
       subst (λ (d : Totals). Halfway (T a) (schedule a) (was a) (bytes a) (i + 1) left (set out i (c .before .answer-byte .result)) d) (sym (c .add .ensures))
           (subst (λ (w : ℕ). Halfway (T a) (schedule a) (was a) (bytes a) (i + 1) left (set out i w) (tallied (c .before .before .before .before .before .before .before .loop .totals) (c .before .before .before .before .step-at .result))) (sym (c .before .answer-byte .ensures)) n),
       omega arith,
@@ -109,8 +107,7 @@ returns : tie.Need-returns Inv-loop μ-loop
 returns c =
     let a = c .before .before .before .before .before .before .before .before .before in
     let h = c .before .loop .inv in
-    let u : c .before .before .u16-at .result ≡ stepsOf (schedule a) = c .before .before .u16-at .ensures .is in
-    let e : c .before .loop .i ≡ stepsOf (schedule a) = omega arith in
+    let e : c .before .loop .i ≡ a .args .n = omega arith in
     subst (λ (i : ℕ). Reports (ran (T a) (schedule a) i (begun (was a) (bytes a))) (c .before .loop .totals) (c .before .loop .state) (c .before .loop .answers)) e (h .0 .reports)
 
 pub run-steps-spec : {M : Type 1} → statement M
@@ -119,7 +116,7 @@ run-steps-spec =
     (tie.spec
     Inv-loop
     μ-loop
-    u16-at-requires
+    no-tally-requires
     loop-holds
     step-at-requires
     answer-byte-requires

@@ -65,7 +65,7 @@ offer-step-requires : tie.Need-offer-step-requires
 offer-step-requires c κs =
     let a = c .before .before .before .before .before .before .before .before in
     let r = range a _ (c .before .before .before .out-of-range .ensures) (c .before .before .if1 .left) in
-    record { shaped = a .pre .0 .checked .sound .shaped; whole = a .pre .1 .whole; agent = r .agent-below; key = r .key-below (omega arith) }
+    record { shaped = a .pre .0 .checked .sound .shaped; blocks = omega (arith, a .pre .1 .whole); agent = r .agent-below; key = r .key-below (omega arith) }
 
 same-length-2 : tie.Need-same-length-2
 same-length-2 c = search needs

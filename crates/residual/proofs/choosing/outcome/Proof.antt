@@ -1,26 +1,166 @@
 -- `outcome` meets its contract. Assumes nothing.
-use mathlib.Core.Path.{subst}
+use Prim.Native.Nat.{ℕ, _+_, _-_, _*_, _≤_, _<_}
+use mathlib.Core.List.{List}
+use mathlib.Core.Path.{_≡_, sym, subst}
+use native.Mathlib.Omega.{arith}
 use denote.Ref.{now}
-use Rattle.table.specs.Tables.{table}
-use Rattle.term.specs.Processes.{Derivation, process}
-use Rattle.choice.specs.Outcomes.{Tells}
-use Rattle.choice.proofs.Chosen.{chosen-any}
-use Rattle.residual.specs.Wholes.{residualTerm, limitOf}
-use Rattle.residual.proofs.Residuals.{stands-whole}
+use lib.ListN.{length}
+use Rattle.table.specs.Tables.{Table, table}
+use Rattle.term.specs.Terms.{words as wordsOf}
+use Rattle.term.specs.Processes.{Derivation, process, derivationAt}
+use Rattle.choice.specs.Turns.{ahead, Prepared}
+use Rattle.choice.proofs.Turning.{ahead-most}
+use Rattle.residual.specs.declared.Step.{Step}
+use Rattle.residual.specs.declared.Target.{Target}
+use Rattle.residual.specs.Steps.{Stepped}
+use Rattle.residual.specs.Wholes.{residualTerm}
+use Rattle.residual.proofs.Standing.{pairs-ready, stands-here}
+use Rattle.residual.proofs.Reporting.{Toward, toward-acts, toward-joins, toward-tick, toward-node}
+use Rattle.residual.proofs.Residuals.{term-size, toward-whole}
 use Rattle.residual.proofs.choosing.outcome.Statement.{statement}
 use Rattle.residual.proofs.choosing.outcome.Tie as tie
 
-outcome-at-requires : tie.Need-outcome-at-requires
-outcome-at-requires c κs =
-    let a = c .before .before .before .before in
-    (a .pre .0, (a .pre .1 .0 .room, (residualTerm (a .args .size) (now (a .args .words)), stands-whole (table (a .args .sizes) (now (a .args .kinds)) (now (a .args .operands))) (now (a .args .scratch)) (a .pre .0) (a .args .size) (now (a .args .words)) (a .pre .1 .0) (a .args .c) (a .pre .1 .1))))
+abbrev Inv-loop : tie.InvT-loop
+Inv-loop sizes kinds operands scratch words c roots target₀ more₀ target more =
+    Toward (table sizes kinds operands) words (derivationAt (process (table sizes kinds operands) (residualTerm words)) c) target more
 
-returns : tie.Need-returns
-returns c =
-    let a = c .before .before .before .before .before in
-    let x = residualTerm (a .args .size) (now (a .args .words)) in
-    subst (λ (d : Derivation). Tells d (limitOf (table (a .args .sizes) (now (a .args .kinds)) (now (a .args .operands))) x) (c .outcome-at .result)) (chosen-any (process (table (a .args .sizes) (now (a .args .kinds)) (now (a .args .operands))) x) (a .args .c))
-    (c .outcome-at .ensures x (stands-whole (table (a .args .sizes) (now (a .args .kinds)) (now (a .args .operands))) (now (a .args .scratch)) (a .pre .0) (a .args .size) (now (a .args .words)) (a .pre .1 .0) (a .args .c) (a .pre .1 .1)))
+abbrev μ-loop : tie.MeasureT-loop
+μ-loop sizes kinds operands scratch words c roots target₀ more₀ target more = length words - target .from .at
+
+-- a step has been made
+abbrev At : Type 0
+At = tie.After-step-at Inv-loop μ-loop
+
+abbrev start : At → tie.Start Inv-loop μ-loop
+start c = c .before .before .before .before .before .before .before .before
+
+abbrev tb : At → Table
+tb c = table (start c .args .sizes) (now (start c .args .kinds)) (now (start c .args .operands))
+
+abbrev ws : At → List ℕ
+ws c = now (start c .args .words)
+
+abbrev goal : At → Derivation
+goal c = derivationAt (process (tb c) (residualTerm (ws c))) (start c .args .c)
+
+abbrev ready : (c : At) → Prepared (tb c) (now (start c .args .scratch))
+ready c = start c .pre .0
+
+abbrev target : At → Target
+target c = c .before .loop .target
+
+abbrev more : At → ℕ
+more c = c .before .loop .more
+
+abbrev inv : (c : At) → Toward (tb c) (ws c) (goal c) (target c) (more c)
+inv c = c .before .loop .inv
+
+room : (c : At) → (length (ws c) ≤ 65535) × (length (wordsOf (residualTerm (ws c))) ≡ length (ws c) - 0)
+room c = (start c .pre .1 .0 .room, term-size (tb c) (now (start c .args .scratch)) (ready c) 0 (ws c) (start c .pre .1 .0))
+
+here : (c : At) → target c .from .at < length (ws c)
+here c = stands-here (tb c) (inv c .term) (target c) (ws c) (inv c .stands)
+
+step : (c : At) (r : Step) → c .step-at .result ≡ r → Stepped (tb c) (inv c .term) (target c) r
+step c r e = subst (Stepped (tb c) (inv c .term) (target c)) e (c .step-at .ensures (tb c) (sym (c .before .before .before .first-root .ensures)) (ready c .counted) (inv c .term) (inv c .stands))
+
+least : (c : tie.After-step Inv-loop μ-loop) → let z = c .before .before in ahead (tb z) (c .step .given .0 .0) ≤ 4097 * tb z .sizes .definitions + tb z .sizes .nodes
+least c = let z = c .before .before in ahead-most (tb z) (now (start z .args .scratch)) (ready z) _ (step z _ (c .step .given .1) .1)
+
+first-root-requires : tie.Need-first-root-requires Inv-loop μ-loop
+first-root-requires c κs = c .before .before .before .before .pre .0 .checked .sound .shaped .limits
+
+whole-requires : tie.Need-whole-requires Inv-loop μ-loop
+whole-requires c κs = tt
+
+loop-holds : tie.Need-loop-holds Inv-loop μ-loop
+loop-holds c =
+    let a = c .before .before .before .before .before .before in
+    let t = table (a .args .sizes) (now (a .args .kinds)) (now (a .args .operands)) in
+    rw (c .whole .ensures) (toward-whole t (now (a .args .scratch)) (a .pre .0) 0 (now (a .args .words)) (a .pre .1 .0) (a .args .c) (a .pre .1 .1))
+
+step-at-requires : tie.Need-step-at-requires Inv-loop μ-loop
+step-at-requires c κs =
+    let a = c .before .before .before .before .before .before .before in
+    pairs-ready (table (a .args .sizes) (now (a .args .kinds)) (now (a .args .operands))) (now (a .args .scratch)) (a .pre .0) _ (c .before .before .first-root .ensures)
+
+enum-told : tie.Need-enum-told Inv-loop μ-loop
+enum-told c = c .match .keys1
+
+add-t17 : tie.Need-add-t17 Inv-loop μ-loop
+add-t17 c = let z = c .before .before in omega (arith, inv z .bound, room z)
+
+returns : tie.Need-returns Inv-loop μ-loop
+returns c = let z = c .before .before in let e = step z _ (c .enum-told .given .1) in toward-tick (tb z) (ws z) (goal z) (target z) (more z) (inv z) _ (e .1) (omega (arith, e .0, inv z .bound, room z))
+
+enum-known-step : tie.Need-enum-known-step Inv-loop μ-loop
+enum-known-step c = c .match .keys2
+
+node-outcome-requires : tie.Need-node-outcome-requires Inv-loop μ-loop
+node-outcome-requires c κs = let z = c .before .before .before in (ready z, step z _ (c .before .step .given .1) .1)
+
+grown-requires : tie.Need-grown-requires Inv-loop μ-loop
+grown-requires c κs =
+    let z = c .before .before .before .before in
+    let l = ready z .checked .sound .shaped .limits in
+    omega (arith, c .node-outcome .ensures .bound, inv z .bound, room z, l .nodes, l .definitions, least (c .before .before))
+
+returns-2 : tie.Need-returns-2 Inv-loop μ-loop
+returns-2 c =
+    let z = c .before .before .before .before .before in
+    let e = step z _ (c .before .before .before .step .given .1) in
+    toward-node (tb z) (ws z) (goal z) (target z) (more z) (inv z) _ _ (e .2) _ _ (c .before .node-outcome .ensures) _ (c .grown .ensures) (omega (arith, inv z .bound, room z, least (c .before .before .before)))
+
+enum-known-step-2 : tie.Need-enum-known-step-2 Inv-loop μ-loop
+enum-known-step-2 c = c .match .keys3
+
+loop-again : tie.Need-loop-again Inv-loop μ-loop
+loop-again c = let z = c .before .before .before .before .before in toward-acts (tb z) (ws z) (goal z) (target z) (more z) (inv z) _ _ (step z _ (c .before .before .before .step2 .given .1))
+
+sub-more : tie.Need-sub-more Inv-loop μ-loop
+sub-more c = let e = step (c .before .before .before .before .before) _ (c .before .before .before .step2 .given .1) in omega (arith, e .part .place)
+
+add-more : tie.Need-add-more Inv-loop μ-loop
+add-more c = let z = c .before .before .before .before .before in omega (arith, loop-again c .bound, room z)
+
+add-more-2 : tie.Need-add-more-2 Inv-loop μ-loop
+add-more-2 c = let z = c .before .before .before .before .before in omega (arith, loop-again c .bound, room z)
+
+loop-less : tie.Need-loop-less Inv-loop μ-loop
+loop-less c = let z = c .before .before .before .before .before in let e = step z _ (c .before .before .before .step2 .given .1) in omega (arith, e .part .place, e .part .some, here z)
+
+enum-known-step-3 : tie.Need-enum-known-step-3 Inv-loop μ-loop
+enum-known-step-3 c = c .match .keys4
+
+loop-less-2 : tie.Need-loop-less-2 Inv-loop μ-loop
+loop-less-2 c = let z = c .before .before .before in let e = step z _ (c .before .step3 .given .1) in omega (arith, e .part .place, e .part .some, here z)
+
+loop-again-2 : tie.Need-loop-again-2 Inv-loop μ-loop
+loop-again-2 c = let z = c .before .before .before in toward-joins (tb z) (ws z) (goal z) (target z) (more z) (inv z) _ _ _ _ (step z _ (c .before .step3 .given .1))
 
 pub outcome-spec : {M : Type 1} → statement M
-outcome-spec = tie.close (tie.spec outcome-at-requires returns)
+outcome-spec =
+    tie.close
+    (tie.spec
+    Inv-loop
+    μ-loop
+    first-root-requires
+    whole-requires
+    loop-holds
+    step-at-requires
+    enum-told
+    add-t17
+    returns
+    enum-known-step
+    node-outcome-requires
+    grown-requires
+    returns-2
+    enum-known-step-2
+    sub-more
+    add-more
+    add-more-2
+    loop-less
+    loop-again
+    enum-known-step-3
+    loop-less-2
+    loop-again-2)

@@ -1,17 +1,15 @@
 -- `rewrite` meets its contract. Assumes nothing.
-use Prim.Native.Nat.{ℕ, _+_, _-_, _≤_}
-use mathlib.Core.Path.{_≡_, refl, subst}
+use Prim.Native.Nat.{ℕ}
 use mathlib.Core.List.{List}
+use mathlib.Core.Path.{subst}
 use native.Mathlib.Omega.{arith}
 use denote.Ref.{now}
-use lib.ListN.{length}
+use lib.ListN.{length, take}
 use Rattle.table.specs.Tables.{Table, table}
-use Rattle.term.specs.Terms.{Term, words}
-use Rattle.term.specs.Processes.{Derivation, process, derivationAt}
-use Rattle.choice.specs.Writing.{Written}
-use Rattle.choice.proofs.Chosen.{chosen-any}
-use Rattle.residual.specs.Wholes.{residualTerm}
-use Rattle.residual.proofs.Residuals.{term-size, spot-whole, gap-size, rewritten}
+use Rattle.term.specs.Terms.{words}
+use Rattle.term.specs.Processes.{process, derivationAt}
+use Rattle.residual.specs.Wholes.{residualTerm, Placed}
+use Rattle.residual.proofs.Residuals.{moved-up, rewritten}
 use borrow.Author.Needs.{needs}
 use Rattle.residual.proofs.choosing.rewrite.Statement.{statement}
 use Rattle.residual.proofs.choosing.rewrite.Tie as tie
@@ -29,54 +27,43 @@ tb c = table (start c .args .sizes) (now (start c .args .kinds)) (now (start c .
 abbrev ws : At → List ℕ
 ws c = now (start c .args .words)
 
-abbrev term : At → Term
-term c = residualTerm (start c .args .size) (ws c)
-
-abbrev goal : At → List ℕ
-goal c = words (derivationAt (process (tb c) (term c)) (start c .args .c) .leaving)
+abbrev left : At → List ℕ → List ℕ
+left c l = words (derivationAt (process (tb c) (residualTerm l)) (start c .args .c) .leaving)
 
 abbrev moved : At → List ℕ
-moved c = c .before .before .before .before .move-up .last .0
+moved c = c .before .before .before .before .copy-within .last .0
 
-whole : (c : At) → length (ws c) - start c .args .size + length (words (term c)) ≡ length (moved c)
-whole c =
-    omega (arith, term-size (tb c) (now (start c .args .scratch)) (start c .pre .0) (start c .args .size) (ws c) (start c .pre .1 .0), start c .pre .1 .0 .fits, c .before .before .before .before .move-up .ensures .same)
-
-written : (c : At) → Written (moved c) 0 (length (ws c) - start c .args .size + length (words (term c))) (goal c) (c .place .result) (c .place .last .1 .1 .1 .1 .0)
-written c =
-    subst (λ (d : Derivation). Written (moved c) 0 (length (ws c) - start c .args .size + length (words (term c))) (words (d .leaving)) (c .place .result) (c .place .last .1 .1 .1 .1 .0)) (chosen-any (process (tb c) (term c)) (start c .args .c))
-    (c .place .ensures (term c)
-    (spot-whole (tb c) (now (start c .args .scratch)) (start c .pre .0) (start c .args .size) (ws c) (start c .pre .1 .0) (start c .args .c) (start c .pre .1 .1 .0) (start c .pre .1 .1 .1) _ (c .before .before .before .before .move-up .ensures)))
-
-sized : (c : At) → (c .place .result .front ≤ c .place .result .back) × (c .place .result .back ≤ length (ws c)) × (length (c .place .last .1 .1 .1 .1 .0) ≡ length (ws c))
-sized c = gap-size (goal c) (ws c) (moved c) _ (c .place .result) _ (c .before .before .before .before .move-up .ensures .same) (whole c) (written c)
+placed : (c : At) → Placed (left c (take (start c .args .size) (ws c))) (length (moved c)) (c .place .result) (c .place .last .1 .1 .1 .1 .0)
+placed c =
+    subst (λ (l : List ℕ). Placed (left c l) (length (moved c)) (c .place .result) (c .place .last .1 .1 .1 .1 .0)) (moved-up (start c .args .size) (ws c) (moved c) (start c .pre .1 .0) (c .before .before .before .before .copy-within .ensures)) (c .place .ensures)
 
 sub-at : tie.Need-sub-at
 sub-at c = search needs
 
-move-up-requires : tie.Need-move-up-requires
-move-up-requires c κs = search needs
+copy-within-requires : tie.Need-copy-within-requires
+copy-within-requires c κs = search needs
 
 place-requires : tie.Need-place-requires
 place-requires c κs =
     let a = c .before .before .before .before .before .before .before .before .before in
-    let v = c .before .before .before .move-up .ensures in
-    (a .pre .0, (omega (arith, a .pre .1 .0 .room, v .same), (residualTerm (a .args .size) (now (a .args .words)), spot-whole (table (a .args .sizes) (now (a .args .kinds)) (now (a .args .operands))) (now (a .args .scratch)) (a .pre .0) (a .args .size) (now (a .args .words)) (a .pre .1 .0) (a .args .c) (a .pre .1 .1 .0) (a .pre .1 .1 .1) _ v)))
+    let v = c .before .before .before .copy-within .ensures in
+    rw (moved-up (a .args .size) (now (a .args .words)) (c .before .before .before .copy-within .last .0) (a .pre .1 .0) v)
+    (a .pre .0, (omega (arith, v .same), (a .pre .1 .1 .0, (a .pre .1 .1 .1 .0, omega (arith, a .pre .1 .1 .1 .1, v .same)))))
 
 sub-n : tie.Need-sub-n
-sub-n c = let g = sized (c .before .before) in omega (arith, g)
+sub-n c = search needs
 
-move-down-requires : tie.Need-move-down-requires
-move-down-requires c κs = let g = sized (c .before .before .before) in (g .0, omega (arith, g))
+copy-within-requires-2 : tie.Need-copy-within-requires-2
+copy-within-requires-2 c κs = search needs
 
 add-clear : tie.Need-add-clear
-add-clear c = let g = sized (c .before .before .before .before .before .before .before) in omega (arith, g)
+add-clear c = let g = placed (c .before .before .before .before .before .before .before) in omega (arith, c .before .before .before .before .before .before .before .before .before .before .before .copy-within .ensures .same, g .order, g .end, start (c .before .before .before .before .before .before .before) .good)
 
 clear-requires : tie.Need-clear-requires
-clear-requires c κs = let g = sized (c .before .before .before .before .before .before .before) in omega (arith, g, c .before .before .before .move-down .ensures .same)
+clear-requires c κs = search needs
 
 add-result : tie.Need-add-result
-add-result c = let g = sized (c .before .before .before .before .before .before .before .before .before .before) in omega (arith, g)
+add-result c = let g = placed (c .before .before .before .before .before .before .before .before .before .before) in omega (arith, c .before .before .before .before .before .before .before .before .before .before .before .before .before .before .copy-within .ensures .same, g .order, g .end, start (c .before .before .before .before .before .before .before .before .before .before) .good)
 
 same-length : tie.Need-same-length
 same-length c = search needs
@@ -84,17 +71,17 @@ same-length c = search needs
 returns : tie.Need-returns
 returns c =
     let z = c .before .before .before .before .before .before .before .before .before .before in
-    rewritten (goal z) (ws z) (c .before .before .before .before .before .before .before .before .before .before .before .before .before .before .move-up .last .0) _ (z .place .result) _ (c .before .before .before .before .before .before .before .before .before .before .before .before .before .before .move-up .ensures .same) (whole z) (written z) _ refl _ (c .before .before .before .before .before .before .move-down .ensures) _ (c .before .before .clear .ensures)
+    rewritten (left z (take (start z .args .size) (ws z))) _ (z .place .result) (length (moved z)) (placed z) (ws z) (c .before .before .before .before .before .before .before .before .before .before .before .before .before .before .copy-within .ensures .same) _ (omega (arith, c .before .before .before .before .before .before .before .before .before .before .before .before .before .before .copy-within .ensures .same)) _ (c .before .before .before .before .before .before .copy-within2 .ensures) _ (c .before .before .clear .ensures)
 
 pub rewrite-spec : {M : Type 1} → statement M
 rewrite-spec =
     tie.close
     (tie.spec
     sub-at
-    move-up-requires
+    copy-within-requires
     place-requires
     sub-n
-    move-down-requires
+    copy-within-requires-2
     add-clear
     clear-requires
     add-result

@@ -1,15 +1,14 @@
 -- `whole_term` meets its contract. Assumes nothing.
 use Prim.Native.Nat.{ℕ, _+_, _-_, _≤_, _<_}
-use mathlib.Core.Bool.{Bool, true, false}
 use mathlib.Core.List.{List}
-use mathlib.Core.Path.{_≡_, refl, sym, ap, _∙_}
+use mathlib.Core.Path.{_≡_, refl, sym, _∙_}
 use native.Mathlib.Omega.{arith}
 use borrow.Author.Needs.{needs}
 use denote.Ref.{now}
-use lib.ListN.{length, getD, drop}
+use lib.ListN.{length, drop}
 use borrow.Author.Tests.{not-true, not-false}
-use Rattle.term.specs.Terms.{isOperator}
-use Rattle.residual.specs.Reading.{leafWord}
+use Rattle.residual.specs.declared.Read.the-variants.{Word}
+use Rattle.residual.specs.Reading.{readAt}
 use Rattle.table.specs.Tables.{Table, table, firstRoot}
 use Rattle.term.specs.Terms.{areTerms}
 use Rattle.residual.proofs.Whole.{read-word, read-end, are-end, are-none, are-operator, are-leaf, are-bad}
@@ -38,8 +37,11 @@ ws c = now (start c .args .words)
 abbrev here : At → ℕ
 here c = c .before .before .before .loop .cursor .at
 
-read : (c : At) → (here c < length (ws c)) × (c .read2 .given .0 .0 ≡ getD (ws c) (here c) 0) × (c .read2 .given .0 .1 .0 .at ≡ here c + 1)
-read c = read-word (ws c) (here c) _ _ (sym (c .before .before .read .ensures) ∙ c .read2 .given .1)
+read : (c : At) → readAt (ws c) (here c) ≡ Word (c .read2 .given .0 .0) (c .read2 .given .0 .1 .0)
+read c = sym (c .before .before .read .ensures) ∙ c .read2 .given .1
+
+past : (c : At) → (here c < length (ws c)) × (c .read2 .given .0 .1 .0 .at ≡ here c + 1)
+past c = let r = read-word (ws c) (here c) _ _ (read c) in (r .0, r .2)
 
 abbrev whole : (c : At) → List ℕ → Table
 whole c operands = table (start c .args .sizes) (now (start c .args .kinds)) operands
@@ -76,64 +78,50 @@ returns c operands =
     sym (l .inv .2 t (sym (c .before .before .before .before .before .first-root .ensures)) refl ∙ are-end t (now (a .args .words)) (l .cursor .at) (l .more) (read-end (now (a .args .words)) (l .cursor .at) (sym (c .before .before .read .ensures) ∙ c .enum-told .given .1)))
 
 returns-2 : tie.Need-returns-2 Inv-loop μ-loop
-returns-2 c operands =
-    let z = c .before .before in
-    sym (come z operands ∙ are-none (whole z operands) (ws z) (here z) (read z .0) _ (c .if1 .taken))
+returns-2 c operands = let z = c .before .before in sym (come z operands ∙ are-none (whole z operands) (ws z) (here z) _ _ (read z) _ (c .if1 .taken))
 
 is-operator-requires : tie.Need-is-operator-requires Inv-loop μ-loop
 is-operator-requires c κs = search needs
 
 add-more : tie.Need-add-more Inv-loop μ-loop
-add-more c = let z = c .before .before .before .before in record { fits = omega (arith, read z .0, z .before .before .before .loop .inv .1, start z .good) }
+add-more c = let z = c .before .before .before .before in record { fits = omega (arith, past z .0, z .before .before .before .loop .inv .1, start z .good) }
 
 is-leaf-requires : tie.Need-is-leaf-requires Inv-loop μ-loop
 is-leaf-requires c κs = let z = c .before .before .before .before in omega (arith, start z .pre, z .before .before .before .before .before .first-root .ensures)
 
--- what the tests say of the word that was read
-operator : (c : At) (b : Bool) (r : Bool) → r ≡ isOperator (c .read2 .given .0 .0) → r ≡ b → isOperator (getD (ws c) (here c) 0) ≡ b
-operator c b r e f = ap isOperator (sym (read c .1)) ∙ sym e ∙ f
-
-leaf : (c : At) (roots : ℕ) (b : Bool) (r : Bool) → r ≡ leafWord roots (now (start c .args .kinds)) (c .read2 .given .0 .0) → r ≡ b
-    → leafWord roots (now (start c .args .kinds)) (getD (ws c) (here c) 0) ≡ b
-leaf c roots b r e f = ap (λ (w : ℕ). leafWord roots (now (start c .args .kinds)) w) (sym (read c .1)) ∙ sym e ∙ f
-
 returns-3 : tie.Need-returns-3 Inv-loop μ-loop
 returns-3 c operands =
     let z = c .before .before .before .before .before .before in
-    sym (come z operands ∙ are-bad (whole z operands) (ws z) (here z) (read z .0) _ _ (root-is z operands) refl _ (operator z false _ (c .before .before .before .is-operator .ensures) (c .before .before .if2 .left)) (leaf z _ false _ (c .before .is-leaf .ensures) (not-true _ (c .if3 .taken))))
+    sym (come z operands ∙ are-bad (whole z operands) (ws z) (here z) _ _ (read z) _ _ (root-is z operands) refl (sym (c .before .before .before .is-operator .ensures) ∙ c .before .before .if2 .left) _ (sym (c .before .is-leaf .ensures) ∙ not-true _ (c .if3 .taken)))
 
 sub-more : tie.Need-sub-more Inv-loop μ-loop
 sub-more c = let d = c .before .before .before .before .if1 .left in omega (arith, d)
 
 loop-less : tie.Need-loop-less Inv-loop μ-loop
-loop-less c = let z = c .before .before .before .before in omega (arith, read z)
+loop-less c = let z = c .before .before .before .before in omega (arith, past z)
 
 loop-again : tie.Need-loop-again Inv-loop μ-loop
 loop-again c =
     let z = c .before .before .before .before in
     let l = z .before .before .before .loop in
-    let r = read z in
+    let r = past z in
     let i = l .inv .1 in
-    let d = c .before .before .if1 .left in (
-      omega arith,
-      omega arith,
-      λ t e f. l .inv .2 t e f ∙ are-operator t (ws z) (here z) (r .0) (l .more) _ (omega arith) (r .2) (operator z true _ (c .before .is-operator .ensures) (c .if2 .taken)),
-    )
+    let d = c .before .before .if1 .left in
+    (omega arith, omega arith, λ t e f. l .inv .2 t e f ∙ are-operator t (ws z) (here z) _ _ (read z) (l .more) (omega arith) (sym (c .before .is-operator .ensures) ∙ c .if2 .taken))
 
 loop-less-2 : tie.Need-loop-less-2 Inv-loop μ-loop
-loop-less-2 c = let z = c .before .before .before .before .before .before in omega (arith, read z)
+loop-less-2 c = let z = c .before .before .before .before .before .before in omega (arith, past z)
 
 loop-again-2 : tie.Need-loop-again-2 Inv-loop μ-loop
 loop-again-2 c =
     let z = c .before .before .before .before .before .before in
     let l = z .before .before .before .loop in
-    let r = read z in
+    let r = past z in
     let i = l .inv .1 in
     let d = c .before .before .before .before .if1 .left in (
       omega arith,
       omega arith,
-      λ t e f. l .inv .2 t e f ∙ are-leaf t (ws z) (here z) (r .0) _ _ e f (l .more) _ (omega arith) (r .2) (operator z false _ (c .before .before .before .is-operator .ensures) (c .before .before .if2 .left))
-          (leaf z _ true _ (c .before .is-leaf .ensures) (not-false _ (c .if3 .left))),
+      λ t e f. l .inv .2 t e f ∙ are-leaf t (ws z) (here z) _ _ (read z) _ _ e f (sym (c .before .before .before .is-operator .ensures) ∙ c .before .before .if2 .left) (l .more) (omega arith) (sym (c .before .is-leaf .ensures) ∙ not-false _ (c .if3 .left)),
     )
 
 pub whole-term-spec : {M : Type 1} → statement M

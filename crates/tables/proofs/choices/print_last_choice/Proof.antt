@@ -1,11 +1,11 @@
 -- `tables::choices::print_last_choice` ends, and calls by contract.
 -- Assumes nothing.
 use Prim.Native.Nat.{ℕ, _-_, _≤_}
-use mathlib.Core.Path.{sym, ap, _∙_}
+use mathlib.Core.Path.{_≡_, refl, sym, ap, _∙_}
 use mathlib.Core.List.{List}
 use native.Mathlib.Omega.{arith}
 use denote.Ref.{now}
-use lib.ListN.{length, replicate, length-append}
+use lib.ListN.{length, take, replicate, length-append}
 use lib.Seq.{length-take-le}
 use borrow.Author.Tests.{not-false}
 use Rattle.table.specs.Tables.{Table, table}
@@ -30,15 +30,25 @@ abbrev tb : At → Table
 tb c = table (start c .args .sizes) (now (start c .args .kinds)) (now (start c .args .operands))
 
 abbrev term : At → Term
-term c = residualTerm 1 (now (start c .args .words))
+term c = residualTerm (take 1 (now (start c .args .words)))
 
 -- the last one may be taken
 taking : (c : At) → Taking (tb c) (term c) (c .before .before .before .count-choices .result .count - 1)
 taking c =
-    let o = c .before .before .before .count-choices .ensures in
+    let o = c .before .before .before .count-choices .ensures (tb c) refl (start c .pre .0) (start c .pre .1 .0 .1) in
     let f = sym (o .few) ∙ not-false (c .before .before .before .count-choices .result .few) (c .before .before .if1 .left) in
     let n = o .count f in
     record { few = f; choice = omega (arith, n, c .if2 .left) }
+
+slice-reshare-prefix-count-choices : tie.Need-slice-reshare-prefix-count-choices
+slice-reshare-prefix-count-choices c = search needs
+
+-- the residual is the first word
+one : (a : tie.Start) → 1 ≡ length (take 1 (now (a .args .words)))
+one a = sym (length-take-le 1 (now (a .args .words)) (a .pre .1 .0 .0))
+
+slice-aggregate-count-choices : tie.Need-slice-aggregate-count-choices
+slice-aggregate-count-choices c = one (c .before .before .before .before .before .before)
 
 count-choices-requires : tie.Need-count-choices-requires
 count-choices-requires c κs = search needs
@@ -61,14 +71,26 @@ returns-2 c = search needs
 sub-c : tie.Need-sub-c
 sub-c c = search needs
 
+slice-reshare-prefix-outcome : tie.Need-slice-reshare-prefix-outcome
+slice-reshare-prefix-outcome c = search needs
+
+slice-aggregate-outcome : tie.Need-slice-aggregate-outcome
+slice-aggregate-outcome c = one (start (c .before))
+
 outcome-requires : tie.Need-outcome-requires
-outcome-requires c κs = (start (c .before) .pre .0, (start (c .before) .pre .1 .0, taking (c .before)))
+outcome-requires c κs = (start (c .before) .pre .0, (start (c .before) .pre .1 .0 .1, taking (c .before)))
 
 print-does-requires : tie.Need-print-does-requires
 print-does-requires c κs = search needs
 
+slice-reshare-prefix-collect : tie.Need-slice-reshare-prefix-collect
+slice-reshare-prefix-collect c = search needs
+
+slice-aggregate-collect : tie.Need-slice-aggregate-collect
+slice-aggregate-collect c = one (start (c .before .before .before .before .before))
+
 collect-requires : tie.Need-collect-requires
-collect-requires c κs = let z = c .before .before .before .before .before in (start z .pre .0, (start z .pre .1 .0, (taking z, start z .pre .1 .1)))
+collect-requires c κs = let z = c .before .before .before .before .before in (start z .pre .0, (start z .pre .1 .0 .1, (taking z, start z .pre .1 .1)))
 
 marked-guards-requires : tie.Need-marked-guards-requires
 marked-guards-requires c κs = let z = start (c .before .before .before .before .before .before .before .before .before) in omega (arith, z .pre .0 .checked .sound .shaped .kinds, c .before .before .before .collect .ensures .marks .room)
@@ -83,7 +105,7 @@ rewrite-requires : tie.Need-rewrite-requires
 rewrite-requires c κs =
     let z = c .before .before .before .before .before .before .before .before .before .before .before .before .before .before in
     let e = c .before .before .before .before .before .before .before .before .before .before .before .before .outcome .ensures .size in
-    (start z .pre .0, (start z .pre .1 .0, (taking z, omega (arith, e, c .before .if3 .taken))))
+    (start z .pre .0, (start z .pre .1 .0 .0, (start z .pre .1 .0 .1, (taking z, omega (arith, e, c .before .if3 .taken)))))
 
 slice-reshare-prefix-print-words : tie.Need-slice-reshare-prefix-print-words
 slice-reshare-prefix-print-words c = search needs
@@ -116,6 +138,8 @@ pub print-last-choice-spec : {M : Type 1} → statement M
 print-last-choice-spec =
     tie.close
     (tie.spec
+    slice-reshare-prefix-count-choices
+    slice-aggregate-count-choices
     count-choices-requires
     same-length
     returns
@@ -123,8 +147,12 @@ print-last-choice-spec =
     same-length-2
     returns-2
     sub-c
+    slice-reshare-prefix-outcome
+    slice-aggregate-outcome
     outcome-requires
     print-does-requires
+    slice-reshare-prefix-collect
+    slice-aggregate-collect
     collect-requires
     marked-guards-requires
     print-number-requires-2

@@ -3,14 +3,15 @@
 use Prim.Native.Nat.{ℕ, _^_}
 use mathlib.Core.Bool.{true}
 use mathlib.Core.List.{List}
-use mathlib.Core.Path.{_≡_, sym, _∙_}
+use mathlib.Core.Path.{_≡_, sym, subst, _∙_}
 use borrow.Author.Tests.{not-true, not-false}
 use denote.Ref.{now}
 use lib.Dec.{ltb}
 use Rattle.basis.specs.Numbers.{every}
 use Rattle.table.specs.Tables.{Table, table}
 use Rattle.state.specs.declared.Store.the-variants.{Attributes, Entries}
-use Rattle.state.specs.Layout.{keyLimit, clockOf, zcOf, zpOf}
+use Rattle.state.specs.Layout.{keyLimit, zcOf, zpOf}
+use Rattle.state.specs.Entries.{clockOf}
 use Rattle.state.specs.WellFormed.{pairFormed, pendingFormed, agentFormed}
 use Rattle.wellformed.proofs.Blocks.{wide, narrow}
 use borrow.Author.Needs.{needs}
@@ -40,7 +41,10 @@ attributes : (c : tie.Else1) → every (pairFormed (now (start1 c .args .state))
 attributes c = sym (c .before .store-formed .ensures) ∙ not-false _ (c .if1 .left)
 
 entries : (c : tie.Else2) → every (pairFormed (now (start2 c .args .state)) (Entries (start2 c .args .agent)) (clockOf (now (start2 c .args .state))) (start2 c .args .sizes .stigmergy)) keyLimit ≡ true
-entries c = sym (c .before .store-formed2 .ensures) ∙ not-false _ (c .if2 .left)
+entries c =
+    let s = start2 c .args in
+    subst (λ (clock : ℕ). every (pairFormed (now (s .state)) (Entries (s .agent)) clock (s .sizes .stigmergy)) keyLimit ≡ true) (c .before .before .clock-of .ensures)
+    (sym (c .before .store-formed2 .ensures) ∙ not-false _ (c .if2 .left))
 
 confirmed : (c : tie.Else3) → ltb (zcOf (now (start3 c .args .state)) (start3 c .args .agent)) (2 ^ keyLimit) ≡ true
 confirmed c = narrow (now (start3 c .args .state)) _ _ (c .before .before .zc-at .ensures .is) (c .if3 .left)
@@ -58,8 +62,8 @@ returns : tie.Need-returns
 unfolding agentFormed
 returns c operands = rw (sym (c .before .store-formed .ensures) ∙ not-true _ (c .if1 .taken))
 
-shared-slice-read-store-formed : tie.Need-shared-slice-read-store-formed
-shared-slice-read-store-formed c = search needs
+clock-of-requires : tie.Need-clock-of-requires
+clock-of-requires c κs = search needs
 
 store-formed-requires-2 : tie.Need-store-formed-requires-2
 store-formed-requires-2 c κs = search needs
@@ -68,7 +72,7 @@ returns-2 : tie.Need-returns-2
 unfolding agentFormed
 returns-2 c operands =
     let p = c .before .before .before in
-    rw (attributes p, sym (c .before .store-formed2 .ensures) ∙ not-true _ (c .if2 .taken))
+    rw (attributes p, ← c .before .before .clock-of .ensures, sym (c .before .store-formed2 .ensures) ∙ not-true _ (c .if2 .taken))
 
 zc-at-requires : tie.Need-zc-at-requires
 zc-at-requires c κs = search needs
@@ -131,7 +135,7 @@ agent-formed-spec =
     (tie.spec
     store-formed-requires
     returns
-    shared-slice-read-store-formed
+    clock-of-requires
     store-formed-requires-2
     returns-2
     zc-at-requires

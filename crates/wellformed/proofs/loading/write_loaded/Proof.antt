@@ -2,8 +2,8 @@
 use mathlib.Core.Path.{_∙_}
 use denote.Ref.{now}
 use lib.ListN.{length-set}
+use Rattle.basis.proofs.Writing.{cleared-whole}
 use Rattle.state.specs.WellFormed.{loaded}
-use Rattle.wellformed.proofs.Starting.{cleared-whole}
 use borrow.Author.Needs.{needs}
 use Rattle.wellformed.proofs.loading.write_loaded.Statement.{statement}
 use Rattle.wellformed.proofs.loading.write_loaded.Tie as tie
@@ -31,7 +31,7 @@ returns c kinds =
     let u = c .before .before .before in
     let v = u .before .before .before .before in
     let a = v .before .before .before .before in
-    rw (u .start .ensures kinds, cleared-whole (now (a .args .state)) (v .clear .last .0) (a .pre .whole) (v .clear .ensures))
+    rw (u .start .ensures kinds, cleared-whole (now (a .args .state)) (a .pre .whole) (v .clear .ensures))
 
 pub write-loaded-spec : {M : Type 1} → statement M
 write-loaded-spec =

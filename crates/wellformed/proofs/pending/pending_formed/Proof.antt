@@ -28,20 +28,14 @@ shared-slice-read-has-2 c = search needs
 has-requires-2 : tie.Need-has-requires-2
 has-requires-2 c κs = search needs
 
-mark-at-requires : tie.Need-mark-at-requires
-mark-at-requires c κs = search needs
-
-mul-result : tie.Need-mul-result
-mul-result c = search needs
-
-shared-slice-read-result : tie.Need-shared-slice-read-result
-shared-slice-read-result c = search needs
+entry-of-requires : tie.Need-entry-of-requires
+entry-of-requires c κs = search needs
 
 returns : tie.Need-returns
 returns c =
     let h = c .before .before in
     let p = h .before .before .before .before in
-    pending-is _ _ _ _ _ _ (p .before .zc-at .ensures .is) (p .zp-at .ensures .is) (c .before .mark-at .ensures .is) _ _ (h .before .before .has .ensures) (h .has2 .ensures)
+    pending-is _ _ _ _ _ (p .before .zc-at .ensures .is) (p .zp-at .ensures .is) _ _ (h .before .before .has .ensures) (h .has2 .ensures) _ (c .before .entry-of .ensures)
 
 pub pending-formed-spec : {M : Type 1} → statement M
 pending-formed-spec =
@@ -55,7 +49,5 @@ pending-formed-spec =
     mul-has-2
     shared-slice-read-has-2
     has-requires-2
-    mark-at-requires
-    mul-result
-    shared-slice-read-result
+    entry-of-requires
     returns)

@@ -1,0 +1,37 @@
+-- An agent's entry for a stigmergy key, and the clock that its stamp comes from.
+use Prim.Native.Nat.{ℕ, _+_}
+use mathlib.Core.Bool.{Bool}
+use mathlib.Core.List.{List}
+use lib.Dec.{ltb}
+use lib.ListN.{getD, set}
+use Rattle.state.specs.declared.Store.the-variants.{Entries}
+use Rattle.state.specs.declared.Entry.{Entry}
+use Rattle.state.specs.Layout.{clockAt, wordOf, stampOf, put}
+
+abbrev pub entry : ℕ → ℕ → Entry
+entry v stamp = record { value = v; stamp = stamp }
+
+-- agent a's entry for key k; where there is none, its stamp is 0
+abbrev pub entryOf : List ℕ → ℕ → ℕ → Entry
+entryOf s a k = entry (wordOf s (Entries a) k) (stampOf s a k)
+
+-- the first is newer than the second; any entry is newer than none
+abbrev pub newer : Entry → Entry → Bool
+newer e f = ltb (f .stamp) (e .stamp)
+
+-- agent a's entry for key k becomes e
+abbrev pub putEntry : ℕ → ℕ → Entry → List ℕ → List ℕ
+putEntry a k e s = put (Entries a) k (e .value) (e .stamp) s
+
+-- THE CLOCK: the highest stamp so far, which no entry's stamp is above, and the stamp that the next write takes; a clock at its limit has none
+abbrev pub clockLimit : ℕ
+clockLimit = 65535
+
+abbrev pub clockOf : List ℕ → ℕ
+clockOf s = getD s clockAt 0
+
+abbrev pub nextStamp : List ℕ → ℕ
+nextStamp s = clockOf s + 1
+
+abbrev pub setClock : ℕ → List ℕ → List ℕ
+setClock stamp s = set s clockAt stamp
