@@ -3,7 +3,7 @@
  * A slice is a pointer and a count of elements. A caller owes for each that the pointer is aligned, not null (also where the
  * count is 0) and valid for so many elements, and that what is written (state, scratch, answers) overlaps no other slice.
  * Nothing else is asked: any bytes as table and schedule and any words as state get an answer. No call keeps a pointer,
- * allocates or prints. A step on the deepest tables takes up to 1.5 MB of stack.
+ * allocates or prints. A call on the deepest tables fits 800 KB of stack, as measured.
  *
  * The answer is one number. Refused: LABS_REFUSED + 65,536 x place + refusal (1 to 20), and state and answer bytes are as they
  * came. Done: load 0; step the number of agents that took the entry; run done + 65,536 x refused + 2^32 x taken. */

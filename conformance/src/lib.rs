@@ -1,5 +1,7 @@
 //! The proved library, called as C calls it, on cases that the second implementation generates.
 
+pub mod fleets;
+
 use reference::cases::{Call, Case, ANSWER_FILL};
 
 extern "C" {
@@ -132,7 +134,8 @@ pub fn call(case: &Case) -> Given {
     }
 }
 
-fn call_on(
+/// The call itself, on what is lent.
+pub fn call_on(
     table: &[u8],
     state: &mut [u32],
     scratch: &mut [u32],

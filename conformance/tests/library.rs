@@ -1,5 +1,6 @@
 //! labs_load, labs_step and labs_run answer as the second implementation does.
 
+use conformance::fleets::long_link;
 use conformance::{call, expected, Given};
 use reference::cases::{Call, Case, ANSWER_FILL};
 use reference::describe::describe;
@@ -15,8 +16,8 @@ use reference::table::MAX_NODES;
 /// Seed, whether small, and how many cases.
 const LISTS: [(u64, bool, u64); 3] = [(1, false, 40_000), (2, true, 40_000), (3, false, 20_000)];
 
-/// The stack of a Rust thread, on which chains of about 4,000 nodes are loaded and stepped.
-const THREAD_STACK: usize = 2 << 20;
+/// A stack on which chains of about 4,000 nodes are loaded and stepped.
+const SMALL_STACK: usize = 800 << 10;
 
 /// How often load, step and run answer done (0) and each refusal, and the bytes of runs that are done.
 #[derive(Default)]
@@ -106,8 +107,13 @@ fn calls_that_hold_two_faults_answer_as_the_reference_does() {
     }
 }
 
-/// What load and then a first act give, on a stack of this size.
-fn load_and_act(table: Vec<u8>, stack: usize, make: fn(&Case) -> Given) -> [Given; 2] {
+/// What load and then some steps give, on a stack of this size.
+fn load_and_step(
+    table: Vec<u8>,
+    steps: Vec<Step>,
+    stack: usize,
+    make: fn(&Case) -> Given,
+) -> Vec<Given> {
     let thread = std::thread::Builder::new().stack_size(stack);
     let work = move || {
         let mut case = Case {
@@ -117,21 +123,31 @@ fn load_and_act(table: Vec<u8>, stack: usize, make: fn(&Case) -> Given) -> [Give
             scratch: 2 * MAX_NODES,
             call: Call::Load,
         };
-        let loaded = make(&case);
-        case.state = loaded.state.clone();
-        case.call = Call::Step(Step::act(0, 0));
-        [loaded, make(&case)]
+        let mut all = vec![make(&case)];
+        for step in steps {
+            case.state = all[all.len() - 1].state.clone();
+            case.call = Call::Step(step);
+            all.push(make(&case));
+        }
+        all
     };
     thread.spawn(work).unwrap().join().unwrap()
 }
 
 #[test]
-fn deep_tables_fit_the_stack_of_a_thread() {
-    for kind in 0..5 {
-        let table = deep_chain(kind).bytes();
-        let wanted = load_and_act(table.clone(), 64 << 20, expected);
-        let proved = load_and_act(table, THREAD_STACK, call);
-        assert!(proved == wanted, "deep table of kind {kind}");
-        assert_eq!(proved[1].packed, 0, "the act of kind {kind} is done");
+fn deep_tables_fit_a_small_stack() {
+    let chains = (0..6).map(|kind| (deep_chain(kind).bytes(), vec![Step::act(0, 0)]));
+    let link = (
+        long_link(true).table,
+        vec![Step::act(0, 1), Step::propagate(0, 0)],
+    );
+    for (i, (table, steps)) in chains.chain([link]).enumerate() {
+        let wanted = load_and_step(table.clone(), steps.clone(), 64 << 20, expected);
+        let proved = load_and_step(table, steps, SMALL_STACK, call);
+        assert!(proved == wanted, "deep table {i}");
+        assert!(
+            proved.iter().all(|given| given.packed >> 63 == 0),
+            "the steps on deep table {i} are done"
+        );
     }
 }

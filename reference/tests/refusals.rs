@@ -990,7 +990,7 @@ fn answers_are_packed() {
 #[test]
 fn deep_tables_are_read() {
     on_deep_stack(|| {
-        for kind in 0..5 {
+        for kind in 0..6 {
             let table = edges::deep_chain(kind).bytes();
             let mut state = start(&table);
             let answer = steps(&table, &mut state, Step::act(0, 0));

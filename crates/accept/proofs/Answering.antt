@@ -19,13 +19,11 @@ use Rattle.table.specs.Tables.{Table, table, sizesOf, tableOf}
 use Rattle.table.specs.Measuring.{kindsOf, operandsOf, measuredCheck, sizeChecks, Measure}
 use Rattle.table.proofs.Checks.{first-later, first-refuses, append-later, append-refuses}
 use Rattle.table.proofs.Limits.{kinds-part}
-use Rattle.term.specs.Exposure.{badCall}
 use Rattle.term.specs.Acceptance.{scratchWords}
 use Rattle.term.specs.Parts.{contentChecks, lentCheck}
 use Rattle.term.specs.Accepted.{Acceptable}
 use Rattle.term.proofs.Acceptance.{passes-accepted}
-use Rattle.accept.specs.Scratch.{Held, Counted}
-use Rattle.accept.specs.Calls.{CallsJudged}
+use Rattle.accept.specs.Scratch.{Counted}
 use Rattle.accept.specs.Answers.{acceptanceCheck, Judged, Accepts}
 use Rattle.accept.specs.declared.Acceptance.{Acceptance}
 use Rattle.accept.specs.declared.Acceptance.the-variants.{Accepted, Refused}
@@ -62,9 +60,8 @@ module _ (number limit : ℕ) (test : ℕ → Bool) {x : ℕ} (e : x ≡ lowest 
   pub none-at : limit ≤ x → (k : ℕ) → k < limit → test k ≡ false
   none-at h k l = lowest-before test limit k (omega arith)
 
--- the counts of all definitions, where 6 passes
-pub held-all : {t : Table} {s : List ℕ} {r : ℕ} → CallsJudged t s r → t .sizes .definitions ≤ r → Held t (t .sizes .definitions) 0 s
-held-all {t} j h = j .held (omega (arith, j .is, lowest-bound (badCall t) (t .sizes .definitions)))
+  pub ends-at : limit ≤ x → x ≡ limit
+  ends-at h = omega (arith, lowest-bound test limit)
 
 -- the parts of a table as code lends them
 pub lent-table : (bytes : List ℕ) (n : Sizes) → n ≡ sizesOf bytes

@@ -1,7 +1,7 @@
 -- Refusal 7 by the counts that are held, and the true counts where no node is over-full.
 -- Assumes nothing.
 use Prim.Native.Nat.{ℕ, _+_, _≤_, _<_}
-use mathlib.Core.Bool.{true, false, not}
+use mathlib.Core.Bool.{Bool, true, false, not}
 use mathlib.Core.Path.{_≡_, sym, ap, subst, _∙_}
 use mathlib.Core.Logic.{⊎-elim}
 use mathlib.Core.List.{List}
@@ -9,7 +9,7 @@ use native.Mathlib.Omega.{arith}
 use lib.Dec.{leb}
 use borrow.Author.Tests.{leb-true, le-leb, lt-leb}
 use Rattle.basis.specs.Numbers.{lowest}
-use Rattle.basis.proofs.Tests.{either, lt-or-le}
+use Rattle.basis.proofs.Tests.{not-both, either, lt-or-le}
 use Rattle.basis.proofs.Numbers.{lowest-none, lowest-at}
 use Rattle.table.specs.Tables.{Table, kindAt, firstRoot}
 use Rattle.table.specs.Nodes.{isProcess}
@@ -19,9 +19,11 @@ use Rattle.term.specs.Choices.{actionCount, tickCount}
 use Rattle.term.specs.Acceptance.{overfull}
 use Rattle.term.specs.Accepted.{Checked}
 use Rattle.term.proofs.Counting.{few-count}
+use Rattle.term.proofs.Exposed.{node-calls}
 use Rattle.term.proofs.Acceptance.{no-process, nodes-few}
 use Rattle.accept.specs.Counts.{capped, counts, trueCounts, countsOf}
-use Rattle.accept.specs.Scratch.{pairAt, Held, Counted}
+use Rattle.accept.specs.Scratch.{pairAt, isCounted, Held, Counted}
+use Rattle.accept.specs.Calls.{Settles}
 use Rattle.accept.specs.declared.Counts.{Counts}
 use Rattle.accept.proofs.Caps.{counts-idle}
 
@@ -38,30 +40,35 @@ few-held : (P : Process) → few P ≡ leb (sum (countsOf P)) 65535
 unfolding countsOf
 few-held P = few-count P ∙ held-sum (actionCount P) (tickCount P)
 
-module _ {t : Table} {s : List ℕ} (held : Held t (t .sizes .definitions) (firstRoot t) s) where
-  pub all-held : (n : ℕ) → n < firstRoot t → pairAt s n ≡ countsOf (nodeProcess t n)
+module _ {t : Table} {s : List ℕ} (held : Held t (t .sizes .definitions) s) where
+  -- every node can be settled, and is where code has tried
+  pub settled : {n : ℕ} {before : List ℕ} {r : Bool} → Settles t (t .sizes .definitions) n before s r → isCounted s n ≡ true
   unfolding nodeProcess
-  all-held n h = held .nodes n h
+  settled {n} {r = r} x = ⊎-elim (x .counted) (λ (e : r ≡ false). absurd (not-both (node-calls t (held .sound) n) (x .high e))) (either r)
 
-  overfull-held : (n : ℕ) → n < firstRoot t → overfull t n ≡ not (leb (sum (pairAt s n)) 65535)
-  overfull-held n h = ⊎-elim process other (either (isProcess (kindAt t n)))
+  held-at : (n : ℕ) → n < firstRoot t → isCounted s n ≡ true → pairAt s n ≡ countsOf (nodeProcess t n)
+  unfolding nodeProcess
+  held-at n h k = held .nodes n h k .counts
+
+  overfull-held : (n : ℕ) → n < firstRoot t → isCounted s n ≡ true → overfull t n ≡ not (leb (sum (pairAt s n)) 65535)
+  overfull-held n h k = ⊎-elim process other (either (isProcess (kindAt t n)))
     where
       full : not (few (nodeProcess t n)) ≡ not (leb (sum (pairAt s n)) 65535)
-      full = ap not (few-held (nodeProcess t n) ∙ sym (ap (λ (c : Counts). leb (sum c) 65535) (all-held n h)))
+      full = ap not (few-held (nodeProcess t n) ∙ sym (ap (λ (c : Counts). leb (sum c) 65535) (held-at n h k)))
 
       process : isProcess (kindAt t n) ≡ true → overfull t n ≡ not (leb (sum (pairAt s n)) 65535)
       process e = rw e full
 
       other : isProcess (kindAt t n) ≡ false → overfull t n ≡ not (leb (sum (pairAt s n)) 65535)
       other e =
-          rw e (ap (λ (c : Counts). not (leb (sum c) 65535)) (sym (all-held n h ∙ ap countsOf (no-process t n e) ∙ counts-idle)))
+          rw e (ap (λ (c : Counts). not (leb (sum c) 65535)) (sym (held-at n h k ∙ ap countsOf (no-process t n e) ∙ counts-idle)))
 
   -- as code finds it
-  pub overfull-yes : (n : ℕ) (c : Counts) → n < firstRoot t → c ≡ pairAt s n → 65535 < c .actions + c .ticks → overfull t n ≡ true
-  overfull-yes n c h e l = overfull-held n h ∙ ap (λ (x : Counts). not (leb (sum x) 65535)) (sym e) ∙ ap not (lt-leb (sum c) 65535 l)
+  pub overfull-yes : (n : ℕ) (c : Counts) → n < firstRoot t → isCounted s n ≡ true → c ≡ pairAt s n → 65535 < c .actions + c .ticks → overfull t n ≡ true
+  overfull-yes n c h k e l = overfull-held n h k ∙ ap (λ (x : Counts). not (leb (sum x) 65535)) (sym e) ∙ ap not (lt-leb (sum c) 65535 l)
 
-  pub overfull-no : (n : ℕ) (c : Counts) → n < firstRoot t → c ≡ pairAt s n → c .actions + c .ticks ≤ 65535 → overfull t n ≡ false
-  overfull-no n c h e l = overfull-held n h ∙ ap (λ (x : Counts). not (leb (sum x) 65535)) (sym e) ∙ ap not (le-leb (sum c) 65535 l)
+  pub overfull-no : (n : ℕ) (c : Counts) → n < firstRoot t → isCounted s n ≡ true → c ≡ pairAt s n → c .actions + c .ticks ≤ 65535 → overfull t n ≡ false
+  overfull-no n c h k e l = overfull-held n h k ∙ ap (λ (x : Counts). not (leb (sum x) 65535)) (sym e) ∙ ap not (le-leb (sum c) 65535 l)
 
   pub lowest-full : (n : ℕ) → n < firstRoot t → overfull t n ≡ true → ((k : ℕ) → k < n → overfull t k ≡ false) → n ≡ lowest (overfull t) (t .sizes .nodes)
   lowest-full n h e f = sym (lowest-at (overfull t) (t .sizes .nodes) n (omega arith) e f)
@@ -74,8 +81,8 @@ module _ {t : Table} {s : List ℕ} (held : Held t (t .sizes .definitions) (firs
       root k h l = rw (root-kind t (held .sound) k h l)
 
   -- what is left: the true counts, which are few
-  pub counted : Checked t → Counted t s
-  counted c = record { words = held .words; nodes = λ n h. all-held n h ∙ exact n; few = λ n h. subst (λ (x : Counts). sum x ≤ 65535) (sym (all-held n h ∙ exact n)) (bound n) }
+  pub counted : ((n : ℕ) → n < firstRoot t → isCounted s n ≡ true) → Checked t → Counted t s
+  counted all c = record { words = held .words; nodes = is; few = λ n h. subst (λ (x : Counts). sum x ≤ 65535) (sym (is n h)) (bound n) }
     where
       bound : (n : ℕ) → sum (trueCounts (nodeProcess t n)) ≤ 65535
       bound n = leb-true (sum (trueCounts (nodeProcess t n))) 65535 (sym (few-count (nodeProcess t n)) ∙ nodes-few t c n)
@@ -86,3 +93,6 @@ module _ {t : Table} {s : List ℕ} (held : Held t (t .sizes .definitions) (firs
           let a : capped (actionCount (nodeProcess t n)) ≡ actionCount (nodeProcess t n) = omega arith in
           let k : capped (tickCount (nodeProcess t n)) ≡ tickCount (nodeProcess t n) = omega arith in
           λ i. counts (a i) (k i))
+
+      is : (n : ℕ) → n < firstRoot t → pairAt s n ≡ trueCounts (nodeProcess t n)
+      is n h = held-at n h (all n h) ∙ exact n

@@ -1,6 +1,7 @@
 pub mod Caps
 pub mod Cells
-pub mod Counting
-pub mod Exposing
+pub mod Levels
+pub mod Visiting
+pub mod Walking
 pub mod Fullness
 pub mod Answering

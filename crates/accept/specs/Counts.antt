@@ -4,9 +4,13 @@ use Rattle.term.specs.Processes.{Process}
 use Rattle.term.specs.Choices.{actionCount, tickCount}
 use Rattle.accept.specs.declared.Counts.{Counts}
 
--- the smaller of the true number and 65,536
+-- what a count is held at
+abbrev pub countLimit : ℕ
+countLimit = 65536
+
+-- the smaller of the true number and the limit
 abbrev pub capped : ℕ → ℕ
-capped x = min 65536 x
+capped x = min countLimit x
 
 abbrev pub counts : ℕ → ℕ → Counts
 counts a t = record { actions = a; ticks = t }
@@ -19,8 +23,8 @@ unfoldable pub countsOf : Process → Counts
 countsOf P = counts (capped (actionCount P)) (capped (tickCount P))
 
 pub record Capped (c : Counts) : Type 0 where
-  pub actions : c .actions ≤ 65536
-  pub ticks : c .ticks ≤ 65536
+  pub actions : c .actions ≤ countLimit
+  pub ticks : c .ticks ≤ countLimit
 
 -- of a choice, a sequence and a parallel, from those of the parts
 unfoldable pub choiceCounts : Counts → Counts → Counts

@@ -5,15 +5,13 @@ mod sums;
 mod words;
 
 use calls::lowest_bad_call;
-use nodes::lowest_overfull;
-use nodes::pass;
+use calls::lowest_overfull;
 pub use sums::NONE;
 pub use sums::TICK;
 pub use sums::parallel;
 pub use sums::sequence;
 use table::Measured;
 use table::Sizes;
-use table::first_root;
 use table::lowest_bad;
 use table::lowest_wrong;
 use table::measure;
@@ -37,11 +35,12 @@ pub struct Counts {
     pub ticks: u64,
 }
 
-// What a node leaves to ask, where its exposed calls are looked for: nothing, the same of one node, or of two.
-pub enum Exposed {
-    Settled(bool),
-    One(usize),
-    Both(usize, usize),
+// What a visit of a node finds: its counts, an exposed part that is not counted yet, or a call that is not below the
+// level.
+pub enum Visit {
+    Done(Counts),
+    Part(usize),
+    High,
 }
 
 // An accepted table's sizes, or a refusal's number and place.
@@ -59,14 +58,6 @@ fn judge_terms(sizes: Sizes, kinds: &[u8], operands: &[u8], scratch: &mut [u32])
     if call < sizes.definitions {
         return Acceptance::Refused(6, call);
     }
-    pass(
-        sizes,
-        kinds,
-        operands,
-        scratch,
-        sizes.definitions,
-        first_root(sizes),
-    );
     let full = lowest_overfull(sizes, kinds, operands, scratch);
     if full < sizes.nodes {
         return Acceptance::Refused(7, full);
@@ -110,9 +101,8 @@ fn judge_lent(table: &[u8], sizes: Sizes, fits: bool, scratch: &mut [u32]) -> Ac
     )
 }
 
-// Judges a table, with lent words, and told whether the call's other buffers have their lengths: refusals 1, 2, 3, 8, 4, 5, 6 and 7, in this
-// order.
-// Where it is accepted, the words hold the counts of its nodes.
+// Judges a table, with lent words, and told whether the call's other buffers have their lengths: refusals 1, 2, 3, 8,
+// 4, 5, 6 and 7, in this order. Where it is accepted, the words hold the counts of its nodes.
 pub fn accept(table: &[u8], fits: bool, scratch: &mut [u32]) -> Acceptance
     ensures { λ r. ⌜ Accepts (now (table .entry)) fits (now (scratch .entry)) (now (scratch .exit)) r ⌝ }
 {

@@ -3,6 +3,10 @@ use crate::Counts;
 ghost use mathlib.Core.Path.{_≡_};
 ghost use Prim.Native.Nat.{_*_, _≤_};
 ghost use Rattle.accept.specs.Counts.{capped, Capped, choiceCounts, seqCounts, parCounts};
+ghost use Rattle.accept.specs.Calls.{joinedCounts};
+
+// What a count is held at.
+pub const COUNT_LIMIT: u32 = 65536;
 
 pub const NONE: Counts = Counts {
     actions: 0,
@@ -22,7 +26,11 @@ pub const ACTION: Counts = Counts {
 fn cap(x: u64) -> u64
     ensures { λ r. ⌜ r ≡ capped x ⌝ }
 {
-    if x < 65536 { x } else { 65536 }
+    if x < COUNT_LIMIT as u64 {
+        x
+    } else {
+        COUNT_LIMIT as u64
+    }
 }
 
 fn times(x: u64, y: u64) -> u64
@@ -60,4 +68,16 @@ pub fn parallel(p: Counts, q: Counts) -> Counts
     let actions = cap(p.actions + (q.actions + joined));
     let ticks = cap(times(p.ticks, q.ticks) + times(q.ticks, p.ticks));
     Counts { actions, ticks }
+}
+
+// Of a sequence, a choice or a parallel, by its kind.
+pub fn joined(kind: u8, p: Counts, q: Counts) -> Counts
+    requires { ⌜ Capped p ⌝ ∗ ⌜ Capped q ⌝ }
+    ensures { λ r. ⌜ r ≡ joinedCounts kind p q ⌝ }
+{
+    match kind {
+        basis::kinds::SEQUENCE => sequence(p, q),
+        basis::kinds::CHOICE => choice(p, q),
+        _ => parallel(p, q),
+    }
 }

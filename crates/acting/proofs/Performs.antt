@@ -79,7 +79,7 @@ module _ (t : Table) (scratch : List ℕ) (ready : Prepared t scratch) (was : Li
 
     pub allowed-gaining : Gaining t was x marks label
     allowed-gaining =
-        record { shaped = ready .checked .sound .shaped; blocks = blocks; agent = low; room = j .guards (j .is .0) .room; within = within label labelled }
+        record { shaped = ready .checked .sound .shaped; blocks = blocks; agent = low; marked = (D .guards, j .guards (j .is .0)); within = within label labelled }
 
     pub allowed-setting : (n : ℕ) → label ≡ Acting n → Setting t was x n v
     allowed-setting n e =

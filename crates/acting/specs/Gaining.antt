@@ -1,22 +1,17 @@
 -- The keys that Zc gains in an act.
-use Prim.Native.Nat.{ℕ, _<_, _≤_}
+use Prim.Native.Nat.{ℕ, _<_}
 use mathlib.Core.Bool.{Bool, _&&_}
 use mathlib.Core.Path.{_≡_}
 use mathlib.Core.List.{List}
 use lib.Dec.{ltb}
-use lib.ListN.{length}
-use Rattle.basis.specs.Numbers.{someBelow}
 use Rattle.basis.specs.KeySets.{has, plusAll}
-use Rattle.table.specs.Tables.{Table, kindAt, agentLimit}
-use Rattle.table.specs.Nodes.{isGuard}
+use Rattle.table.specs.Tables.{Table, agentLimit}
 use Rattle.table.specs.Sound.{Shaped}
 use Rattle.term.specs.declared.Label.{Label}
 use Rattle.term.specs.declared.Label.the-variants.{Ticking, Acting}
 use Rattle.term.specs.Processes.{Derivation}
-use Rattle.choice.specs.Marking.{hasMark}
 use Rattle.state.specs.Layout.{keyLimit, stampOf}
 use Rattle.state.specs.Standing.{HasBlocks}
-use Rattle.state.specs.Evaluation.{reads}
 use Rattle.steps.specs.Acts.{toConfirm}
 use Rattle.judging.specs.Judging.{GuardsMarked}
 
@@ -24,25 +19,17 @@ use Rattle.judging.specs.Judging.{GuardsMarked}
 abbrev pub hasEntry : List ℕ → ℕ → ℕ → ℕ → Bool
 hasEntry s x keys k = has keys k && ltb 0 (stampOf s x k)
 
--- node b is a marked guard that reads key k
-abbrev pub markedReadsAt : Table → List ℕ → ℕ → ℕ → Bool
-markedReadsAt t marks b k = (isGuard (kindAt t b) && hasMark marks b) && reads t b k
-
--- a marked guard below n does
-abbrev pub markedReads : Table → List ℕ → ℕ → ℕ → Bool
-markedReads t marks n k = someBelow (λ (b : ℕ). markedReadsAt t marks b k) n
-
 -- an action is at a node of the table
 abbrev pub LabelKey : Table → Label → Type 0
 LabelKey t Ticking = Unit {0}
 LabelKey t (Acting n) = n < t .sizes .nodes
 
--- a state with room for all blocks, an agent that has one, a mark for each node
+-- a state with room for all blocks, an agent that has one, the marks of some guards
 pub record Gaining (t : Table) (s : List ℕ) (x : ℕ) (marks : List ℕ) (label : Label) : Type 0 where
   pub shaped : Shaped t
   pub blocks : HasBlocks s
   pub agent : x < agentLimit
-  pub room : t .sizes .nodes ≤ length marks
+  pub marked : (gs : List ℕ) × GuardsMarked t gs marks
   pub within : LabelKey t label
 
 -- r is what Zc gains in any derivation that does this, under the marked guards

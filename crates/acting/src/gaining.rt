@@ -1,15 +1,16 @@
 // The keys that Zc gains: those that the collected guards and the action's expression read, of which only those count that have an entry.
 use basis::has;
 use basis::plus;
+use choice::marking::next_guard;
 use evaluation::keys_read;
 use state::entry_of;
 use table::KEYS;
 use table::Sizes;
-use table::is_guard;
 use table::q_at;
 use term::Label;
 ghost use mathlib.Core.Path.{_≡_};
-ghost use Prim.Native.Nat.{_^_, _<_, _≤_};
+ghost use mathlib.Core.List.{List};
+ghost use Prim.Native.Nat.{ℕ, _*_, _^_, _<_, _≤_};
 ghost use lib.ListN.{length};
 ghost use Rattle.basis.specs.KeySets.{plusAll};
 ghost use Rattle.table.specs.Tables.{table, agentLimit};
@@ -17,8 +18,9 @@ ghost use Rattle.table.specs.Sound.{Shaped};
 ghost use Rattle.state.specs.Layout.{keyLimit};
 ghost use Rattle.state.specs.Standing.{HasBlocks};
 ghost use Rattle.evaluation.specs.Reading.{Adds};
-ghost use Rattle.steps.specs.Acts.{labelReads};
-ghost use Rattle.acting.specs.Gaining.{hasEntry, markedReadsAt, markedReads, LabelKey, Gaining, Gains};
+ghost use Rattle.steps.specs.Acts.{guardsRead, labelReads};
+ghost use Rattle.judging.specs.Judging.{GuardsMarked};
+ghost use Rattle.acting.specs.Gaining.{hasEntry, LabelKey, Gaining, Gains};
 
 // Of a set of keys, those that have an entry of an agent.
 fn with_entry(state: &[u32], agent: usize, keys: u32) -> u32
@@ -37,36 +39,21 @@ fn with_entry(state: &[u32], agent: usize, keys: u32) -> u32
     found
 }
 
-// The set with the keys that a marked guard reads; another node adds none.
-fn node_keys(
-    sizes: Sizes,
-    kinds: &[u8],
-    operands: &[u8],
-    marks: &[u8],
-    node: usize,
-    keys: u32,
-) -> u32
-    requires { ⌜ Shaped (table sizes (now kinds) (now operands)) × (sizes .nodes ≤ length (now marks)) × (node < sizes .nodes) × (keys < 2 ^ keyLimit) ⌝ }
-    ensures { λ r. ⌜ Adds (markedReadsAt (table sizes (now (kinds .entry)) (now (operands .entry))) (now (marks .entry)) node) keys r ⌝ }
-{
-    if is_guard(kinds[node]) & (marks[node] == 1) {
-        return keys_read(sizes, kinds, operands, node, keys);
-    }
-    keys
-}
-
 // The keys that the marked guards read.
-fn guard_keys(sizes: Sizes, kinds: &[u8], operands: &[u8], marks: &[u8]) -> u32
-    requires { ⌜ Shaped (table sizes (now kinds) (now operands)) × (sizes .nodes ≤ length (now marks)) ⌝ }
-    ensures { λ r. ⌜ Adds (markedReads (table sizes (now (kinds .entry)) (now (operands .entry))) (now (marks .entry)) (sizes .nodes)) 0 r ⌝ }
+fn guard_keys(sizes: Sizes, kinds: &[u8], operands: &[u8], marks: &[u32]) -> u32
+    requires { ⌜ Shaped (table sizes (now kinds) (now operands)) × (sizes .nodes ≤ 32 * length (now marks)) ⌝ }
+    ensures { λ r. ⌜ ((gs : List ℕ) → GuardsMarked (table sizes (now (kinds .entry)) (now (operands .entry))) gs (now (marks .entry)) → Adds (guardsRead (table sizes (now (kinds .entry)) (now (operands .entry))) gs) 0 r) ⌝ }
 {
     let mut keys = 0;
     let mut node = 0;
-    while node < sizes.nodes {
-        keys = node_keys(sizes, kinds, operands, marks, node, keys);
+    loop {
+        node = next_guard(kinds, marks, node);
+        if sizes.nodes <= node {
+            return keys;
+        }
+        keys = keys_read(sizes, kinds, operands, node, keys);
         node += 1;
     }
-    keys
 }
 
 // The set with the keys that an action's expression reads; a tick has none.
@@ -88,7 +75,7 @@ pub fn gained(
     sizes: Sizes,
     kinds: &[u8],
     operands: &[u8],
-    marks: &[u8],
+    marks: &[u32],
     state: &[u32],
     agent: usize,
     label: Label,

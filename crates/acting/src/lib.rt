@@ -35,7 +35,7 @@ pub fn act(
     requires { ⌜ agent < sizes .agents ⌝ }
     ensures { λ r. ⌜ Acts (table sizes (now (kinds .entry)) (now (operands .entry))) (now (state .entry)) agent c r (now (state .exit)) ⌝ }
 {
-    let mut marks = [0u8; 4096];
+    let mut marks = [0u32; 128];
     let found = judge(sizes, kinds, operands, scratch, state, &mut marks, agent, c);
     match found {
         Judgement::Refused(number) => Acted::Refused(number),

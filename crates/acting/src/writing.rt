@@ -32,7 +32,7 @@ pub fn perform(
     kinds: &[u8],
     operands: &[u8],
     scratch: &[u32],
-    marks: &[u8],
+    marks: &[u32],
     state: &mut [u32],
     agent: usize,
     c: u64,

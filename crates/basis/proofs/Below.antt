@@ -2,7 +2,7 @@
 -- Assumes nothing.
 use Prim.Native.Nat.{ℕ, zero, suc, _<_, _≤_}
 use mathlib.Core.Bool.{Bool, true, false}
-use mathlib.Core.Path.{_≡_, refl, sym, ap, fun-ext, _∙_}
+use mathlib.Core.Path.{_≡_, refl, sym, _∙_}
 use native.Mathlib.Omega.{arith}
 use lib.Dec.{eqb}
 use borrow.Author.Tests.{eqb-true, eqb-false, ne-eqb}
@@ -48,19 +48,6 @@ module _ {A : Type 0} (step : (ℕ → A) → ℕ → A) (none : A) where
       by : (t : Bool) → eqb k n ≡ t → ((j : ℕ) → P j (below step none n j)) → P k (elim t [ true ↦ step (below step none n) n | false ↦ below step none n k ])
       by true e r = rw (eqb-true k n e) (f n (omega arith) r)
       by false e r = r k
-
--- two steps that make the same of the same lower results
-pub below-ext : {A : Type 0} (step other : (ℕ → A) → ℕ → A) (none : A) (n : ℕ)
-    → ((k : ℕ) → k < n → step (below step none k) k ≡ other (below step none k) k)
-    → (k : ℕ) → below step none n k ≡ below other none n k
-unfolding below
-below-ext step other none zero f k = refl
-below-ext {A} step other none (suc n) f k = by (eqb k n) (below-ext step other none n (λ i h. f i (omega arith)))
-  where
-    by : (t : Bool) → ((j : ℕ) → below step none n j ≡ below other none n j)
-        → _≡_ {A = A} (elim t [ true ↦ step (below step none n) n | false ↦ below step none n k ]) (elim t [ true ↦ other (below other none n) n | false ↦ below other none n k ])
-    by true r = f n (omega arith) ∙ ap (λ (lower : ℕ → A). other lower n) (fun-ext r)
-    by false r = r k
 
 -- what two recursions make of a number is related, where their steps keep it so
 module _ {A B : Type 0} (R : A → B → Type 0) where

@@ -7,6 +7,8 @@ use mathlib.Core.Bool.{Bool, true, false, cond, not, _&&_, _||_}
 use mathlib.Core.Path.{_≡_, refl, sym, ap, _∙_}
 use mathlib.Core.Logic.{⊎-elim}
 use lib.Pow.{pow-pos, pow-mono}
+use lib.Bits.{bitAnd, bitOr, bitXor, and-shr, or-shr, xor-shr, and-mod, or-mod, xor-mod}
+use lib.Count.{trailingZeros, under}
 use lib.Dec.{eqb, ltb, eqb·zero-suc, eqb·suc-zero, eqb·suc-suc}
 use borrow.Author.Tests.{eqb-true, eqb-false, eq-eqb, ne-eqb, lt-ltb, le-ltb}
 use Rattle.basis.specs.Numbers.{forEach}
@@ -105,6 +107,11 @@ pub minus-small : (n w k : ℕ) → w < 2 ^ n → minus w k < 2 ^ n
 unfolding minus
 minus-small n w k h = cond-cases (λ (v : ℕ). v < 2 ^ n) (has w k) (λ e. omega arith) (λ e. h)
 
+-- without a key that it has, the word is less
+pub minus-less : (w k : ℕ) → has w k ≡ true → minus w k < w
+unfolding minus
+minus-less w k e = rw e (omega (arith, enough k w e, pow-pos k))
+
 -- a word has no key past its bound
 pub has-past : (n w k : ℕ) → w < 2 ^ n → n ≤ k → has w k ≡ false
 has-past n w k h l = is-false (has w k) (λ e. omega (arith, enough k w e, pow-mono l))
@@ -166,3 +173,59 @@ unfolding plusAll
 plusAll-ext f g n w h =
     forEach-ext (λ k v. cond (f k) (plus v k) v) (λ k v. cond (g k) (plus v k) v) n w
     (λ k l. ap (λ b. cond b (plus (plusAll f k w) k) (plusAll f k w)) (h k l))
+
+-- an operation digit by digit, which makes of two digits what `g` makes of two tests
+module _ (op : ℕ → ℕ → ℕ) (g : Bool → Bool → Bool)
+    (high : (a b k : ℕ) → op a b / 2 ^ k ≡ op (a / 2 ^ k) (b / 2 ^ k)) (low : (a b k : ℕ) → op a b % 2 ^ k ≡ op (a % 2 ^ k) (b % 2 ^ k))
+    (zeros : eqb (op 0 0) 1 ≡ g false false) (second : eqb (op 0 1) 1 ≡ g false true)
+    (first : eqb (op 1 0) 1 ≡ g true false) (ones : eqb (op 1 1) 1 ≡ g true true) where
+  digits : (x y : ℕ) → x < 2 → y < 2 → eqb (op x y) 1 ≡ g (eqb x 1) (eqb y 1)
+  digits zero zero h l = zeros
+  digits zero (suc zero) h l = second
+  digits (suc zero) zero h l = first
+  digits (suc zero) (suc zero) h l = ones
+  digits zero (suc (suc y)) h l = absurd (omega arith)
+  digits (suc zero) (suc (suc y)) h l = absurd (omega arith)
+  digits (suc (suc x)) y h l = absurd (omega arith)
+
+  has-bits : (a b k : ℕ) → has (op a b) k ≡ g (has a k) (has b k)
+  unfolding has
+  has-bits a b k = rw (high a b k, low (a / 2 ^ k) (b / 2 ^ k) 1) (digits (a / 2 ^ k % 2) (b / 2 ^ k % 2) (omega arith) (omega arith))
+
+-- keys of both sets, of either, of the first alone
+pub has-both : (a b k : ℕ) → has (bitAnd a b) k ≡ (has a k && has b k)
+has-both = has-bits bitAnd _&&_ and-shr and-mod refl refl refl refl
+
+pub has-either : (a b k : ℕ) → has (bitOr a b) k ≡ (has a k || has b k)
+has-either = has-bits bitOr _||_ or-shr or-mod refl refl refl refl
+
+pub has-without : (a b k : ℕ) → has (bitXor a (bitAnd a b)) k ≡ (has a k && not (has b k))
+has-without a b k = has-bits bitXor (λ x y. cond x (not y) y) xor-shr xor-mod refl refl refl refl a (bitAnd a b) k ∙ rw (has-both a b k) (alone (has a k) (has b k))
+  where
+    alone : (x y : Bool) → cond x (not (x && y)) (x && y) ≡ (x && not y)
+    alone true y = refl
+    alone false y = refl
+
+-- the lowest key of a set that has one
+pub has-lowest : (n w : ℕ) → 0 < w → w < 2 ^ n → (trailingZeros n w < n) × (has w (trailingZeros n w) ≡ true)
+unfolding trailingZeros
+has-lowest zero w h l = absurd (omega arith)
+has-lowest (suc n) w h l = by (w % 2) refl (has-lowest n (w / 2))
+  where
+    by : (d : ℕ) → w % 2 ≡ d → (0 < w / 2 → w / 2 < 2 ^ n → (trailingZeros n (w / 2) < n) × (has (w / 2) (trailingZeros n (w / 2)) ≡ true))
+        → (under d (trailingZeros n (w / 2)) < suc n) × (has w (under d (trailingZeros n (w / 2))) ≡ true)
+    by zero e more =
+        let r = more (omega arith) (omega arith) in
+        (omega arith, has-suc w (trailingZeros n (w / 2)) ∙ r .1)
+    by (suc d) e more = let f : w % 2 ≡ 1 = omega arith in (omega arith, has-zero w ∙ rw f)
+
+-- a set has no key below its lowest one
+pub below-lowest : (n w k : ℕ) → k < trailingZeros n w → has w k ≡ false
+unfolding trailingZeros
+below-lowest zero w k h = absurd (omega arith)
+below-lowest (suc n) w k h = by (w % 2) refl k h (below-lowest n (w / 2))
+  where
+    by : (d : ℕ) → w % 2 ≡ d → (k : ℕ) → k < under d (trailingZeros n (w / 2)) → ((j : ℕ) → j < trailingZeros n (w / 2) → has (w / 2) j ≡ false) → has w k ≡ false
+    by zero e zero h lower = has-zero w ∙ rw e
+    by zero e (suc j) h lower = has-suc w j ∙ lower j (omega arith)
+    by (suc d) e k h lower = absurd (omega arith)

@@ -6,8 +6,6 @@ use mathlib.Core.Path.{_≡_, refl, sym, ap, _∙_}
 use mathlib.Core.Logic.{_⊎_, inl, inr, ⊎-elim}
 use native.Mathlib.Omega.{arith}
 use native.Mathlib.Numerals.{add-one}
-use lib.Dec.{ltb}
-use borrow.Author.Tests.{ltb-true, ltb-false}
 use Rattle.basis.specs.Numbers.{someBelow, every, lowest, howMany, forEach}
 use Rattle.basis.proofs.Tests.{either, is-false, not-both, or-either, or-left, or-right, and-left, and-right, and-both, cond-cases, same-or-other, below-or-last}
 
@@ -125,41 +123,10 @@ module _ (f g : ℕ → Bool) where
   every-ext zero h = refl
   every-ext (suc n) h = rw (h n (omega arith), every-ext n (λ k l. h k (omega arith)))
 
-  pub lowest-ext : (n : ℕ) → ((k : ℕ) → k < n → f k ≡ g k) → lowest f n ≡ lowest g n
-  unfolding lowest
-  lowest-ext zero h = refl
-  lowest-ext (suc n) h = rw (h n (omega arith), some-ext n (λ k l. h k (omega arith)), lowest-ext n (λ k l. h k (omega arith)))
-
   pub howMany-ext : (n : ℕ) → ((k : ℕ) → k < n → f k ≡ g k) → howMany f n ≡ howMany g n
   unfolding howMany
   howMany-ext zero h = refl
   howMany-ext (suc n) h = rw (h n (omega arith), howMany-ext n (λ k l. h k (omega arith)))
-
--- the lowest that passes one of two tests
-pub lowest-either : (f g : ℕ → Bool) (n : ℕ)
-    → lowest (λ (k : ℕ). f k || g k) n ≡ cond (ltb (lowest f n) (lowest g n)) (lowest f n) (lowest g n)
-lowest-either f g n = by (ltb (lowest f n) (lowest g n)) refl
-  where
-    neither : (k : ℕ) → k < lowest f n → k < lowest g n → (f k || g k) ≡ false
-    neither k l m = rw (lowest-before f n k l, lowest-before g n k m)
-
-    last : (t : Bool) → lowest g n ≤ lowest f n → ltb (lowest g n) n ≡ t → lowest (λ (k : ℕ). f k || g k) n ≡ lowest g n
-    last true h e =
-        let l = ltb-true (lowest g n) n e in
-        lowest-at (λ (k : ℕ). f k || g k) n (lowest g n) l (or-right (f (lowest g n)) (g (lowest g n)) (lowest-passes g n l)) (λ k j. neither k (omega arith) j)
-    last false h e =
-        let l = ltb-false (lowest g n) n e in
-        let b = lowest-bound g n in
-        let d : lowest g n ≡ n = omega arith in
-        lowest-none (λ (k : ℕ). f k || g k) n (λ k j. neither k (omega arith) (omega arith)) ∙ sym d
-
-    by : (t : Bool) → ltb (lowest f n) (lowest g n) ≡ t → lowest (λ (k : ℕ). f k || g k) n ≡ cond t (lowest f n) (lowest g n)
-    by true e =
-        let l = ltb-true (lowest f n) (lowest g n) e in
-        let b = lowest-bound g n in
-        let m : lowest f n < n = omega arith in
-        lowest-at (λ (k : ℕ). f k || g k) n (lowest f n) m (or-left (f (lowest f n)) (g (lowest f n)) (lowest-passes f n m)) (λ k j. neither k j (omega arith))
-    by false e = last (ltb (lowest g n) n) (ltb-false (lowest f n) (lowest g n) e) refl
 
 -- what is done for each number
 module _ {A : Type 0} (change : ℕ → A → A) where

@@ -10,6 +10,12 @@ setStigmergy = 3
 abbrev pub setEnvironment : ℕ
 setEnvironment = 4
 
+abbrev pub sequence : ℕ
+sequence = 5
+
+abbrev pub choice : ℕ
+choice = 6
+
 abbrev pub call : ℕ
 call = 9
 

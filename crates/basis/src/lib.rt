@@ -1,9 +1,10 @@
-// Little-endian reading of bytes, and sets of keys in a word.
+// Little-endian reading of bytes, and sets of numbers below 32 in a word: keys, agents, bits of marks.
 pub mod kinds; // kinds.rt: the node kinds by name
 pub mod words; // words.rt: words cleared and copied
 
 ghost use mathlib.Core.Path.{_≡_};
-ghost use Prim.Native.Nat.{_+_, _^_, _<_};
+ghost use mathlib.Core.Bool.{true, false};
+ghost use Prim.Native.Nat.{ℕ, _+_, _^_, _<_};
 ghost use lib.ListN.{length};
 ghost use Rattle.basis.specs.Bytes.{u32At};
 ghost use Rattle.basis.specs.Read.{U16};
@@ -70,4 +71,12 @@ pub fn minus(keys: u32, key: usize) -> u32
     } else {
         keys
     }
+}
+
+// The lowest key of a set that has one.
+pub fn lowest(keys: u32) -> usize
+    requires { ⌜ 0 < keys ⌝ }
+    ensures { λ r. ⌜ (r < 32) × (hasKey keys r ≡ true) × ((k : ℕ) → k < r → hasKey keys k ≡ false) ⌝ }
+{
+    u32::trailing_zeros(keys) as usize
 }

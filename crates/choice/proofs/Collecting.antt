@@ -1,16 +1,18 @@
 -- Marks of the guards that a walk collects, and of the nodes whose only tick it has walked.
 -- Assumes nothing.
-use Prim.Native.Nat.{ℕ, _<_, _≤_}
+use Prim.Native.Nat.{ℕ, _*_, _/_, _%_, _<_, _≤_}
 use mathlib.Core.Bool.{Bool, true, false, cond, _||_, or-assoc, or-comm, or-false}
 use mathlib.Core.Logic.{⊎-elim}
 use mathlib.Core.Path.{_≡_, refl, sym, ap, subst, _∙_}
 use mathlib.Core.List.{List, [], _∷_, _++_}
 use native.Mathlib.Omega.{arith}
 use lib.Dec.{eqb, leb}
-use lib.ListN.{length, getD, set, length-set}
+use lib.ListN.{length, getD, replicate, length-set}
 use borrow.Author.Tests.{leb-true, eqb-true, ne-eqb, eq-eqb}
-use Rattle.basis.proofs.Lists.{getD-set}
-use Rattle.basis.proofs.Tests.{either, not-both, and-left, or-right, or-either}
+use Rattle.basis.specs.KeySets.{has}
+use Rattle.basis.proofs.KeySets.{has-plus, has-nothing}
+use Rattle.basis.proofs.Lists.{getD-set, getD-row}
+use Rattle.basis.proofs.Tests.{either, same-or-other, same-test, not-both, and-left, or-right, or-either}
 use Rattle.table.specs.Tables.{Table, kindAt}
 use Rattle.table.specs.Nodes.{isProcess, isGuard}
 use Rattle.term.specs.declared.Mode.{Mode}
@@ -24,7 +26,7 @@ use Rattle.accept.specs.Counts.{trueCounts}
 use Rattle.choice.specs.declared.Goal.{Goal}
 use Rattle.choice.specs.Chosen.{chosenIn}
 use Rattle.choice.specs.Turns.{Reached}
-use Rattle.choice.specs.Marking.{onlyTick, hasMark, isIn, WalkMarks, Marked}
+use Rattle.choice.specs.Marking.{onlyTick, hasMark, WithMark, isIn, WalkMarks, Marked}
 use Rattle.choice.proofs.Chosen.{no-idle}
 
 is-in-append : (b : ℕ) (xs ys : List ℕ) → isIn b (xs ++ ys) ≡ (isIn b xs || isIn b ys)
@@ -33,12 +35,20 @@ is-in-append b [] ys = refl
 is-in-append b (x ∷ xs) ys = rw (is-in-append b xs ys) (sym (or-assoc (eqb b x) (isIn b xs) (isIn b ys)))
 
 -- one mark more
-set-marked : (ms : List ℕ) (n b : ℕ) → n < length ms → hasMark (set ms n 1) b ≡ (eqb b n || hasMark ms b)
-set-marked ms n b h = ap (λ (x : ℕ). eqb x 1) (getD-set ms n b 1 0 h) ∙ by (eqb b n)
-  where
-    by : (p : Bool) → eqb (cond p 1 (getD ms b 0)) 1 ≡ (p || eqb (getD ms b 0) 1)
-    by true = refl
-    by false = refl
+module _ {ms : List ℕ} {n : ℕ} {out : List ℕ} (m : WithMark ms n out) where
+  mark-length : length out ≡ length ms
+  mark-length = ap (λ (vs : List ℕ). length vs) (m .changed) ∙ length-set ms (n / 32) (m .word)
+
+  set-marked : n < 32 * length ms → (b : ℕ) → hasMark out b ≡ (eqb b n || hasMark ms b)
+  set-marked h b =
+      ap (λ (vs : List ℕ). hasMark vs b) (m .changed) ∙ ap (λ (w : ℕ). has w (b % 32)) (getD-set ms (n / 32) (b / 32) (m .word) 0 (omega arith))
+      ∙ ⊎-elim same (λ (d : b / 32 ≡ n / 32 → ⊥). rw (ne-eqb (b / 32) (n / 32) d, ne-eqb b n (λ e. d (ap (λ (x : ℕ). x / 32) e)))) (same-or-other (b / 32) (n / 32))
+    where
+      same : b / 32 ≡ n / 32 → has (cond (eqb (b / 32) (n / 32)) (m .word) (getD ms (b / 32) 0)) (b % 32) ≡ (eqb b n || hasMark ms b)
+      same d =
+          rw (eq-eqb (b / 32) (n / 32) d, m .is, has-plus (getD ms (n / 32) 0) (n % 32) (b % 32), d)
+          (ap (λ (x : Bool). x || has (getD ms (n / 32) 0) (b % 32))
+          (same-test (eqb (n % 32) (b % 32)) (eqb b n) (λ e. eq-eqb b n (omega (arith, eqb-true (n % 32) (b % 32) e))) (λ e. eq-eqb (n % 32) (b % 32) (ap (λ (x : ℕ). x % 32) (sym (eqb-true b n e))))))
 
 -- a guard is no process
 apart : (t : Table) (b n : ℕ) → isGuard (kindAt t b) ≡ true → isProcess (kindAt t n) ≡ true → eqb b n ≡ false
@@ -66,13 +76,13 @@ only-first Ticks k P c e f h =
     ap (chosenIn Ticks P) z
 
 module _ (t : Table) (ms : List ℕ) (marks : WalkMarks t ms) where
-  marks-guard : (g : ℕ) → isGuard (kindAt t g) ≡ true → g < length ms → WalkMarks t (set ms g 1)
-  marks-guard g e h =
+  marks-guard : (g : ℕ) → isGuard (kindAt t g) ≡ true → g < 32 * length ms → {vs : List ℕ} → WithMark ms g vs → WalkMarks t vs
+  marks-guard g e h m =
       record {
-        room = omega (arith, marks .room, length-set ms g 1);
+        room = omega (arith, marks .room, mark-length m);
         walked = λ n p w b k i.
-            let v : hasMark ms n ≡ true = sym (set-marked ms g n h ∙ ap (λ (x : Bool). x || hasMark ms n) (other n p)) ∙ w in
-            set-marked ms g b h ∙ or-right (eqb b g) (hasMark ms b) (marks .walked n p v b k i);
+            let v : hasMark ms n ≡ true = sym (set-marked m h n ∙ ap (λ (x : Bool). x || hasMark ms n) (other n p)) ∙ w in
+            set-marked m h b ∙ or-right (eqb b g) (hasMark ms b) (marks .walked n p v b k i);
       }
     where
       other : (n : ℕ) → isProcess (kindAt t n) ≡ true → eqb n g ≡ false
@@ -84,16 +94,16 @@ module _ (t : Table) (ms : List ℕ) (marks : WalkMarks t ms) where
   marked-none = record { marks = marks; same = refl; guards = λ b e. sym (or-false (hasMark ms b)) }
 
   -- one guard
-  pub marked-guard : (g : ℕ) → GuardNode t g → (vs : List ℕ) → vs ≡ set ms g 1 → Marked t (g ∷ []) ms vs
+  pub marked-guard : (g : ℕ) → GuardNode t g → {vs : List ℕ} → WithMark ms g vs → Marked t (g ∷ []) ms vs
   unfolding isIn
-  marked-guard g e vs f =
-      subst (λ (v : List ℕ). Marked t (g ∷ []) ms v) (sym f) record {
-        marks = marks-guard g (e .1) inside;
-        same = length-set ms g 1;
-        guards = λ b h. set-marked ms g b inside ∙ or-comm (eqb b g) (hasMark ms b) ∙ ap (λ (x : Bool). hasMark ms b || x) (sym (or-false (eqb b g)));
+  marked-guard g e m =
+      record {
+        marks = marks-guard g (e .1) inside m;
+        same = mark-length m;
+        guards = λ b h. set-marked m inside b ∙ or-comm (eqb b g) (hasMark ms b) ∙ ap (λ (x : Bool). hasMark ms b || x) (sym (or-false (eqb b g)));
       }
     where
-      inside : g < length ms
+      inside : g < 32 * length ms
       inside = omega (arith, e .0, marks .room)
 
   -- a tick's guards, and then those of what it joins
@@ -115,41 +125,41 @@ module _ (t : Table) (ms : List ℕ) (marks : WalkMarks t ms) where
       by false true f = f refl
       by false false f = refl
 
-  pub marked-after : (n : ℕ) → isProcess (kindAt t n) ≡ true → n < t .sizes .nodes → (mid : List ℕ) → Marked t (chosenIn Ticks (nodeProcess t n) 0 .guards) ms mid
-      → (vs : List ℕ) → vs ≡ set mid n 1 → Marked t (chosenIn Ticks (nodeProcess t n) 0 .guards) ms vs
-  marked-after n p h mid m vs f = subst (λ (v : List ℕ). Marked t gs ms v) (sym f) done
+  pub marked-after : (n : ℕ) → isProcess (kindAt t n) ≡ true → n < t .sizes .nodes → {mid : List ℕ} → Marked t (chosenIn Ticks (nodeProcess t n) 0 .guards) ms mid
+      → {vs : List ℕ} → WithMark mid n vs → Marked t (chosenIn Ticks (nodeProcess t n) 0 .guards) ms vs
+  marked-after n p h {mid} m {vs} w =
+      record {
+        marks = record { room = omega (arith, m .marks .room, mark-length w); walked = walked };
+        same = mark-length w ∙ m .same;
+        guards = λ b e. set-marked w inside b ∙ ap (λ (x : Bool). x || hasMark mid b) (apart t b n e p) ∙ m .guards b e;
+      }
     where
       gs : List ℕ
       gs = chosenIn Ticks (nodeProcess t n) 0 .guards
 
-      inside : n < length mid
+      inside : n < 32 * length mid
       inside = omega (arith, m .marks .room)
 
-      kept : (b : ℕ) → hasMark mid b ≡ true → hasMark (set mid n 1) b ≡ true
-      kept b e = set-marked mid n b inside ∙ or-right (eqb b n) (hasMark mid b) e
+      kept : (b : ℕ) → hasMark mid b ≡ true → hasMark vs b ≡ true
+      kept b e = set-marked w inside b ∙ or-right (eqb b n) (hasMark mid b) e
 
-      walked : (k : ℕ) → isProcess (kindAt t k) ≡ true → hasMark (set mid n 1) k ≡ true
-          → (b : ℕ) → isGuard (kindAt t b) ≡ true → isIn b (chosenIn Ticks (nodeProcess t k) 0 .guards) ≡ true → hasMark (set mid n 1) b ≡ true
-      walked k q w b e i =
+      walked : (k : ℕ) → isProcess (kindAt t k) ≡ true → hasMark vs k ≡ true
+          → (b : ℕ) → isGuard (kindAt t b) ≡ true → isIn b (chosenIn Ticks (nodeProcess t k) 0 .guards) ≡ true → hasMark vs b ≡ true
+      walked k q v b e i =
           ⊎-elim
           (λ (x : eqb k n ≡ true).
           let z : k ≡ n = eqb-true k n x in
           let j : isIn b gs ≡ true = ap (λ (y : ℕ). isIn b (chosenIn Ticks (nodeProcess t y) 0 .guards)) (sym z) ∙ i in
           kept b (m .guards b e ∙ or-right (hasMark ms b) (isIn b gs) j))
           (λ (x : hasMark mid k ≡ true). kept b (m .marks .walked k q x b e i))
-          (or-either (eqb k n) (hasMark mid k) (sym (set-marked mid n k inside) ∙ w))
-
-      done : Marked t gs ms (set mid n 1)
-      done =
-          record {
-            marks = record { room = omega (arith, m .marks .room, length-set mid n 1); walked = walked };
-            same = length-set mid n 1 ∙ m .same;
-            guards = λ b e. set-marked mid n b inside ∙ ap (λ (x : Bool). x || hasMark mid b) (apart t b n e p) ∙ m .guards b e;
-          }
+          (or-either (eqb k n) (hasMark mid k) (sym (set-marked w inside k) ∙ v))
 
 pub marked-same : {t : Table} {gs hs ms out : List ℕ} → gs ≡ hs → Marked t hs ms out → Marked t gs ms out
 marked-same {t} {gs} {hs} {ms} {out} e m = subst (λ (l : List ℕ). Marked t l ms out) (sym e) m
 
 -- where nothing is marked
-pub marks-zero : (t : Table) (ms : List ℕ) → t .sizes .nodes ≤ length ms → ((n : ℕ) → getD ms n 0 ≡ 0) → WalkMarks t ms
-marks-zero t ms h z = record { room = h; walked = λ n p w. absurd (not-both w (ne-eqb (getD ms n 0) 1 (λ e. omega (arith, z n)))) }
+pub marks-zero : (t : Table) (ms : List ℕ) → t .sizes .nodes ≤ 32 * length ms → ((n : ℕ) → hasMark ms n ≡ false) → WalkMarks t ms
+marks-zero t ms h z = record { room = h; walked = λ n p w. absurd (not-both w (z n)) }
+
+pub zeros-none : (n i : ℕ) → hasMark (replicate n 0) i ≡ false
+zeros-none n i = rw (getD-row {A = ℕ} n (i / 32) 0) (has-nothing (i % 32))

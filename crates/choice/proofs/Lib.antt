@@ -4,3 +4,4 @@ pub mod Turning
 pub mod Telling
 pub mod Gaps
 pub mod Collecting
+pub mod Searching

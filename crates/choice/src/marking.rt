@@ -1,24 +1,67 @@
-// The guards of a node's choice, as marks: one byte for each node.
+// The guards of a node's choice, as marks: one bit for each node, 32 in a word.
 use crate::Goal;
 use crate::Side;
 use crate::Turn;
 use crate::turns::turn_at;
 use accept::Counts;
 use accept::pair;
+use basis::has;
+use basis::plus;
 use table::Sizes;
+use table::is_guard;
 use term::Mode;
 ghost use mathlib.Core.Path.{_≡_};
-ghost use Prim.Native.Nat.{_<_};
-ghost use lib.ListN.{length, set};
+ghost use Prim.Native.Nat.{_-_, _*_, _%_, _<_, _≤_};
+ghost use lib.ListN.{length};
 ghost use Rattle.table.specs.Tables.{table};
 ghost use Rattle.choice.specs.Turns.{chosenAt, Prepared, Reached};
-ghost use Rattle.choice.specs.Marking.{onlyTick, WalkMarks, Marked};
+ghost use Rattle.choice.specs.Marking.{onlyTick, hasMark, WithMark, markedGuard, zerosAfter, Next, WalkMarks, Marked};
 
-fn mark(marks: &mut [u8], n: usize)
-    requires { ⌜ n < length (now marks) ⌝ }
-    ensures { λ r. ⌜ now (marks .exit) ≡ set (now (marks .entry)) n 1 ⌝ }
+fn mark(marks: &mut [u32], n: usize)
+    requires { ⌜ n < 32 * length (now marks) ⌝ }
+    ensures { λ r. ⌜ WithMark (now (marks .entry)) n (now (marks .exit)) ⌝ }
 {
-    marks[n] = 1;
+    marks[n / 32] = plus(marks[n / 32], n % 32);
+}
+
+pub fn has_mark(marks: &[u32], n: usize) -> bool
+    requires { ⌜ n < 32 * length (now marks) ⌝ }
+    ensures { λ r. ⌜ r ≡ hasMark (now (marks .entry)) n ⌝ }
+{
+    has(marks[n / 32], n % 32)
+}
+
+// The zeros in the word of node n's mark after it, up to the next 1.
+fn zeros_after(marks: &[u32], n: usize) -> u32
+    requires { ⌜ n < 32 * length (now marks) ⌝ }
+    ensures { λ r. ⌜ r ≡ zerosAfter (now (marks .entry)) n ⌝ }
+{
+    u32::trailing_zeros((marks[n / 32] >> (n % 32)) / 2)
+}
+
+// Nodes after n that have no mark: no more than up to the next that has one, or to the end of the word.
+fn unmarked_after(marks: &[u32], n: usize) -> usize
+    requires { ⌜ n < 32 * length (now marks) ⌝ }
+    ensures { λ r. ⌜ (r ≤ zerosAfter (now (marks .entry)) n) × (r ≤ 31 - n % 32) ⌝ }
+{
+    let zeros = zeros_after(marks, n) as usize;
+    let left = 31 - n % 32;
+    if zeros < left { zeros } else { left }
+}
+
+// The lowest marked guard from a node on; past the last node where there is none.
+pub fn next_guard(kinds: &[u8], marks: &[u32], from: usize) -> usize
+    requires { ⌜ length (now kinds) ≤ 32 * length (now marks) ⌝ }
+    ensures { λ r. ⌜ Next (markedGuard (now (kinds .entry)) (now (marks .entry))) (length (now (kinds .entry))) from r ⌝ }
+{
+    let mut n = from;
+    while n < kinds.len() {
+        if is_guard(kinds[n]) & has_mark(marks, n) {
+            return n;
+        }
+        n += 1 + unmarked_after(marks, n);
+    }
+    n
 }
 
 // A tick is looked for, and there is exactly one.
@@ -39,7 +82,7 @@ pub fn mark_node(
     kinds: &[u8],
     operands: &[u8],
     scratch: &[u32],
-    marks: &mut [u8],
+    marks: &mut [u32],
     goal: Goal,
 )
     requires { ⌜ Prepared (table sizes (now kinds) (now operands)) (now scratch) ⌝ }
@@ -51,7 +94,7 @@ pub fn mark_node(
     let mode = goal.mode;
     let once = only_tick(mode, pair(scratch, n));
     if once {
-        if marks[n] == 1 {
+        if has_mark(marks, n) {
             return;
         }
     }

@@ -1,7 +1,7 @@
 -- Sets to which keys are added, and what a node reads.
 -- Assumes nothing.
 use Prim.Native.Nat.{ℕ, _^_, _<_, _≤_}
-use mathlib.Core.Bool.{Bool, true, false, cond, _&&_, _||_, and-false, or-false, or-assoc, or-comm}
+use mathlib.Core.Bool.{Bool, true, false, _&&_, _||_, and-false, or-false, or-assoc, or-comm}
 use mathlib.Core.Path.{_≡_, refl, sym, ap, _∙_}
 use native.Mathlib.Omega.{arith}
 use lib.Dec.{eqb}
@@ -13,8 +13,7 @@ use Rattle.table.specs.Tables.{Table, kindAt, pAt, qAt}
 use Rattle.table.specs.Nodes.{leftNode, rightNode}
 use Rattle.state.specs.Layout.{keyLimit}
 use Rattle.state.specs.Evaluation.{readsStep}
-use Rattle.evaluation.specs.declared.Parts.{Parts}
-use Rattle.evaluation.specs.Reading.{Adds, readsBelow, isKey, Named}
+use Rattle.evaluation.specs.Reading.{Adds, readsBelow, isKey}
 
 -- nothing is added
 pub adds-none : {test : ℕ → Bool} {w : ℕ} → ((k : ℕ) → k < keyLimit → test k ≡ false) → Adds test w w
@@ -35,6 +34,13 @@ adds-both {f} {g} {w} a b =
       keys = λ k l. b .keys k l ∙ ap (λ (z : Bool). z || g k) (a .keys k l) ∙ or-assoc (has w k) (f k) (g k);
       small = λ h. b .small (a .small h);
     }
+
+-- a walk that is made, and one that is not
+pub adds-made : {on : Bool} {f : ℕ → Bool} {w r : ℕ} → on ≡ true → Adds f w r → Adds (λ (k : ℕ). on && f k) w r
+adds-made e a = adds-same (λ k. rw e) a
+
+pub adds-unmade : {on : Bool} (f : ℕ → Bool) {w : ℕ} → on ≡ false → Adds (λ (k : ℕ). on && f k) w w
+adds-unmade f e = adds-none (λ k l. rw e)
 
 -- of keys below the limit, it is the set with each key that passes
 module _ {test : ℕ → Bool} {w : ℕ} (low : w < 2 ^ keyLimit) where
@@ -66,33 +72,13 @@ module _ (t : Table) where
   reads-out : (limit n k : ℕ) → limit ≤ n → readsBelow t limit n k ≡ false
   reads-out limit n k h = ap (λ (f : ℕ → Bool). f k) (below-out (readsStep t) (λ (j : ℕ). false) limit n h)
 
-  -- a walk that is not made finds nothing
-  if-made : (on : Bool) (n p k : ℕ) → readsBelow t (cond on n 0) p k ≡ (on && readsBelow t n p k)
-  if-made true n p k = refl
-  if-made false n p k = reads-out 0 p k (omega arith)
-
   pub reads-none : (limit n w : ℕ) → limit ≤ n → Adds (readsBelow t limit n) w w
   reads-none limit n w h = adds-none (λ k l. reads-out limit n k h)
 
-  -- a walk's limit falls
-  low : (on : Bool) (n l : ℕ) → l ≡ cond on n 0 → l ≤ n
-  low true n l e = omega arith
-  low false n l e = omega arith
-
-  module _ (n : ℕ) (r : Parts) (named : Named t n r) where
-    pub left-low : r .left ≤ n
-    left-low = low (leftNode t n) n (r .left) (named .left)
-
-    pub right-low : r .right ≤ n
-    right-low = low (rightNode t n) n (r .right) (named .right)
-
-    reads-at : (limit k : ℕ) → n < limit → readsBelow t limit n k ≡ ((isKey t n k || readsBelow t (r .left) (r .p) k) || readsBelow t (r .right) (r .q) k)
-    unfolding readsStep
-    reads-at limit k h =
-        ap (λ (f : ℕ → Bool). f k) (below-at (readsStep t) (λ (j : ℕ). false) limit n h)
-        ∙ rw (named .p, named .left, named .q, named .right, if-made (leftNode t n) n (pAt t n) k, if-made (rightNode t n) n (qAt t n) k)
-        (sym (or-assoc (isKey t n k) (leftNode t n && readsBelow t n (pAt t n) k) (rightNode t n && readsBelow t n (qAt t n) k)))
-
-    -- its own key, then those of its parts
-    pub reads-parts : (limit : ℕ) {w u v z : ℕ} → n < limit → Adds (isKey t n) w u → Adds (readsBelow t (r .left) (r .p)) u v → Adds (readsBelow t (r .right) (r .q)) v z → Adds (readsBelow t limit n) w z
-    reads-parts limit h a b c = adds-same (λ k. reads-at limit k h) (adds-both (adds-both a b) c)
+  -- its own key, then those of its parts
+  pub reads-parts : (limit n : ℕ) {w u v z : ℕ} → n < limit → Adds (isKey t n) w u → Adds (λ (k : ℕ). leftNode t n && readsBelow t n (pAt t n) k) u v → Adds (λ (k : ℕ). rightNode t n && readsBelow t n (qAt t n) k) v z → Adds (readsBelow t limit n) w z
+  unfolding readsStep
+  reads-parts limit n h a b c =
+      adds-same
+      (λ k. ap (λ (f : ℕ → Bool). f k) (below-at (readsStep t) (λ (j : ℕ). false) limit n h) ∙ sym (or-assoc (isKey t n k) (leftNode t n && readsBelow t n (pAt t n) k) (rightNode t n && readsBelow t n (qAt t n) k)))
+      (adds-both (adds-both a b) c)

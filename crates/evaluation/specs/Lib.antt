@@ -1,3 +1,4 @@
 pub mod Situated
 pub mod Parties
 pub mod Reading
+pub mod Sets

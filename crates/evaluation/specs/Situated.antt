@@ -1,10 +1,10 @@
--- What evaluation asks for, and which kinds name nodes of their own sort.
-use Prim.Native.Nat.{ℕ, _<_}
-use mathlib.Core.Bool.{Bool, _&&_}
+-- What evaluation asks for.
+use Prim.Native.Nat.{ℕ, _*_, _<_}
 use mathlib.Core.List.{List}
-use lib.Dec.{leb}
-use Rattle.basis.specs.Kinds as kind
-use Rattle.table.specs.Tables.{Table, agentLimit}
+use mathlib.Core.Path.{_≡_}
+use lib.ListN.{length}
+use Rattle.table.specs.declared.Sizes.{Sizes}
+use Rattle.table.specs.Tables.{Table, table, agentLimit}
 use Rattle.table.specs.Sound.{Shaped}
 use Rattle.state.specs.Standing.{HasBlocks}
 
@@ -15,9 +15,12 @@ pub record Situated (t : Table) (s : List ℕ) (sender receiver : ℕ) : Type 0 
   pub sends : sender < agentLimit
   pub receives : receiver < agentLimit
 
--- expressions made of expressions, and guards made of guards
-abbrev pub isOperation : ℕ → Bool
-isOperation k = leb kind.plus k && leb k kind.remainder
+-- operands of four bytes for each kind, a state with room for all blocks, an agent that has one
+pub record Placed (kinds operands s : List ℕ) (sender : ℕ) : Type 0 where
+  pub lengths : length operands ≡ 4 * length kinds
+  pub blocks : HasBlocks s
+  pub sends : sender < agentLimit
 
-abbrev pub isConnective : ℕ → Bool
-isConnective k = leb kind.not k && leb k kind.or
+-- in every table of these kinds and operands
+abbrev pub InTables : List ℕ → List ℕ → (Table → Type 0) → Type 0
+InTables kinds operands P = (sizes : Sizes) → sizes .nodes ≡ length kinds → P (table sizes kinds operands)

@@ -1,85 +1,121 @@
-// What a guard comes to, by recursion on the falling node number; and links.
+// What a guard comes to, by recursion on the falling node number, for many receivers at once; and links.
 ghost use mathlib.Core.Path.{_≡_};
+ghost use mathlib.Core.Bool.{cond, _&&_};
 ghost use Prim.Native.Nat.{ℕ, _<_, _≤_};
-ghost use Rattle.value.specs.Truths.{undefined};
-ghost use Rattle.table.specs.Tables.{table};
-ghost use Rattle.state.specs.Evaluation.{truthStep, holds as holdsOf, linkHolds};
+ghost use lib.ListN.{length};
+ghost use Rattle.basis.specs.KeySets.{has as hasAgent, plus as plusAgent};
+ghost use Rattle.table.specs.Tables.{table, agentLimit};
+ghost use Rattle.table.specs.Sound.{Shaped};
+ghost use Rattle.state.specs.Evaluation.{holds as holdsOf, linkHolds};
 ghost use Rattle.state.specs.Walks.{truthBelow};
-ghost use Rattle.evaluation.specs.Situated.{Situated, isConnective};
-use super::values::value_of;
+ghost use Rattle.evaluation.specs.Situated.{Situated, Placed, InTables};
+ghost use Rattle.evaluation.specs.Sets.{comparison, Found, Connects};
+use super::AgentSets;
+use super::values::value_below;
 use table::Sizes;
-use value::Truth;
 
-const UNDEFINED: Truth = Truth {
-    defined: false,
-    holds: false,
+const NOBODY: AgentSets = AgentSets {
+    defined: 0,
+    holding: 0,
 };
 
-fn is_connective(kind: u8) -> bool
-    ensures { λ r. ⌜ r ≡ isConnective kind ⌝ }
+// The set with an agent, or as it is.
+pub fn plus_if(on: bool, agents: u32, agent: usize) -> u32
+    requires { ⌜ agent < agentLimit ⌝ }
+    ensures { λ r. ⌜ r ≡ cond on (plusAgent agents agent) agents ⌝ }
 {
-    (basis::kinds::NOT <= kind) & (kind <= basis::kinds::OR)
+    if on {
+        basis::plus(agents, agent)
+    } else {
+        agents
+    }
 }
 
-// What a node comes to that is no connective: true, or a comparison.
-fn atom(
-    sizes: Sizes,
+// A comparison for each agent of a set.
+fn compare_all(
     kinds: &[u8],
     operands: &[u8],
     state: &[u32],
     sender: usize,
-    receiver: usize,
+    agents: u32,
     node: usize,
-) -> Truth
-    requires { ⌜ Situated (table sizes (now kinds) (now operands)) (now state) sender receiver × (node < sizes .nodes) ⌝ }
-    ensures { λ r. ⌜ r ≡ truthStep (table sizes (now (kinds .entry)) (now (operands .entry))) (now (state .entry)) sender receiver (λ (n : ℕ). undefined) node ⌝ }
+) -> AgentSets
+    requires { ⌜ Placed (now kinds) (now operands) (now state) sender × (node < length (now kinds)) ⌝ }
+    ensures { λ r. ⌜ InTables (now (kinds .entry)) (now (operands .entry)) (λ t. Found agents (λ y. comparison t (now (state .entry)) sender y node) r) ⌝ }
 {
-    let kind = kinds[node];
-    if kind == basis::kinds::TRUE {
-        return Truth {
-            defined: true,
-            holds: true,
-        };
+    if agents == 0 {
+        return NOBODY;
     }
-    if basis::kinds::NOT <= kind {
-        return UNDEFINED;
-    }
+    let agent = basis::lowest(agents);
+    let others = basis::minus(agents, agent);
+    let found = compare_all(kinds, operands, state, sender, others, node);
+    let nodes = kinds.len();
     let p = table::p_at(operands, node);
     let q = table::q_at(operands, node);
-    let x = value_of(sizes, kinds, operands, state, sender, receiver, p);
-    let y = value_of(sizes, kinds, operands, state, sender, receiver, q);
-    value::compare_values(kind, x, y)
+    let a = value_below(kinds, operands, state, sender, agent, nodes, p);
+    let b = value_below(kinds, operands, state, sender, agent, nodes, q);
+    let t = value::compare_values(kinds[node], a, b);
+    AgentSets {
+        defined: plus_if(t.defined, found.defined, agent),
+        holding: plus_if(t.holds, found.holding, agent),
+    }
 }
 
-// What a node below the limit comes to; undefined where it is not below.
-fn truth_below(
-    sizes: Sizes,
+// Not, and, or on what their parts come to.
+fn connect_all(kind: u8, a: AgentSets, b: AgentSets) -> AgentSets
+    ensures { λ r. ⌜ Connects kind a b r ⌝ }
+{
+    match kind {
+        basis::kinds::NOT => AgentSets {
+            defined: a.defined,
+            holding: a.defined ^ (a.defined & a.holding),
+        },
+        basis::kinds::AND => AgentSets {
+            defined: a.defined & b.defined,
+            holding: a.holding & b.holding,
+        },
+        basis::kinds::OR => AgentSets {
+            defined: a.defined & b.defined,
+            holding: a.holding | b.holding,
+        },
+        _ => NOBODY,
+    }
+}
+
+// What a node below the limit comes to for each agent of a set; undefined where it is not below.
+fn truths_below(
     kinds: &[u8],
     operands: &[u8],
     state: &[u32],
     sender: usize,
-    receiver: usize,
+    agents: u32,
     limit: usize,
     node: usize,
-) -> Truth
-    requires { ⌜ Situated (table sizes (now kinds) (now operands)) (now state) sender receiver × (limit ≤ sizes .nodes) ⌝ }
-    ensures { λ r. ⌜ r ≡ truthBelow (table sizes (now (kinds .entry)) (now (operands .entry))) (now (state .entry)) sender receiver limit node ⌝ }
+) -> AgentSets
+    requires { ⌜ Placed (now kinds) (now operands) (now state) sender × (limit ≤ length (now kinds)) ⌝ }
+    ensures { λ r. ⌜ InTables (now (kinds .entry)) (now (operands .entry)) (λ t. Found agents (λ y. truthBelow t (now (state .entry)) sender y limit node) r) ⌝ }
 {
     if limit <= node {
-        return UNDEFINED;
+        return NOBODY;
     }
     let kind = kinds[node];
-    if !is_connective(kind) {
-        return atom(sizes, kinds, operands, state, sender, receiver, node);
+    if kind == basis::kinds::TRUE {
+        return AgentSets {
+            defined: agents,
+            holding: agents,
+        };
+    }
+    if kind < basis::kinds::NOT {
+        return compare_all(kinds, operands, state, sender, agents, node);
     }
     let p = table::p_at(operands, node);
-    let a = truth_below(sizes, kinds, operands, state, sender, receiver, node, p);
+    let a = truths_below(kinds, operands, state, sender, agents, node, p);
     if kind == basis::kinds::NOT {
-        return value::connect(kind, a, a);
+        return connect_all(kind, a, a);
     }
     let q = table::q_at(operands, node);
-    let b = truth_below(sizes, kinds, operands, state, sender, receiver, node, q);
-    value::connect(kind, a, b)
+    let b = truths_below(kinds, operands, state, sender, agents, node, q);
+    connect_all(kind, a, b)
 }
 
 // Whether a guard holds.
@@ -95,33 +131,26 @@ pub fn holds(
     requires { ⌜ Situated (table sizes (now kinds) (now operands)) (now state) sender receiver ⌝ }
     ensures { λ r. ⌜ r ≡ holdsOf (table sizes (now (kinds .entry)) (now (operands .entry))) (now (state .entry)) sender receiver node ⌝ }
 {
-    let t = truth_below(
-        sizes,
-        kinds,
-        operands,
-        state,
-        sender,
-        receiver,
-        sizes.nodes,
-        node,
-    );
-    t.holds
+    let asked = basis::plus(0, receiver);
+    let found = truths_below(kinds, operands, state, sender, asked, sizes.nodes, node);
+    basis::has(found.holding, receiver)
 }
 
-// Whether the link of a key holds, from a sender to a receiver.
-pub fn link_holds(
+// The agents of a set to whom the link of a key holds from a sender.
+pub fn links_hold(
     sizes: Sizes,
     kinds: &[u8],
     operands: &[u8],
     state: &[u32],
     key: usize,
     sender: usize,
-    receiver: usize,
-) -> bool
-    requires { ⌜ Situated (table sizes (now kinds) (now operands)) (now state) sender receiver × (key < sizes .stigmergy) ⌝ }
-    ensures { λ r. ⌜ r ≡ linkHolds (table sizes (now (kinds .entry)) (now (operands .entry))) (now (state .entry)) key sender receiver ⌝ }
+    agents: u32,
+) -> u32
+    requires { ⌜ Shaped (table sizes (now kinds) (now operands)) × Placed (now kinds) (now operands) (now state) sender × (key < sizes .stigmergy) ⌝ }
+    ensures { λ r. ⌜ ((y : ℕ) → hasAgent r y ≡ (hasAgent agents y && linkHolds (table sizes (now (kinds .entry)) (now (operands .entry))) (now (state .entry)) key sender y)) ⌝ }
 {
     let root = table::first_root(sizes) + sizes.definitions + key;
     let link = table::p_at(operands, root);
-    holds(sizes, kinds, operands, state, sender, receiver, link)
+    let found = truths_below(kinds, operands, state, sender, agents, sizes.nodes, link);
+    found.holding
 }

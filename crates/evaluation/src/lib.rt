@@ -4,14 +4,13 @@ mod reading; // reading.rt: the stigmergy keys that a node reads
 mod values; // values.rt: the value of an expression
 
 pub use guards::holds;
-pub use guards::link_holds;
+pub use guards::links_hold;
+pub use guards::plus_if;
 pub use reading::keys_read;
 pub use values::value_of;
 
-// p and q of a node, each with the limit of the walk below it: the node where the field names a node, else 0.
-struct Parts {
-    p: usize,
-    left: usize,
-    q: usize,
-    right: usize,
+// Of a set of agents: those for whom a guard is well defined, and those for whom it holds.
+struct AgentSets {
+    defined: u32,
+    holding: u32,
 }

@@ -1,26 +1,26 @@
--- The guards of a list all hold where no marked guard fails.
+-- The guards of a list, and those that are marked.
 -- Assumes nothing.
-use Prim.Native.Nat.{ℕ, _<_, _≤_}
+use Prim.Native.Nat.{ℕ, _*_, _≤_}
 use mathlib.Core.Bool.{Bool, true, false, not, _&&_, _||_}
 use mathlib.Core.Logic.{⊎-elim}
 use mathlib.Core.Path.{_≡_, refl, sym, ap, _∙_}
 use mathlib.Core.List.{List, [], _∷_}
 use native.Mathlib.Omega.{arith}
 use lib.Dec.{eqb}
-use lib.ListN.{getD, replicate, length-replicate}
-use borrow.Author.Tests.{eqb-true, eq-eqb, ne-eqb, not-true, not-false}
-use Rattle.basis.proofs.Lists.{getD-row}
-use Rattle.basis.proofs.Tests.{not-both, and-left, and-right, and-both, or-left, or-right, or-either}
+use lib.ListN.{replicate, length-replicate}
+use borrow.Author.Tests.{eqb-true, eq-eqb}
+use Rattle.basis.specs.Numbers.{someBelow}
+use Rattle.basis.proofs.Numbers.{some-at, some-witness}
+use Rattle.basis.proofs.Tests.{not-both, same-test, and-left, and-right, and-both, or-left, or-right, or-either, not-and}
 use Rattle.table.specs.Tables.{Table, kindAt}
 use Rattle.table.specs.Nodes.{isGuard}
 use Rattle.term.proofs.Each.{Each}
 use Rattle.term.specs.Accepted.{GuardNode}
 use Rattle.state.specs.Evaluation.{holds}
-use Rattle.choice.specs.Marking.{hasMark, isIn, WalkMarks, Marked}
-use Rattle.choice.proofs.Collecting.{marks-zero}
+use Rattle.choice.specs.Marking.{hasMark, markedGuard, isIn, Marked}
+use Rattle.choice.proofs.Collecting.{zeros-none}
 use Rattle.steps.specs.Acts.{allHold}
 use Rattle.judging.specs.Judging.{Unmarked, GuardsMarked}
-use Rattle.judging.specs.Guards.{failsAt}
 
 -- what every element has, an element has
 is-in-each : (P : ℕ → Type 0) (gs : List ℕ) → Each P gs → (b : ℕ) → isIn b gs ≡ true → P b
@@ -30,75 +30,58 @@ is-in-each P (g ∷ gs) h b e =
     ⊎-elim (λ (f : eqb b g ≡ true). let i : b ≡ g = eqb-true b g f in rw i (h .0))
     (λ (f : isIn b gs ≡ true). is-in-each P gs (h .1) b f) (or-either (eqb b g) (isIn b gs) e)
 
--- where nothing is marked
-pub unmarked-marks : (t : Table) (ms : List ℕ) → Unmarked t ms → WalkMarks t ms
-unmarked-marks t ms u = marks-zero t ms (u .room) (u .zero)
-
 -- zeros, at least as many as there are nodes
-pub zeros-unmarked : (t : Table) (n : ℕ) → t .sizes .nodes ≤ n → Unmarked t (replicate n 0)
-zeros-unmarked t n h = record { room = rw (length-replicate {A = ℕ} n 0) h; zero = λ i. getD-row {A = ℕ} n i 0 }
+pub zeros-unmarked : (t : Table) (n : ℕ) → t .sizes .nodes ≤ 32 * n → Unmarked t (replicate n 0)
+zeros-unmarked t n h = record { room = rw (length-replicate {A = ℕ} n 0) h; none = zeros-none n }
 
 -- guards that are marked where nothing was before
 pub collected : (t : Table) (gs ms out : List ℕ) → Each (GuardNode t) gs → Unmarked t ms → Marked t gs ms out → GuardsMarked t gs out
 collected t gs ms out each none m =
     record {
       room = m .marks .room;
-      guards = λ b e. m .guards b e ∙ ap (λ (x : Bool). x || isIn b gs) (ne-eqb (getD ms b 0) 1 (λ e. omega (arith, none .zero b)));
-      nodes = λ b e. let g = is-in-each (GuardNode t) gs each b e in (omega arith, g .1);
+      guards = λ b.
+          same-test (markedGuard (t .kinds) out b) (isIn b gs)
+          (λ e. let g = and-left (isGuard (kindAt t b)) (hasMark out b) e in sym (marked b g) ∙ and-right (isGuard (kindAt t b)) (hasMark out b) e)
+          (λ e. let g = is-in-each (GuardNode t) gs each b e in and-both (isGuard (kindAt t b)) (hasMark out b) (g .1) (marked b (g .1) ∙ e));
+      nodes = λ b e. omega (arith, is-in-each (GuardNode t) gs each b e .0);
     }
+  where
+    marked : (b : ℕ) → isGuard (kindAt t b) ≡ true → hasMark out b ≡ isIn b gs
+    marked b g = m .guards b g ∙ ap (λ (x : Bool). x || isIn b gs) (none .none b)
+
+-- where f says whether some element of a list passes, a marked guard passes where one of the list does
+module _ (p : ℕ → Bool) (f : List ℕ → Bool) (none : f [] ≡ false) (more : (g : ℕ) (gs : List ℕ) → f (g ∷ gs) ≡ (p g || f gs)) where
+  some-of : (gs : List ℕ) (b : ℕ) → isIn b gs ≡ true → p b ≡ true → f gs ≡ true
+  unfolding isIn
+  some-of [] b i e = absurd (not-both i refl)
+  some-of (g ∷ gs) b i e =
+      more g gs ∙ ⊎-elim (λ (d : eqb b g ≡ true). or-left (p g) (f gs) (rw (eqb-true b g d) at e)) (λ (d : isIn b gs ≡ true). or-right (p g) (f gs) (some-of gs b d e))
+      (or-either (eqb b g) (isIn b gs) i)
+
+  one-of : (gs : List ℕ) → f gs ≡ true → (b : ℕ) × (isIn b gs ≡ true) × (p b ≡ true)
+  unfolding isIn
+  one-of [] e = absurd (not-both e none)
+  one-of (g ∷ gs) e =
+      ⊎-elim (λ (d : p g ≡ true). (g, or-left (eqb g g) (isIn g gs) (eq-eqb g g refl), d))
+      (λ (d : f gs ≡ true). let w = one-of gs d in (w .0, or-right (eqb (w .0) g) (isIn (w .0) gs) (w .1), w .2)) (or-either (p g) (f gs) (sym (more g gs) ∙ e))
+
+  pub some-marked : {t : Table} {gs ms : List ℕ} → GuardsMarked t gs ms → (n : ℕ) → t .sizes .nodes ≤ n → someBelow (λ (b : ℕ). markedGuard (t .kinds) ms b && p b) n ≡ f gs
+  some-marked {t} {gs} {ms} marks n h =
+      same-test (someBelow both n) (f gs)
+      (λ e.
+      let w = some-witness both n e in
+      some-of gs (w .0) (sym (marks .guards (w .0)) ∙ and-left (markedGuard (t .kinds) ms (w .0)) (p (w .0)) (w .2)) (and-right (markedGuard (t .kinds) ms (w .0)) (p (w .0)) (w .2)))
+      (λ e.
+      let w = one-of gs e in
+      some-at both n (w .0) (omega (arith, marks .nodes (w .0) (w .1))) (and-both (markedGuard (t .kinds) ms (w .0)) (p (w .0)) (marks .guards (w .0) ∙ w .1) (w .2)))
+    where
+      both : ℕ → Bool
+      both b = markedGuard (t .kinds) ms b && p b
 
 module _ (t : Table) (was : List ℕ) (x : ℕ) where
-  all-held : (gs : List ℕ) → ((b : ℕ) → isIn b gs ≡ true → holds t was x x b ≡ true) → allHold t was x gs ≡ true
-  unfolding isIn
-  all-held [] h = refl
-  all-held (g ∷ gs) h =
-      and-both (holds t was x x g) (allHold t was x gs) (h g (or-left (eqb g g) (isIn g gs) (eq-eqb g g refl)))
-      (all-held gs (λ b e. h b (or-right (eqb b g) (isIn b gs) e)))
+  -- a marked guard below n does not hold
+  abbrev pub someFails : List ℕ → ℕ → Bool
+  someFails ms n = someBelow (λ (b : ℕ). markedGuard (t .kinds) ms b && not (holds t was x x b)) n
 
-  one-fails : (gs : List ℕ) (b : ℕ) → isIn b gs ≡ true → holds t was x x b ≡ false → allHold t was x gs ≡ false
-  unfolding isIn
-  one-fails [] b e f = absurd (not-both e refl)
-  one-fails (g ∷ gs) b e f =
-      ⊎-elim (λ (d : eqb b g ≡ true). let i : b ≡ g = eqb-true b g d in by-left (ap (holds t was x x) (sym i) ∙ f))
-      (λ (d : isIn b gs ≡ true). by-right (holds t was x x g) (one-fails gs b d f)) (or-either (eqb b g) (isIn b gs) e)
-    where
-      by-left : holds t was x x g ≡ false → (holds t was x x g && allHold t was x gs) ≡ false
-      by-left d = rw d
-
-      by-right : (p : Bool) → allHold t was x gs ≡ false → (p && allHold t was x gs) ≡ false
-      by-right true d = d
-      by-right false d = refl
-
-  -- whether node n fails, by its kind and its mark
-  module _ (ms : List ℕ) (n : ℕ) (guard : Bool) (e : guard ≡ isGuard (kindAt t n)) where
-    fails-by : (asked : Bool) → (guard && hasMark ms n) ≡ asked → (asked && not (holds t was x x n)) ≡ failsAt t was x ms n
-    unfolding failsAt
-    fails-by asked f = ap (λ (b : Bool). b && not (holds t was x x n)) (sym f ∙ ap (λ (b : Bool). b && hasMark ms n) e)
-
-    pub fails-asked : (guard && hasMark ms n) ≡ true → (h : Bool) → h ≡ holds t was x x n → not h ≡ failsAt t was x ms n
-    fails-asked f h d = ap not d ∙ fails-by true f
-
-    pub fails-not : (guard && hasMark ms n) ≡ false → false ≡ failsAt t was x ms n
-    fails-not f = fails-by false f
-
-  module _ (ms gs : List ℕ) (marks : GuardsMarked t gs ms) where
-    -- where no node fails, every guard holds
-    pub none-fails : ((n : ℕ) → n < t .sizes .nodes → failsAt t was x ms n ≡ false) → allHold t was x gs ≡ true
-    unfolding failsAt
-    none-fails h = all-held gs (λ b e. held b e (marks .nodes b e))
-      where
-        held : (b : ℕ) → isIn b gs ≡ true → (b < t .sizes .nodes) × (isGuard (kindAt t b) ≡ true) → holds t was x x b ≡ true
-        held b e g = by (and-both (isGuard (kindAt t b)) (hasMark ms b) (g .1) (marks .guards b (g .1) ∙ e)) (h b (g .0))
-          where
-            by : (isGuard (kindAt t b) && hasMark ms b) ≡ true → ((isGuard (kindAt t b) && hasMark ms b) && not (holds t was x x b)) ≡ false → holds t was x x b ≡ true
-            by d f = not-false (holds t was x x b) (rw d at f)
-
-    -- where one fails, some guard does not hold
-    pub some-fails : (n : ℕ) (r : Bool) → r ≡ failsAt t was x ms n → r ≡ true → allHold t was x gs ≡ false
-    unfolding failsAt
-    some-fails n r f d =
-        let e : failsAt t was x ms n ≡ true = sym f ∙ d in
-        let asked = and-left (isGuard (kindAt t n) && hasMark ms n) (not (holds t was x x n)) e in
-        let guard = and-left (isGuard (kindAt t n)) (hasMark ms n) asked in
-        one-fails gs n (sym (marks .guards n guard) ∙ and-right (isGuard (kindAt t n)) (hasMark ms n) asked)
-        (not-true (holds t was x x n) (and-right (isGuard (kindAt t n) && hasMark ms n) (not (holds t was x x n)) e))
+  pub all-held : {gs ms : List ℕ} → GuardsMarked t gs ms → (n : ℕ) → t .sizes .nodes ≤ n → someFails ms n ≡ not (allHold t was x gs)
+  all-held marks = some-marked (λ b. not (holds t was x x b)) (λ gs. not (allHold t was x gs)) refl (λ g gs. not-and (holds t was x x g) (allHold t was x gs)) marks

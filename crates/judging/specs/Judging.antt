@@ -1,27 +1,26 @@
 -- What is found of an act before anything is written.
-use Prim.Native.Nat.{ℕ, _<_, _≤_}
-use mathlib.Core.Bool.{true}
+use Prim.Native.Nat.{ℕ, _*_, _<_, _≤_}
+use mathlib.Core.Bool.{true, false}
 use mathlib.Core.Path.{_≡_}
 use mathlib.Core.List.{List}
-use lib.ListN.{length, getD}
+use lib.ListN.{length}
 use Rattle.table.specs.Checks.{passes, firstOf}
-use Rattle.table.specs.Tables.{Table, kindAt}
-use Rattle.table.specs.Nodes.{isGuard}
-use Rattle.choice.specs.Marking.{hasMark, isIn}
+use Rattle.table.specs.Tables.{Table}
+use Rattle.choice.specs.Marking.{hasMark, markedGuard, isIn}
 use Rattle.steps.specs.Acts.{actChecks, chosen}
 use Rattle.judging.specs.declared.Judgement.{Judgement}
 use Rattle.judging.specs.Outcomes.{Found}
 
--- there is a byte for each node, and none is marked
+-- there is a bit for each node, and none is marked
 pub record Unmarked (t : Table) (marks : List ℕ) : Type 0 where
-  pub room : t .sizes .nodes ≤ length marks
-  pub zero : (n : ℕ) → getD marks n 0 ≡ 0
+  pub room : t .sizes .nodes ≤ 32 * length marks
+  pub none : (n : ℕ) → hasMark marks n ≡ false
 
--- the marked guards are those of a list, which are guards of the table
+-- the marked guards are those of a list, which are nodes of the table
 pub record GuardsMarked (t : Table) (gs marks : List ℕ) : Type 0 where
-  pub room : t .sizes .nodes ≤ length marks
-  pub guards : (b : ℕ) → isGuard (kindAt t b) ≡ true → hasMark marks b ≡ isIn b gs
-  pub nodes : (b : ℕ) → isIn b gs ≡ true → (b < t .sizes .nodes) × (isGuard (kindAt t b) ≡ true)
+  pub room : t .sizes .nodes ≤ 32 * length marks
+  pub guards : (b : ℕ) → markedGuard (t .kinds) marks b ≡ isIn b gs
+  pub nodes : (b : ℕ) → isIn b gs ≡ true → b < t .sizes .nodes
 
 -- the judgement of choice c, and the marks of its guards where nothing refuses
 pub record Judges (t : Table) (was : List ℕ) (x c : ℕ) (marks : List ℕ) (r : Judgement) : Type 0 where

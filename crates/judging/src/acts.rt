@@ -26,7 +26,7 @@ fn judge_choice(
     scratch: &[u32],
     state: &[u32],
     words: &[u32],
-    marks: &mut [u8],
+    marks: &mut [u32],
     agent: usize,
     c: u64,
 ) -> Judgement
@@ -49,7 +49,7 @@ fn judge_choice(
     judge_outcome(sizes, kinds, operands, state, agent, o)
 }
 
-// Choice c of an agent. The marks are a byte for each node, all 0 before: where nothing refuses, the guards that are marked then are the
+// Choice c of an agent. The marks are a bit for each node, all 0 before: where nothing refuses, the guards that are marked then are the
 // choice's; beside a refusal the marks may be any.
 pub fn judge(
     sizes: Sizes,
@@ -57,7 +57,7 @@ pub fn judge(
     operands: &[u8],
     scratch: &[u32],
     state: &[u32],
-    marks: &mut [u8],
+    marks: &mut [u32],
     agent: usize,
     c: u64,
 ) -> Judgement

@@ -9,7 +9,6 @@ use basis::kinds::SET_ATTRIBUTE;
 use basis::kinds::SET_STIGMERGY;
 use basis::kinds::TICK;
 use basis::kinds::TRUE;
-ghost use mathlib.Core.Path.{_≡_};
 ghost use Prim.Native.Nat.{_+_, _*_, _<_, _≤_};
 ghost use lib.ListN.{length};
 

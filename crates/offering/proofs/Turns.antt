@@ -1,60 +1,46 @@
--- What an agent's response is, case by case, and what one turn more makes of the turns before it.
+-- How the sets that are found before anything is written tell each agent's response, and what one turn more makes of the turns before it.
 -- Assumes nothing.
-use Prim.Native.Nat.{ℕ, _+_, _<_, _≤_}
-use mathlib.Core.Bool.{Bool, true, false, cond, _&&_, and-false}
-use mathlib.Core.Path.{_≡_, refl, sym, ap, _∙_}
+use Prim.Native.Nat.{ℕ, zero, suc, _+_, _<_, _≤_}
+use mathlib.Core.Bool.{Bool, true, false, cond, not, _&&_, _||_, and-true, and-false, or-false}
+use mathlib.Core.Path.{_≡_, refl, sym, ap, subst, _∙_}
 use mathlib.Core.List.{List}
 use native.Mathlib.Omega.{arith}
-use borrow.Author.Tests.{eq-eqb, ne-eqb}
-use Rattle.basis.proofs.Numbers.{howMany-bound}
+use native.Mathlib.Numerals.{add-one}
+use lib.Dec.{eqb}
+use borrow.Author.Tests.{eqb-true, lt-ltb, le-ltb}
+use Rattle.basis.specs.Numbers.{forEach, howMany}
+use Rattle.basis.specs.KeySets.{has, plus, plusAll}
+use Rattle.basis.proofs.Numbers.{forEach-more, howMany-more, howMany-bound}
+use Rattle.basis.proofs.KeySets.{has-nothing, has-plusAll, plusAll-more}
 use Rattle.table.specs.Tables.{Table}
 use Rattle.state.specs.declared.Entry.{Entry}
-use Rattle.state.specs.Layout.{keyLimit, dropKey}
-use Rattle.state.specs.Entries.{entryOf, newer}
+use Rattle.state.specs.Layout.{dropKey, stampOf}
+use Rattle.state.specs.Entries.{entryOf}
 use Rattle.state.specs.Evaluation.{linkHolds}
 use Rattle.steps.specs.declared.Response.{Response}
 use Rattle.steps.specs.declared.Response.the-variants.{Takes, Propagates, Ignores}
 use Rattle.steps.specs.declared.Tally.{Tally}
-use Rattle.steps.specs.Tallies.{tally, addTally}
-use Rattle.steps.specs.Offers.{linked, takes, holdsNewer, response, offer, offered, offerTally}
-use Rattle.steps.proofs.Turns.{offered-more, tally-more}
-use Rattle.offering.specs.Passing.{Passed, responseTally, TallyWithin}
+use Rattle.steps.specs.Tallies.{tally, noTally, addTally}
+use Rattle.steps.specs.Offers.{responded, linked, takes, holdsNewer, response, offer, offered, offerTally}
+use Rattle.offering.specs.declared.Receivers.{Receivers}
+use Rattle.offering.specs.Passing.{Touched, Passed, responseIn, responseTally, TallyWithin}
 
-module _ (t : Table) (s : List ℕ) (x k : ℕ) (counts : Bool) (y : ℕ) where
-  pub not-counted : counts ≡ false → false ≡ linked t s x k counts y
-  unfolding linked
-  not-counted e = rw e
+-- a set of agents below n that pass: one agent more, and who is in it
+module _ (test : ℕ → Bool) (n : ℕ) {w : ℕ} (e : w ≡ plusAll test n 0) where
+  pub set-more : {u : ℕ} → u ≡ cond (test n) (plus w n) w → u ≡ plusAll test (n + 1) 0
+  set-more f = f ∙ rw e (sym (plusAll-more test n 0))
 
-  pub not-itself : x ≡ y → false ≡ linked t s x k counts y
-  unfolding linked
-  not-itself e = rw (eq-eqb x y e, and-false)
+  in-set : (y : ℕ) → y < n → has w y ≡ test y
+  in-set y l = rw (e, has-plusAll test n 0 y, lt-ltb y n l, has-nothing y) (or-false (test y))
 
-  pub linked-other : counts ≡ true → (x ≡ y → ⊥) → linkHolds t s k x y ≡ linked t s x k counts y
-  unfolding linked
-  linked-other e d = rw (e, ne-eqb x y d)
-
-  module _ (confirming : Bool) where
-    abbrev answer : Response
-    answer = response t s x k counts confirming y
-
-    pub unlinked : linked t s x k counts y ≡ false → Ignores ≡ answer
-    unfolding response takes holdsNewer
-    unlinked e = rw (e, and-false)
-
-    -- where y is linked: by the two entries
-    module _ (h : linked t s x k counts y ≡ true) {mine theirs : Entry} (m : mine ≡ entryOf s x k) (n : theirs ≡ entryOf s y k) where
-      pub entry-taken : newer mine theirs ≡ true → Takes ≡ answer
-      unfolding response takes
-      entry-taken a = rw (h, rw (m, n) at a)
-
-      module _ (a : newer mine theirs ≡ false) where
-        pub not-confirming : confirming ≡ false → Ignores ≡ answer
-        unfolding response takes
-        not-confirming e = rw (h, rw (m, n) at a, e)
-
-        pub newer-or-level : confirming ≡ true → (b : Bool) → newer theirs mine ≡ b → cond b Propagates Ignores ≡ answer
-        unfolding response takes holdsNewer
-        newer-or-level e b g = rw (h, rw (m, n) at a, e, rw (m, n) at g)
+-- a response by tests: o and n, whether x's entry and y's is the newer one; neither is where y is x
+by-tests : (c f i l o n : Bool) → (i ≡ true → (o ≡ false) × (n ≡ false))
+    → cond (((c && o) || ((c && f) && n)) && l) (cond (c && o) Takes Propagates) Ignores ≡ cond ((c && (not i && l)) && o) Takes (cond (f && ((c && (not i && l)) && n)) Propagates Ignores)
+by-tests false f i l o n h = rw (and-false f)
+by-tests true f true l o n h = rw (h refl .0, h refl .1, and-false f)
+by-tests true f false false o n h = rw (and-false (o || (f && n)), and-false f)
+by-tests true f false true true n h = refl
+by-tests true f false true false n h = rw (and-true (f && n))
 
 -- what a response counts
 response-takes : (t : Table) (s : List ℕ) (x k : ℕ) (counts confirming : Bool) (y : ℕ)
@@ -67,8 +53,8 @@ response-takes t s x k counts confirming y = by (takes t s x k counts y) (confir
     by false true = refl
     by false false = refl
 
--- the turns of the agents below y
 module _ (t : Table) (was : List ℕ) (x k : ℕ) (counts confirming : Bool) where
+  -- the turns of the agents below y
   abbrev pub Turns : ℕ → Tally → List ℕ → Type 0
   Turns agents n s = Passed (offerTally t was x k counts agents) (offered t was x k counts confirming agents) n s
 
@@ -76,14 +62,30 @@ module _ (t : Table) (was : List ℕ) (x k : ℕ) (counts confirming : Bool) whe
     pub few-take : n .taken ≤ y
     few-take = rw (before .answer) (howMany-bound (takes t was x k counts) y)
 
-    -- a turn on the state as it is by then is the next one, judged as before the step
-    pub next-turn : k < keyLimit → {r : Response} {out : List ℕ} {m q : Tally}
-        → Passed (response t s x k counts confirming y) (offer t s x k counts confirming y s) r out → q ≡ responseTally r → m ≡ addTally n q → Turns (y + 1) m out
-    next-turn key turn d e =
+    pub next-turn : {e : Entry} {r : Response} {out : List ℕ} {m q : Tally} → e ≡ entryOf was x k → r ≡ response t was x k counts confirming y → out ≡ responded k e y r s
+        → q ≡ responseTally r → m ≡ addTally n q → Turns (y + 1) m out
+    unfolding offer
+    next-turn mine is wrote counted added =
         record {
-          answer = e ∙ rw (before .answer, d, turn .answer, before .state) (ap (addTally _) (response-takes t _ x k counts confirming y) ∙ sym (tally-more t was x k counts confirming key y));
-          state = turn .state ∙ rw (before .state) (sym (offered-more t was x k counts confirming key y));
+          answer = added ∙ rw (before .answer, counted, is) (ap (addTally _) (response-takes t was x k counts confirming y) ∙ sym (ap tally (howMany-more (takes t was x k counts) y)));
+          state = wrote ∙ rw (mine, is, before .state) (sym (forEach-more (offer t was x k counts confirming) y was));
         }
+
+  -- of the agents below n, those who could be touched are asked, and the link reaches some of them
+  module _ (n : ℕ) {r : Receivers} (asked : ℕ) (touched : Touched was x k counts confirming n r) (asks : (y : ℕ) → has asked y ≡ (has (r .takers) y || has (r .holders) y)) where
+    pub judged : (reached : ℕ) → ((y : ℕ) → has reached y ≡ (has asked y && linkHolds t was k x y)) → (y : ℕ) → y < n → responseIn reached (r .takers) y ≡ response t was x k counts confirming y
+    unfolding response takes holdsNewer linked
+    judged reached links y l =
+        rw (links y, asks y, in-set _ n (touched .takers) y l, in-set _ n (touched .holders) y l)
+        (by-tests counts confirming (eqb x y) (linkHolds t was k x y) _ _ (λ e. let d = eqb-true x y e in (le-ltb (stampOf was y k) (stampOf was x k) (rw d (omega arith)), le-ltb (stampOf was x k) (stampOf was y k) (rw d (omega arith)))))
+
+    -- where nobody is asked, nothing changes
+    pub nobody : asked ≡ 0 → (y : ℕ) → y ≤ n → Turns y noTally was
+    unfolding forEach howMany responded
+    nobody e zero l = record { answer = refl; state = refl }
+    nobody e (suc y) l =
+        let ignores : responseIn 0 (r .takers) y ≡ response t was x k counts confirming y = judged 0 (λ z. rw (e, has-nothing z)) y (omega arith) in
+        subst (λ (m : ℕ). Turns m noTally was) (add-one y) (next-turn y (nobody e y (omega arith)) {r = Ignores} refl (rw (← ignores, has-nothing y)) refl refl refl)
 
 -- a response counts an agent at most once
 pub counts-once : (r : Response) → TallyWithin 1 (responseTally r)
@@ -92,5 +94,5 @@ counts-once Propagates = record { taken = omega arith }
 counts-once Ignores = record { taken = omega arith }
 
 -- after all turns the agent's own set loses the key
-pub key-dropped : {A : Type 0} {answer r : A} {left s : List ℕ} → Passed answer left r s → (place at k : ℕ) → at ≡ place → (out : List ℕ) → out ≡ dropKey at k s → Passed answer (dropKey place k left) r out
+pub key-dropped : {answer r : Tally} {left s : List ℕ} → Passed answer left r s → (place at k : ℕ) → at ≡ place → (out : List ℕ) → out ≡ dropKey at k s → Passed answer (dropKey place k left) r out
 key-dropped turns place at k e out d = record { answer = turns .answer; state = d ∙ rw (e, turns .state) }

@@ -1,6 +1,6 @@
 // Propagate and confirm: an agent's entry for a key is offered to every other agent.
 mod responses; // responses.rt: how an agent responds to an entry, what that writes and what it counts
-mod offers; // offers.rt: an entry offered to one agent, and to all
+mod offers; // offers.rt: whom an offer could touch, and the offer to all
 
 use offers::offer_all;
 pub use responses::add_tally;
@@ -17,6 +17,12 @@ ghost use Rattle.state.specs.Layout.{zcAt, zpAt};
 ghost use Rattle.state.specs.Standing.{Standing};
 ghost use Rattle.steps.specs.Offers.{offerTally, sent};
 ghost use Rattle.offering.specs.Passing.{Passing, Passed};
+
+// Sets of agents whom an offer could touch: those with an older entry, who may take it, and in a confirm those who hold a newer one.
+struct Receivers {
+    takers: u32,
+    holders: u32,
+}
 
 // The set that a step takes its key from: Zc for a confirm, else Zp.
 pub fn pending_at(agent: usize, confirming: bool) -> usize

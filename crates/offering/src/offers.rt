@@ -1,51 +1,49 @@
-// An agent's entry offered to another agent, and to all others.
+// An agent's entry offered to all others: who could be touched, whom of them the link reaches, and then what is written.
+use crate::Receivers;
 use crate::responses::add_tally;
 use crate::responses::no_tally;
 use crate::responses::respond;
 use crate::responses::tally_of;
 use crate::responses::write_response;
+use evaluation::links_hold;
+use evaluation::plus_if;
 use state::entry_of;
-use steps::Response;
+use state::newer;
 use steps::Tally;
 use table::Sizes;
-ghost use Prim.Native.Nat.{_<_};
-ghost use Rattle.table.specs.Tables.{table};
-ghost use Rattle.steps.specs.Offers.{response as responseOf, offer as offerTo, offerTally, offered};
-ghost use Rattle.offering.specs.Passing.{Passing, Passed};
+ghost use Prim.Native.Nat.{_≤_};
+ghost use Rattle.table.specs.Tables.{table, agentLimit};
+ghost use Rattle.state.specs.declared.Store.the-variants.{Entries};
+ghost use Rattle.state.specs.Standing.{Pair, HasBlocks};
+ghost use Rattle.steps.specs.Offers.{offerTally, offered};
+ghost use Rattle.offering.specs.Passing.{Passing, Passed, Touched};
 
-// Offers an agent's entry to another: how that one responds.
-fn offer_to(
-    sizes: Sizes,
-    kinds: &[u8],
-    operands: &[u8],
-    state: &mut [u32],
+// The agents whom an offer could touch.
+fn receivers(
+    state: &[u32],
+    agents: usize,
     agent: usize,
     key: usize,
     counts: bool,
     confirming: bool,
-    other: usize,
-) -> Response
-    requires { ⌜ Passing (table sizes (now kinds) (now operands)) (now state) agent key ⌝ }
-    requires { ⌜ other < sizes .agents ⌝ }
-    ensures { λ r. ⌜ Passed (responseOf (table sizes (now (kinds .entry)) (now (operands .entry))) (now (state .entry)) agent key counts confirming other) (offerTo (table sizes (now (kinds .entry)) (now (operands .entry))) (now (state .entry)) agent key counts confirming other (now (state .entry))) r (now (state .exit)) ⌝ }
+) -> Receivers
+    requires { ⌜ HasBlocks (now state) × (agents ≤ agentLimit) × Pair (Entries agent) key ⌝ }
+    ensures { λ r. ⌜ Touched (now (state .entry)) agent key counts confirming agents r ⌝ }
 {
-    let response = respond(
-        sizes,
-        kinds,
-        operands,
-        state,
-        agent,
-        key,
-        counts,
-        confirming,
-        other,
-    );
-    let entry = entry_of(state, agent, key);
-    write_response(state, key, entry, other, response);
-    response
+    let mine = entry_of(state, agent, key);
+    let mut takers = 0;
+    let mut holders = 0;
+    let mut other = 0;
+    while other < agents {
+        let theirs = entry_of(state, other, key);
+        takers = plus_if(counts & newer(mine, theirs), takers, other);
+        holders = plus_if(counts & confirming & newer(theirs, mine), holders, other);
+        other += 1;
+    }
+    Receivers { takers, holders }
 }
 
-// Offers an agent's entry to every other: what the responses count. A link reads its sender and its receiver alone, and neither has changed when it is asked.
+// Offers an agent's entry to every other: what the responses count. The link is judged once, before anything is written, and for those only who could be touched.
 pub fn offer_all(
     sizes: Sizes,
     kinds: &[u8],
@@ -59,20 +57,18 @@ pub fn offer_all(
     requires { ⌜ Passing (table sizes (now kinds) (now operands)) (now state) agent key ⌝ }
     ensures { λ r. ⌜ Passed (offerTally (table sizes (now (kinds .entry)) (now (operands .entry))) (now (state .entry)) agent key counts (sizes .agents)) (offered (table sizes (now (kinds .entry)) (now (operands .entry))) (now (state .entry)) agent key counts confirming (sizes .agents)) r (now (state .exit)) ⌝ }
 {
+    let touched = receivers(state, sizes.agents, agent, key, counts, confirming);
+    let asked = touched.takers | touched.holders;
     let mut tally = no_tally();
+    if asked == 0 {
+        return tally;
+    }
+    let linked = links_hold(sizes, kinds, operands, state, key, agent, asked);
+    let entry = entry_of(state, agent, key);
     let mut other = 0;
     while other < sizes.agents {
-        let response = offer_to(
-            sizes,
-            kinds,
-            operands,
-            state,
-            agent,
-            key,
-            counts,
-            confirming,
-            other,
-        );
+        let response = respond(linked, touched.takers, other);
+        write_response(state, key, entry, other, response);
         tally = add_tally(tally, tally_of(response));
         other += 1;
     }

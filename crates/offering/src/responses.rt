@@ -1,77 +1,32 @@
 // How an agent responds to another's entry, what that writes, and what it counts.
-use evaluation::link_holds;
 use state::Entry;
 use state::add_key;
 use state::drop_key;
-use state::entry_of;
-use state::newer;
 use state::put_entry;
 use state::zc_at;
 use state::zp_at;
 use steps::Response;
 use steps::Tally;
-use table::Sizes;
 ghost use mathlib.Core.Path.{_≡_};
 ghost use Prim.Native.Nat.{_<_};
-ghost use Rattle.table.specs.Tables.{table};
+ghost use Rattle.table.specs.Tables.{agentLimit};
 ghost use Rattle.state.specs.declared.Store.the-variants.{Entries};
 ghost use Rattle.state.specs.Standing.{Pair, HasBlocks};
-ghost use Rattle.steps.specs.Offers.{linked as linkedOf, takeEntry, response as responseOf, responded};
+ghost use Rattle.steps.specs.Offers.{takeEntry, responded};
 ghost use Rattle.steps.specs.Tallies.{noTally, addTally};
 ghost use Rattle.steps.specs.Runs.{stepLimit};
-ghost use Rattle.offering.specs.Passing.{Passing, responseTally, TallyWithin};
+ghost use Rattle.offering.specs.Passing.{responseIn, responseTally, TallyWithin};
 
-// Whether the link counts, the other one is another agent, and the key's link holds from the agent to it.
-fn linked(
-    sizes: Sizes,
-    kinds: &[u8],
-    operands: &[u8],
-    state: &[u32],
-    agent: usize,
-    key: usize,
-    counts: bool,
-    other: usize,
-) -> bool
-    requires { ⌜ Passing (table sizes (now kinds) (now operands)) (now state) agent key ⌝ }
-    requires { ⌜ other < sizes .agents ⌝ }
-    ensures { λ r. ⌜ r ≡ linkedOf (table sizes (now (kinds .entry)) (now (operands .entry))) (now (state .entry)) agent key counts other ⌝ }
+// How an agent responds: where the link reaches it, it takes the entry if its own is older, and else has to propagate its own.
+pub fn respond(linked: u32, takers: u32, agent: usize) -> Response
+    requires { ⌜ agent < agentLimit ⌝ }
+    ensures { λ r. ⌜ r ≡ responseIn linked takers agent ⌝ }
 {
-    if counts {
-        if agent != other {
-            return link_holds(sizes, kinds, operands, state, key, agent, other);
+    if basis::has(linked, agent) {
+        if basis::has(takers, agent) {
+            return Response::Takes;
         }
-    }
-    false
-}
-
-// How the other agent responds to the agent's entry. In a confirm, one that has a newer entry has to propagate it.
-pub fn respond(
-    sizes: Sizes,
-    kinds: &[u8],
-    operands: &[u8],
-    state: &[u32],
-    agent: usize,
-    key: usize,
-    counts: bool,
-    confirming: bool,
-    other: usize,
-) -> Response
-    requires { ⌜ Passing (table sizes (now kinds) (now operands)) (now state) agent key ⌝ }
-    requires { ⌜ other < sizes .agents ⌝ }
-    ensures { λ r. ⌜ r ≡ responseOf (table sizes (now (kinds .entry)) (now (operands .entry))) (now (state .entry)) agent key counts confirming other ⌝ }
-{
-    if !linked(sizes, kinds, operands, state, agent, key, counts, other) {
-        return Response::Ignores;
-    }
-    let mine = entry_of(state, agent, key);
-    let theirs = entry_of(state, other, key);
-    if newer(mine, theirs) {
-        return Response::Takes;
-    }
-    if confirming {
-        if newer(theirs, mine) {
-            return Response::Propagates;
-        }
+        return Response::Propagates;
     }
     Response::Ignores
 }

@@ -116,7 +116,7 @@ pub fn collect(
     kinds: &[u8],
     operands: &[u8],
     scratch: &[u32],
-    marks: &mut [u8],
+    marks: &mut [u32],
     words: &[u32],
     c: u64,
 )

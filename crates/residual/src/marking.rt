@@ -1,4 +1,4 @@
-// The guards of a residual's choice, as marks: one byte for each node.
+// The guards of a residual's choice, as marks.
 use crate::Step;
 use crate::Target;
 use crate::steps::step_at;
@@ -17,7 +17,7 @@ pub fn mark_at(
     kinds: &[u8],
     operands: &[u8],
     scratch: &[u32],
-    marks: &mut [u8],
+    marks: &mut [u32],
     words: &[u32],
     target: Target,
 )

@@ -10,8 +10,7 @@ ghost use Prim.Native.Nat.{ℕ, _≤_};
 ghost use lib.ListN.{length};
 ghost use Rattle.table.specs.Tables.{table};
 ghost use Rattle.table.specs.Sound.{Limits};
-ghost use Rattle.term.specs.Terms.{areTerms};
-ghost use Rattle.term.specs.Terms.{isOperator};
+ghost use Rattle.term.specs.Terms.{areTerms, isOperator};
 ghost use Rattle.residual.specs.Reading.{readAt, leafWord};
 
 impl Cursor {

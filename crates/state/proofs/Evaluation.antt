@@ -1,8 +1,8 @@
--- Expressions, guards and links look at values only: those of the environment and of their two parties' stores. And every value is a word of 32 bits.
+-- Every value is a word of 32 bits.
 -- Assumes nothing.
 use Prim.Native.Nat.{ℕ, _+_, _*_, _^_, _<_}
 use mathlib.Core.Bool.{true, cond}
-use mathlib.Core.Path.{_≡_, ap}
+use mathlib.Core.Path.{_≡_}
 use mathlib.Core.List.{List}
 use native.Mathlib.Omega.{arith}
 use lib.Dec.{eqb, ltb}
@@ -12,60 +12,19 @@ use lib.Signed.{leZ, quotZ, remZ}
 use mir.Syntax.{w32}
 use mir.Val.{ofZ}
 use borrow.Author.Tests.{leb-true}
-use Rattle.basis.proofs.Below.{below-ext, below-induct}
+use Rattle.basis.proofs.Below.{below-induct}
 use Rattle.basis.proofs.Tests.{and-right, cond-cases}
 use Rattle.value.specs.declared.Value.{Value}
 use Rattle.value.specs.declared.Value.the-variants.{Absent, Present}
-use Rattle.value.specs.declared.Truth.{Truth}
 use Rattle.value.specs.Values.{signedOf, inRange, fit, isZero, arithmetic, operate}
-use Rattle.value.specs.Truths.{undefined}
-use Rattle.table.specs.Tables.{Table, kindAt, pAt, qAt, constantAt, linkAt}
+use Rattle.table.specs.Tables.{Table, kindAt, pAt, qAt, constantAt}
 use Rattle.state.specs.declared.Store.{Store}
 use Rattle.state.specs.declared.Store.the-variants.{Environment, Attributes, Entries}
 use Rattle.state.specs.Layout.{keyLimit, markOf, valueIn}
-use Rattle.state.specs.Evaluation.{partyOf, valueStep, valueOf, truthStep, holds, linkHolds}
-use Rattle.state.specs.Walks.{valueBelow, truthBelow}
-use Rattle.state.proofs.Places.{Mark, Word}
+use Rattle.state.specs.Evaluation.{partyOf, valueStep, valueOf}
+use Rattle.state.specs.Walks.{valueBelow}
 use Rattle.state.specs.WellFormed.{Words}
-use Rattle.state.proofs.Frames.{SameAt, value-same}
 
--- two states have the same values in a store
-abbrev pub SameValues : List ℕ → List ℕ → Store → Type 0
-SameValues s u store = (k : ℕ) → valueIn s store k ≡ valueIn u store k
-
-pub words-values : (s u : List ℕ) (store : Store) → ((k : ℕ) → k < keyLimit → SameAt s u (Mark store k)) → ((k : ℕ) → k < keyLimit → SameAt s u (Word store k)) → SameValues s u store
-words-values s u store f g k = value-same s u store k (f k) (g k)
-
--- and those that an agent's expressions look at
-pub record SameParty (s u : List ℕ) (a : ℕ) : Type 0 where
-  pub attributes : SameValues s u (Attributes a)
-  pub entries : SameValues s u (Entries a)
-
-module _ (t : Table) (s u : List ℕ) (x y : ℕ) (environment : SameValues s u Environment) (sender : SameParty s u x) (receiver : SameParty s u y) where
-  party : (q : ℕ) → SameParty s u (partyOf x y q)
-  party q = cond-cases (SameParty s u) (eqb q 2) (λ e. receiver) (λ e. sender)
-
-  step-same : (value : ℕ → Value) (n : ℕ) → valueStep t s x y value n ≡ valueStep t u x y value n
-  unfolding valueStep
-  step-same value n =
-      let p = party (qAt t n) in
-      rw (p .attributes (pAt t n), p .entries (pAt t n), environment (pAt t n))
-
-  pub valueOf-same : (n : ℕ) → valueOf t s x y n ≡ valueOf t u x y n
-  valueOf-same n = below-ext (valueStep t s x y) (valueStep t u x y) Absent (t .sizes .nodes) (λ k l. step-same (valueBelow t s x y k) k) n
-
-  truth-same : (guard : ℕ → Truth) (n : ℕ) → truthStep t s x y guard n ≡ truthStep t u x y guard n
-  unfolding truthStep
-  truth-same guard n = rw (valueOf-same (pAt t n), valueOf-same (qAt t n))
-
-  pub holds-same : (n : ℕ) → holds t s x y n ≡ holds t u x y n
-  holds-same n = ap (λ (b : Truth). b .holds) (below-ext (truthStep t s x y) (truthStep t u x y) undefined (t .sizes .nodes) (λ k l. truth-same (truthBelow t s x y k) k) n)
-
-  -- so a link is judged alike while other agents change
-  pub link-same : (k : ℕ) → linkHolds t s k x y ≡ linkHolds t u k x y
-  link-same k = holds-same (linkAt t k)
-
--- WORDS OF 32 BITS
 abbrev pub SmallValue : Value → Type 0
 SmallValue Absent = Unit {0}
 SmallValue (Present v) = v < 2 ^ 32

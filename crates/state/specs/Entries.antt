@@ -23,7 +23,7 @@ newer e f = ltb (f .stamp) (e .stamp)
 abbrev pub putEntry : ℕ → ℕ → Entry → List ℕ → List ℕ
 putEntry a k e s = put (Entries a) k (e .value) (e .stamp) s
 
--- THE CLOCK: the highest stamp so far, which no entry's stamp is above, and the stamp that the next write takes; a clock at its limit has none
+-- THE CLOCK: the highest stamp so far. A write takes the next stamp; a clock at its limit has none
 abbrev pub clockLimit : ℕ
 clockLimit = 65535
 

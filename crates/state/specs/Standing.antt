@@ -3,10 +3,9 @@ use Prim.Native.Nat.{ℕ, _+_, _<_, _≤_}
 use mathlib.Core.Path.{_≡_}
 use mathlib.Core.List.{List}
 use lib.ListN.{length}
-use Rattle.table.specs.Tables.{agentLimit}
 use Rattle.state.specs.declared.Store.{Store}
 use Rattle.state.specs.declared.Store.the-variants.{Environment, Attributes, Entries}
-use Rattle.state.specs.Layout.{blocksEnd, keyLimit}
+use Rattle.state.specs.Layout.{agentLimit, keyLimit, blocksEnd}
 
 -- whose a store is; 0 where it is everyone's
 abbrev pub storeAgent : Store → ℕ

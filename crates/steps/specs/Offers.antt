@@ -26,7 +26,7 @@ responded k e y Ignores s = s
 
 -- `counts`: whether the key's link counts in this step
 module _ (t : Table) (was : List ℕ) (x k : ℕ) (counts : Bool) where
-  -- y is another agent, and the link from x to y holds
+  -- the key's link counts, y is another agent, and the link from x to y holds
   unfoldable pub linked : ℕ → Bool
   linked y = counts && (not (eqb x y) && linkHolds t was k x y)
 

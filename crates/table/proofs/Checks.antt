@@ -1,15 +1,15 @@
 -- Laws of checks in order.
 -- Assumes nothing.
-use Prim.Native.Nat.{ℕ, _<_, _≤_}
+use Prim.Native.Nat.{ℕ, _<_}
 use mathlib.Core.Bool.{Bool, true, false, cond}
 use mathlib.Core.Path.{_≡_, refl, sym, _∙_}
 use mathlib.Core.List.{List, [], _∷_, _++_}
 use native.Mathlib.Omega.{arith}
-use lib.Dec.{ltb, eqb}
-use borrow.Author.Tests.{lt-ltb, le-ltb, ltb-false, ne-eqb}
+use lib.Dec.{ltb}
+use borrow.Author.Tests.{le-ltb, ltb-false}
 use Rattle.basis.specs.Numbers.{lowest}
 use Rattle.basis.proofs.Numbers.{lowest-before, lowest-none}
-use Rattle.table.specs.Checks.{Check, passes, refuses, Refusal, firstOf, passed, refusalCheck}
+use Rattle.table.specs.Checks.{Check, passes, refuses, Refusal, firstOf, passed}
 
 refused : {number place : ℕ} → refuses number place ≡ passes → ⊥
 refused e = let z : _≡_ {A = ℕ} 0 1 = cc in omega arith
@@ -74,7 +74,3 @@ module _ (limit : ℕ) (test : ℕ → Bool) where
 
   pub passes-lowest : ((k : ℕ) → k < limit → test k ≡ false) → ltb (lowest test limit) limit ≡ false
   passes-lowest f = le-ltb (lowest test limit) limit (omega (arith, lowest-none test limit f))
-
--- a refusal's number, where there is one
-pub refusal-refuses : (number : ℕ) → (number ≡ 0 → ⊥) → refusalCheck number ≡ refuses number 0
-refusal-refuses number d = rw (ne-eqb number 0 d)

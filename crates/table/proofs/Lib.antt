@@ -7,5 +7,4 @@ pub mod Promises
 pub mod Marking
 pub mod Naming
 pub mod Spreading
-pub mod Halving
 pub mod Examples

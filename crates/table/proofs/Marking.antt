@@ -1,82 +1,101 @@
 -- Laws of marks, and of what is found of a node.
 -- Assumes nothing.
-use Prim.Native.Nat.{ℕ, _<_, _≤_}
-use mathlib.Core.Bool.{Bool, true, false, cond, not, _&&_, _||_, or-false, or-true}
+use Prim.Native.Nat.{ℕ, _+_, _<_}
+use mathlib.Core.Bool.{Bool, true, false, _&&_, _||_, and-true, and-false, or-false, or-true}
 use mathlib.Core.Path.{_≡_, refl, sym, ap, _∙_}
-use mathlib.Core.List.{List, _++_}
+use mathlib.Core.List.{List}
 use native.Mathlib.Omega.{arith}
 use lib.Dec.{eqb}
-use lib.ListN.{length, getD, set, replicate, length-set, length-append, length-replicate, List·getD-append}
+use lib.ListN.{length, getD, set, length-set}
 use lib.Seq.{getD-set-same, getD-set-other}
+use borrow.Author.Count.{below-more}
 use borrow.Author.Tests.{eqb-true, eqb-false}
+use Rattle.basis.specs.KeySets.{has}
+use Rattle.basis.proofs.KeySets.{has-plus, has-nothing}
 use Rattle.basis.proofs.Tests.{and-right}
-use Rattle.basis.proofs.Lists.{getD-row}
 use Rattle.table.specs.declared.Fields.{Fields}
 use Rattle.table.specs.declared.Look.{Look}
 use Rattle.table.specs.Tables.{Table, pAt, qAt}
-use Rattle.table.specs.Nodes.{fieldsAt, isNode, fits, fitting, leftNode, rightNode}
-use Rattle.table.specs.Marks.{isMarked, marked, Shows, Mark, TwoMarks, Looked}
+use Rattle.table.specs.Nodes.{fieldsAt, isNode, fits, fitting, leftNode, rightNode, names}
+use Rattle.table.specs.Reach.{processNode, linkRoot}
+use Rattle.table.specs.Marks.{namedBit, plusIf, firstWord, marking, isMarked, changed, Shows, Shown, Mark, TwoMarks, Looked}
 use Rattle.table.proofs.Operands.{left-lower, right-lower}
 
-abbrev pub word : Bool → ℕ
-word b = cond b 1 0
+pub changed-off : (change : ℕ → ℕ) (words : List ℕ) (on : Bool) (x : ℕ) → on ≡ false → words ≡ changed change words on x
+unfolding changed
+changed-off change words on x e = rw (changed, e)
 
-pub mark-off : (marks : List ℕ) (on : Bool) (x : ℕ) → on ≡ false → Mark marks marks on x false
-unfolding marked
-mark-off marks on x e = record { is = rw e; leaves = rw (marked, e) }
+pub changed-on : (change : ℕ → ℕ) (words : List ℕ) (on : Bool) (x : ℕ) {w : ℕ} → on ≡ true → w ≡ change (getD words x 0) → set words x w ≡ changed change words on x
+unfolding changed
+changed-on change words on x e d = rw (changed, e, d)
 
-pub mark-on : (marks : List ℕ) (on : Bool) (x : ℕ) → on ≡ true → Mark marks (set marks x 1) on x (isMarked marks x)
-unfolding marked
-mark-on marks on x e = record { is = rw e; leaves = rw (marked, e) }
+pub length-changed : (change : ℕ → ℕ) (words : List ℕ) (on : Bool) (x : ℕ) → length (changed change words on x) ≡ length words
+unfolding changed
+length-changed change words true x = simp length-set
+length-changed change words false x = refl
 
-pub length-marked : (marks : List ℕ) (on : Bool) (x : ℕ) → length (marked marks on x) ≡ length marks
-unfolding marked
-length-marked marks true x = simp length-set
-length-marked marks false x = refl
+module _ {process link : Bool} where
+  pub marks-length : {a b : List ℕ} {f g : Bool} {p q : ℕ} {r : Bool} → TwoMarks process link a b f p g q r → length b ≡ length a
+  marks-length {a} {b} {f} {g} {p} {q} m =
+      let change = marking process link in
+      rw (m .leaves) (length-changed change (changed change a f p) g q ∙ length-changed change a f p)
 
-pub mark-length : {a b : List ℕ} {on : Bool} {x : ℕ} {r : Bool} → Mark a b on x r → length b ≡ length a
-mark-length {a} {b} {on} {x} m = rw (m .leaves) (length-marked a on x)
+  pub marks-both : {a b c : List ℕ} {f g : Bool} {p q : ℕ} {r s : Bool} → Mark process link a b f p r → Mark process link b c g q s
+      → TwoMarks process link a c f p g q (r || s)
+  marks-both m k = record { is = rw (m .is, k .is, m .leaves); leaves = rw (k .leaves, m .leaves) }
 
-pub marks-length : {a b : List ℕ} {f g : Bool} {p q : ℕ} {r : Bool} → TwoMarks a b f p g q r → length b ≡ length a
-marks-length {a} {b} {f} {g} {p} {q} m = rw (m .leaves) (length-marked (marked a f p) g q ∙ length-marked a f p)
+-- a bit of every word after a change which gives it where d holds
+module _ (change : ℕ → ℕ) (j : ℕ) (d : Bool) (gives : (w : ℕ) → has (change w) j ≡ (d || has w j)) where
+  pub changed-is : (words : List ℕ) (on : Bool) (x : ℕ) → (on ≡ true → x < length words) → (m : ℕ)
+      → isMarked (changed change words on x) j m ≡ ((d && (on && eqb x m)) || isMarked words j m)
+  unfolding changed
+  changed-is words false x l m = rw (and-false d)
+  changed-is words true x l m = by (eqb x m) refl
+    where
+      new : ℕ
+      new = change (getD words x 0)
 
-pub marks-both : {a b c : List ℕ} {f g : Bool} {p q : ℕ} {r s : Bool} → Mark a b f p r → Mark b c g q s → TwoMarks a c f p g q (r || s)
-marks-both m k = record { is = rw (m .is, k .is, m .leaves); leaves = rw (k .leaves, m .leaves) }
+      by : (b : Bool) → eqb x m ≡ b → isMarked (set words x new) j m ≡ ((d && b) || isMarked words j m)
+      by true e = rw (← eqb-true x m e, and-true d, getD-set-same words x new 0 (l refl)) (gives (getD words x 0))
+      by false e = rw (and-false d, getD-set-other words x m new 0 (λ (g : m ≡ x). eqb-false x m e (sym g)))
 
--- one mark more
-pub shows-marked : (marks : List ℕ) (n : ℕ) (test : ℕ → Bool) (on : Bool) (x : ℕ) → Shows marks n test → (on ≡ true → x < length marks)
-    → Shows (marked marks on x) n (λ (m : ℕ). test m || (on && eqb x m))
-unfolding marked
-shows-marked marks n test false x h l m k = h m k ∙ ap word (sym (or-false (test m)))
-shows-marked marks n test true x h l m k = by (eqb x m) refl
-  where
-    by : (b : Bool) → eqb x m ≡ b → getD (set marks x 1) m 0 ≡ word (test m || b)
-    by true e = rw (← eqb-true x m e) (getD-set-same marks x 1 0 (l refl) ∙ ap word (sym (or-true (test x))))
-    by false e = getD-set-other marks x m 1 0 (λ (d : m ≡ x). eqb-false x m e (sym d)) ∙ h m k ∙ ap word (sym (or-false (test m)))
+-- a word with a bit more
+pub has-plusIf : (w bit : ℕ) (on : Bool) (j : ℕ) → has (plusIf w bit on) j ≡ ((eqb bit j && on) || has w j)
+unfolding plusIf
+has-plusIf w bit true j = rw (and-true (eqb bit j)) (has-plus w bit j)
+has-plusIf w bit false j = rw (and-false (eqb bit j))
 
--- no mark among words that begin with n cleared ones
-pub shows-none : {out : List ℕ} {n : ℕ} (rest : List ℕ) → out ≡ replicate n 0 → (n ≤ length (out ++ rest)) × Shows (out ++ rest) n (λ (m : ℕ). false)
-shows-none {n = n} rest e =
-    rw e (
-      omega (arith, length-append (replicate n 0) rest, length-replicate {A = ℕ} n 0),
-      (λ m l. List·getD-append (replicate n 0) rest 0 m (omega (arith, length-replicate {A = ℕ} n 0)) ∙ getD-row n m 0),
-    )
-
--- what a mark tells
-pub shows-is : (marks : List ℕ) (n : ℕ) (test : ℕ → Bool) (x : ℕ) → Shows marks n test → x < n → isMarked marks x ≡ test x
-shows-is marks n test x h l = ap (λ (v : ℕ). not (eqb v 0)) (h x l) ∙ back (test x)
-  where
-    back : (b : Bool) → not (eqb (word b) 0) ≡ b
-    back true = refl
-    back false = refl
+-- one word more shows one node more
+pub shows-next : (words : List ℕ) (bit i w : ℕ) (test : ℕ → Bool) → i < length words → Shows words bit i test → has w bit ≡ test i
+    → Shows (set words i w) bit (i + 1) test
+shows-next words bit i w test l h e =
+    below-more (λ (k : ℕ). isMarked (set words i w) bit k ≡ test k) i (λ k g. rw (getD-set-other words i k w 0 (omega arith)) (h k g))
+    (rw (getD-set-same words i w 0 l) e)
 
 -- two marks that a node makes for the nodes that it names, where it may
-pub marking-test : (v i l r e f : Bool) → ((v || ((i && l) && e)) || ((i && r) && f)) ≡ (v || (i && ((l && e) || (r && f))))
-marking-test true i l r e f = refl
-marking-test false false l r e f = refl
-marking-test false true l r e f = refl
+marking-test : (b i l r e f v : Bool) → ((b && ((i && r) && f)) || ((b && ((i && l) && e)) || v)) ≡ ((b && (i && ((l && e) || (r && f)))) || v)
+marking-test false i l r e f v = refl
+marking-test true false l r e f v = refl
+marking-test true true l r e f v = by (l && e) (r && f)
+  where
+    by : (x y : Bool) → (y || (x || v)) ≡ ((x || y) || v)
+    by true y = or-true y
+    by false y = refl
+
+pub first-named : (l r p k : Bool) → has (firstWord l r p k) namedBit ≡ false
+first-named l r p k = simp (has-plusIf, has-nothing)
 
 module _ (t : Table) where
+  pub shown-next : (words : List ℕ) (i : ℕ) {w : ℕ} → i < length words → Shown t words i
+      → w ≡ firstWord (leftNode t i) (rightNode t i) (processNode t i) (linkRoot t i) → Shown t (set words i w) (i + 1)
+  shown-next words i l s d =
+      record {
+        left = shows-next words _ i _ _ l (s .left) (rw d (simp (has-plusIf, has-nothing, or-false)));
+        right = shows-next words _ i _ _ l (s .right) (rw d (simp (has-plusIf, has-nothing, or-false)));
+        process = shows-next words _ i _ _ l (s .process) (rw d (simp (has-plusIf, has-nothing) (or-false (processNode t i))));
+        link = shows-next words _ i _ _ l (s .link) (rw d (simp (has-plusIf, has-nothing) (or-false (linkRoot t i))));
+      }
+
   pub looked : {n : ℕ} {f : Fields} {p q : ℕ} {a b l r : Bool}
       → f ≡ fieldsAt t n → p ≡ pAt t n → q ≡ qAt t n → a ≡ fits t n (f .p) p → b ≡ fits t n (f .q) q → l ≡ isNode (f .p) → r ≡ isNode (f .q)
       → Looked t n (record { fitting = a && b; left = l; right = r; p = p; q = q })
@@ -90,51 +109,33 @@ module _ (t : Table) where
         q = eq;
       }
 
-  module _ (on : Bool) (marks : List ℕ) {i : ℕ} {l : Look} (k : Looked t i l) where
-    -- what was found of a node says which marks are made
-    pub marks-found : {after : List ℕ} {r : Bool} → TwoMarks marks after (on && l .left) (l .p) (on && l .right) (l .q) r
-        → TwoMarks marks after (on && leftNode t i) (pAt t i) (on && rightNode t i) (qAt t i) r
-    marks-found m = rw (k .left, k .right, k .p, k .q) at m
+  -- what is found of a node that fits says which marks it makes, and they are of lower nodes
+  module _ {i : ℕ} {l : Look} (k : Looked t i l) where
+    pub marks-found : {words after : List ℕ} (on : Bool) {a s : Bool} (process link : Bool) {e f : Bool} → a ≡ on → e ≡ process → f ≡ link
+        → TwoMarks e f words after (a && l .left) (l .p) (a && l .right) (l .q) s
+        → TwoMarks process link words after (on && leftNode t i) (pAt t i) (on && rightNode t i) (qAt t i) s
+    marks-found on process link d e f m = rw (d, e, f, k .left, k .right, k .p, k .q) at m
 
-    -- and they are within the words
-    pub marks-inside : l .fitting ≡ true → i < t .sizes .nodes → t .sizes .nodes ≤ length marks
-        → ((on && l .left) ≡ true → l .p < length marks) × ((on && l .right) ≡ true → l .q < length marks)
-    marks-inside f h g = (
-      (λ e. let d = left-lower t i (sym (k .fitting) ∙ f) (sym (k .left) ∙ and-right on (l .left) e) in let z = k .p in omega arith),
-      (λ e. let d = right-lower t i (sym (k .fitting) ∙ f) (sym (k .right) ∙ and-right on (l .right) e) in let z = k .q in omega arith),
+    pub marks-lower : (on : Bool) → l .fitting ≡ true → ((on && l .left) ≡ true → l .p < i) × ((on && l .right) ≡ true → l .q < i)
+    marks-lower on f = (
+      (λ e. omega (arith, k .p, left-lower t i (sym (k .fitting) ∙ f) (sym (k .left) ∙ and-right on (l .left) e))),
+      (λ e. omega (arith, k .q, right-lower t i (sym (k .fitting) ∙ f) (sym (k .right) ∙ and-right on (l .right) e))),
     )
 
-  -- the words after the marks that node i makes for the nodes that it names
-  module _ (marks after : List ℕ) (i : ℕ) (on r : Bool) (test : ℕ → Bool) (h : Shows marks (t .sizes .nodes) test)
-      (long : t .sizes .nodes ≤ length marks) (small : i < t .sizes .nodes) (good : fitting t i ≡ true)
-      (m : TwoMarks marks after (on && leftNode t i) (pAt t i) (on && rightNode t i) (qAt t i) r) where
-    abbrev N : ℕ
-    N = t .sizes .nodes
+  -- the words after node i has changed those of the nodes that it names
+  module _ (change : ℕ → ℕ) (words : List ℕ) {after : List ℕ} (i : ℕ) (on : Bool) (small : i < length words) (good : fitting t i ≡ true)
+      (e : after ≡ changed change (changed change words (on && leftNode t i) (pAt t i)) (on && rightNode t i) (qAt t i))
+      (j : ℕ) (d : Bool) (gives : (w : ℕ) → has (change w) j ≡ (d || has w j)) where
+    abbrev once : List ℕ
+    once = changed change words (on && leftNode t i) (pAt t i)
 
-    abbrev L : Bool
-    L = leftNode t i
+    pub once-is : (k : ℕ) → isMarked once j k ≡ ((d && ((on && leftNode t i) && eqb (pAt t i) k)) || isMarked words j k)
+    once-is = changed-is change j d gives words (on && leftNode t i) (pAt t i) (λ e. omega (arith, left-lower t i good (and-right on (leftNode t i) e)))
 
-    abbrev R : Bool
-    R = rightNode t i
-
-    abbrev p : ℕ
-    p = pAt t i
-
-    abbrev q : ℕ
-    q = qAt t i
-
-    pub low-p : (on && L) ≡ true → p < N
-    low-p e = let l = left-lower t i good (and-right on L e) in omega arith
-
-    pub low-q : (on && R) ≡ true → q < N
-    low-q e = let l = right-lower t i good (and-right on R e) in omega arith
-
-    pub shows-once : Shows (marked marks (on && L) p) N (λ (k : ℕ). test k || ((on && L) && eqb p k))
-    shows-once = shows-marked marks N test (on && L) p h (λ e. let l = low-p e in omega arith)
-
-    pub shows-twice : Shows after N (λ (k : ℕ). test k || (on && ((L && eqb p k) || (R && eqb q k))))
-    shows-twice k g =
-        rw (m .leaves)
-        (shows-marked (marked marks (on && L) p) N (λ (k : ℕ). test k || ((on && L) && eqb p k)) (on && R) q shows-once
-        (λ e. let l = low-q e in let d = length-marked marks (on && L) p in omega arith) k g)
-        ∙ ap word (marking-test (test k) on L R (eqb p k) (eqb q k))
+    pub twice-is : (k : ℕ) → isMarked after j k ≡ ((d && (on && names t i k)) || isMarked words j k)
+    twice-is k =
+        ap (λ (ws : List ℕ). isMarked ws j k) e
+        ∙ changed-is change j d gives once (on && rightNode t i) (qAt t i)
+        (λ e. omega (arith, length-changed change words (on && leftNode t i) (pAt t i), right-lower t i good (and-right on (rightNode t i) e))) k
+        ∙ ap (λ (b : Bool). (d && ((on && rightNode t i) && eqb (qAt t i) k)) || b) (once-is k)
+        ∙ marking-test d on (leftNode t i) (rightNode t i) (eqb (pAt t i) k) (eqb (qAt t i) k) (isMarked words j k)

@@ -1,121 +1,132 @@
--- The descending pass: marks show what is reached from the nodes that pass a test.
+-- The descending pass: nodes hand on to those that they name what reaches them.
 -- Assumes nothing.
 use Prim.Native.Nat.{ℕ, suc, _+_, _<_, _≤_}
-use mathlib.Core.Bool.{Bool, true, _&&_, _||_, or-false}
-use mathlib.Core.Path.{_≡_, sym, ap, _∙_}
+use mathlib.Core.Bool.{Bool, true, false, cond, _&&_, _||_}
+use mathlib.Core.Path.{_≡_, refl, sym, ap, _∙_}
 use mathlib.Core.Logic.{⊎-elim}
 use mathlib.Core.List.{List}
 use native.Mathlib.Omega.{arith}
-use lib.Dec.{leb}
+use native.Mathlib.Numerals.{add-one}
 use lib.ListN.{length}
-use borrow.Author.Tests.{leb-true, le-leb, lt-leb}
-use Rattle.basis.specs.Numbers.{someBelow}
-use Rattle.basis.proofs.Numbers.{some-at, some-none, some-witness}
+use Rattle.basis.specs.KeySets.{has}
+use Rattle.basis.specs.Numbers.{someBelow, lowest}
+use Rattle.basis.proofs.KeySets.{has-plus}
+use Rattle.basis.proofs.Numbers.{some-not, lowest-none}
 use Rattle.basis.proofs.Tests.{same-test, and-left, and-right, and-both, or-either, or-left, or-right, same-or-other}
-use Rattle.table.specs.Tables.{Table, pAt, qAt}
+use Rattle.table.specs.Tables.{Table, kindAt, pAt, qAt}
 use Rattle.table.specs.Nodes.{fitting, leftNode, rightNode, names}
-use Rattle.table.specs.Reach.{reachedFrom}
-use Rattle.table.specs.Marks.{isMarked, Shows, TwoMarks}
+use Rattle.table.specs.Reach.{processNode, linkRoot, reachedFrom, wrongKey}
+use Rattle.table.specs.Marks.{leftBit, rightBit, processBit, linkBit, isMarked, marking, TwoMarks, Shows, Shown, Handed, Above, wrongHere}
 use Rattle.table.proofs.Operands.{names-lower}
 use Rattle.table.proofs.Reaches.{reached-start, reached-named, reached-how}
-use Rattle.table.proofs.Marking.{word, shows-is, shows-twice}
+use Rattle.table.proofs.Marking.{has-plusIf, twice-is}
 
-module _ (t : Table) (good : (k : ℕ) → k < t .sizes .nodes → fitting t k ≡ true) (start : ℕ → Bool) where
+module _ (t : Table) (good : (k : ℕ) → k < t .sizes .nodes → fitting t k ≡ true) where
   abbrev N : ℕ
   N = t .sizes .nodes
 
-  abbrev from : ℕ → Bool
-  from m = reachedFrom t start m
+  module _ (bit : ℕ) (start : ℕ → Bool) where
+    abbrev from : ℕ → Bool
+    from m = reachedFrom t start m
 
-  -- m starts, or a node from i up that is reached names it
-  abbrev via : ℕ → ℕ → ℕ → Bool
-  via i m k = leb i k && (from k && names t k m)
+    -- at first only the starts have the bit
+    handed-first : {words : List ℕ} → Shows words bit N start → Handed t words bit start N
+    handed-first h =
+        record {
+          sound = λ m l e. reached-start t good start m l (sym (h m l) ∙ e);
+          starts = λ m l e. h m l ∙ e;
+          named = λ k m g l e f. absurd (omega arith);
+        }
 
-  abbrev pub upper : ℕ → ℕ → Bool
-  upper i m = start m || someBelow (via i m) N
+    module _ {words : List ℕ} {i : ℕ} (small : i < N) (h : Handed t words bit start (i + 1)) where
+      -- the next node has it where it is reached, since only higher ones name it
+      handed-told : isMarked words bit i ≡ from i
+      handed-told =
+          same-test (isMarked words bit i) (from i) (h .sound i small)
+          (λ e.
+          ⊎-elim (λ (a : start i ≡ true). h .starts i small a)
+          (λ (w : (k : ℕ) × (k < N) × (from k ≡ true) × (names t k i ≡ true)).
+          let d = names-lower t (w .0) (good (w .0) (w .1)) i (w .3) in h .named (w .0) i (omega arith) (w .1) (w .2) (w .3))
+          (reached-how t good start i e))
 
-  via-at : (i m k : ℕ) → k < N → i ≤ k → from k ≡ true → names t k m ≡ true → someBelow (via i m) N ≡ true
-  via-at i m k h l e f = some-at (via i m) N k h (and-both (leb i k) (from k && names t k m) (le-leb i k l) (and-both (from k) (names t k m) e f))
+      -- and hands it on
+      handed-more : {after : List ℕ} → ((m : ℕ) → isMarked after bit m ≡ ((from i && names t i m) || isMarked words bit m)) → Handed t after bit start i
+      handed-more {after} g =
+          record {
+            sound = λ m l e.
+                ⊎-elim (λ (a : (from i && names t i m) ≡ true). reached-named t good start i m (and-left (from i) (names t i m) a) (and-right (from i) (names t i m) a))
+                (λ (a : isMarked words bit m ≡ true). h .sound m l a) (or-either (from i && names t i m) (isMarked words bit m) (sym (g m) ∙ e));
+            starts = λ m l e. kept m (h .starts m l e);
+            named = λ k m j l e f.
+                ⊎-elim (λ (a : k ≡ i). g m ∙ or-left (from i && names t i m) (isMarked words bit m) (rw a at (and-both (from k) (names t k m) e f)))
+                (λ (a : k ≡ i → ⊥). kept m (h .named k m (omega (arith, a)) l e f)) (same-or-other k i);
+          }
+        where
+          kept : (m : ℕ) → isMarked words bit m ≡ true → isMarked after bit m ≡ true
+          kept m e = g m ∙ or-right (from i && names t i m) (isMarked words bit m) e
 
-  abbrev Via : ℕ → ℕ → Type 0
-  Via i m = (k : ℕ) × (k < N) × (i ≤ k) × (from k ≡ true) × (names t k m ≡ true)
+  abbrev byProcess : ℕ → Bool
+  byProcess m = reachedFrom t (processNode t) m
 
-  via-which : (i m : ℕ) → someBelow (via i m) N ≡ true → Via i m
-  via-which i m e =
-      let w = some-witness (via i m) N e in
-      let k = w .0 in
-      let v : (from k && names t k m) ≡ true = and-right (leb i k) (from k && names t k m) (w .2) in
-      (k, w .1, leb-true i k (and-left (leb i k) (from k && names t k m) (w .2)), and-left (from k) (names t k m) v, and-right (from k) (names t k m) v)
+  abbrev byLink : ℕ → Bool
+  byLink m = reachedFrom t (linkRoot t) m
 
-  -- where that is all that can name m, it is whether m is reached
-  upper-is : (i m : ℕ) → i ≤ suc m → m < N → upper i m ≡ from m
-  upper-is i m l h = same-test (upper i m) (from m) there back
+  pub above-first : {words : List ℕ} → Shown t words N → Above t words N
+  above-first s =
+      record {
+        left = s .left;
+        right = s .right;
+        process = handed-first processBit (processNode t) (s .process);
+        link = handed-first linkBit (linkRoot t) (s .link);
+      }
+
+  module _ {words : List ℕ} {i : ℕ} (small : i < N) (h : Above t words (i + 1)) where
+    pub process-told : isMarked words processBit i ≡ byProcess i
+    process-told = handed-told processBit (processNode t) small (h .process)
+
+    pub link-told : isMarked words linkBit i ≡ byLink i
+    link-told = handed-told linkBit (linkRoot t) small (h .link)
+
+    pub wrong-told : {party : ℕ} {process link : Bool} → party ≡ qAt t i → process ≡ isMarked words processBit i → link ≡ isMarked words linkBit i
+        → wrongHere (kindAt t i) party process link ≡ wrongKey t i
+    unfolding wrongKey
+    wrong-told d e f = rw (d, e ∙ process-told, f ∙ link-told, wrongKey)
+
+    pub above-more : {after : List ℕ} {r : Bool} → N ≤ length words
+        → TwoMarks (byProcess i) (byLink i) words after (leftNode t i) (pAt t i) (rightNode t i) (qAt t i) r → Above t after i
+    above-more {after} long m =
+        record {
+          left = λ k g. given leftBit false (λ w. rw (has-plusIf, has-plusIf, has-plus)) k ∙ h .left k g;
+          right = λ k g. given rightBit false (λ w. rw (has-plusIf, has-plusIf, has-plus)) k ∙ h .right k g;
+          process = handed-more processBit (processNode t) small (h .process) (given processBit (byProcess i) (λ w. rw (has-plusIf, has-plusIf, has-plus)));
+          link = handed-more linkBit (linkRoot t) small (h .link) (given linkBit (byLink i) (λ w. rw (has-plusIf, has-plusIf, has-plus)));
+        }
+      where
+        given : (j : ℕ) (d : Bool) → ((w : ℕ) → has (marking (byProcess i) (byLink i) w) j ≡ (d || has w j))
+            → (k : ℕ) → isMarked after j k ≡ ((d && names t i k) || isMarked words j k)
+        given = twice-is t (marking (byProcess i) (byLink i)) words i true (omega arith) (good i small) (m .leaves)
+
+-- the lowest that passes, found from above
+lowest-test : (a b : Bool) (x i j n : ℕ) → cond (a || b) (cond a x (cond b i j)) n ≡ cond a x (cond b i n)
+lowest-test true b x i j n = refl
+lowest-test false true x i j n = refl
+lowest-test false false x i j n = refl
+
+module _ (test : ℕ → Bool) (n : ℕ) where
+  abbrev pub Lower : ℕ → ℕ → Type 0
+  Lower i low = lowest test n ≡ cond (someBelow test i) (lowest test i) low
+
+  pub lower-first : Lower n n
+  lower-first = by (someBelow test n) refl
     where
-      there : upper i m ≡ true → from m ≡ true
-      there e =
-          ⊎-elim
-          (λ (a : start m ≡ true). reached-start t good start m h a)
-          (λ (a : someBelow (via i m) N ≡ true). let w = via-which i m a in reached-named t good start (w .0) m (w .3) (w .4))
-          (or-either (start m) (someBelow (via i m) N) e)
+      by : (b : Bool) → someBelow test n ≡ b → lowest test n ≡ cond b (lowest test n) n
+      by true e = refl
+      by false e = lowest-none test n (some-not test n e)
 
-      back : from m ≡ true → upper i m ≡ true
-      back e =
-          ⊎-elim
-          (λ (a : start m ≡ true). or-left (start m) (someBelow (via i m) N) a)
-          (λ (w : (k : ℕ) × (k < N) × (from k ≡ true) × (names t k m ≡ true)).
-          let d = names-lower t (w .0) (good (w .0) (w .1)) m (w .3) in
-          or-right (start m) (someBelow (via i m) N) (via-at i m (w .0) (w .1) (omega arith) (w .2) (w .3)))
-          (reached-how t good start m e)
+  pub lower-more : (i low : ℕ) → Lower (i + 1) low → Lower i (cond (test i) i low)
+  unfolding someBelow lowest
+  lower-more i low h = (rw (add-one i) at h) ∙ lowest-test (someBelow test i) (test i) (lowest test i) i (suc i) low
 
-  -- one node more
-  upper-more : (i m : ℕ) → i < N → upper i m ≡ (upper (i + 1) m || (from i && names t i m))
-  upper-more i m h = same-test (upper i m) (upper (i + 1) m || (from i && names t i m)) there back
-    where
-      there : upper i m ≡ true → (upper (i + 1) m || (from i && names t i m)) ≡ true
-      there e =
-          ⊎-elim
-          (λ (a : start m ≡ true). or-left (upper (i + 1) m) (from i && names t i m) (or-left (start m) (someBelow (via (i + 1) m) N) a))
-          (λ (a : someBelow (via i m) N ≡ true).
-          let w = via-which i m a in
-          let k = w .0 in
-          ⊎-elim
-          (λ (c : k ≡ i). or-right (upper (i + 1) m) (from i && names t i m) (sym (ap (λ (x : ℕ). from x && names t x m) c) ∙ and-both (from k) (names t k m) (w .3) (w .4)))
-          (λ (c : k ≡ i → ⊥).
-          or-left (upper (i + 1) m) (from i && names t i m)
-          (or-right (start m) (someBelow (via (i + 1) m) N) (via-at (i + 1) m k (w .1) (omega (arith, c)) (w .3) (w .4))))
-          (same-or-other k i))
-          (or-either (start m) (someBelow (via i m) N) e)
-
-      back : (upper (i + 1) m || (from i && names t i m)) ≡ true → upper i m ≡ true
-      back e =
-          ⊎-elim
-          (λ (a : upper (i + 1) m ≡ true).
-          ⊎-elim
-          (λ (b : start m ≡ true). or-left (start m) (someBelow (via i m) N) b)
-          (λ (b : someBelow (via (i + 1) m) N ≡ true).
-          let w = via-which (i + 1) m b in
-          or-right (start m) (someBelow (via i m) N) (via-at i m (w .0) (w .1) (omega arith) (w .3) (w .4)))
-          (or-either (start m) (someBelow (via (i + 1) m) N) a))
-          (λ (a : (from i && names t i m) ≡ true).
-          or-right (start m) (someBelow (via i m) N) (via-at i m i h (omega arith) (and-left (from i) (names t i m) a) (and-right (from i) (names t i m) a)))
-          (or-either (upper (i + 1) m) (from i && names t i m) e)
-
-  -- a turn at node i marks what it names, if it is marked itself
-  pub upper-shown : (marks after : List ℕ) (i : ℕ) (r : Bool) → Shows marks N (upper (i + 1)) → N ≤ length marks → i < N
-      → TwoMarks marks after (isMarked marks i && leftNode t i) (pAt t i) (isMarked marks i && rightNode t i) (qAt t i) r → Shows after N (upper i)
-  upper-shown marks after i r h long small m k g =
-      shows-twice t marks after i (isMarked marks i) r (upper (i + 1)) h long small (good i small) m k g
-      ∙ ap word (ap (λ (b : Bool). upper (i + 1) k || (b && names t i k)) on-is ∙ sym (upper-more i k small))
-    where
-      on-is : isMarked marks i ≡ from i
-      on-is = shows-is marks N (upper (i + 1)) i h small ∙ upper-is (i + 1) i (omega arith) small
-
-  -- before the first turn only the starts are marked, and after the last what is reached
-  pub upper-first : (marks : List ℕ) → Shows marks N start → Shows marks N (upper N)
-  upper-first marks h k g = h k g ∙ ap word (sym (out k))
-    where
-      out : (k : ℕ) → upper N k ≡ start k
-      out k = ap (λ (b : Bool). start k || b) (some-none (via N k) N (λ j l. ap (λ (b : Bool). b && (from j && names t j k)) (lt-leb N j l))) ∙ or-false (start k)
-
-  pub upper-last : (marks : List ℕ) → Shows marks N (upper 0) → Shows marks N from
-  upper-last marks h k g = h k g ∙ ap word (upper-is 0 k (omega arith) g)
+  pub lower-last : (low : ℕ) → Lower 0 low → low ≡ lowest test n
+  unfolding someBelow
+  lower-last low h = sym h

@@ -2,7 +2,7 @@
 use Prim.Native.Nat.{ℕ}
 use mathlib.Core.Bool.{Bool, true, false, cond}
 use mathlib.Core.List.{List, [], _∷_}
-use lib.Dec.{eqb, ltb}
+use lib.Dec.{ltb}
 
 -- a line of the paper's table of refusals: the number returned, when, and the place
 pub record Refusal : Type 0 where
@@ -40,7 +40,3 @@ numberOf (refuses number place) = number
 abbrev pub placeOf : Check → ℕ
 placeOf passes = 0
 placeOf (refuses number place) = place
-
--- a refusal's number with no place, where 0 stands for none
-abbrev pub refusalCheck : ℕ → Check
-refusalCheck number = cond (eqb number 0) passes (refuses number 0)

@@ -5,4 +5,3 @@ pub mod Reach
 pub mod Sound
 pub mod Measuring
 pub mod Marks
-pub mod Halves

@@ -1,34 +1,64 @@
--- Marks in lent words: 1 for a node that is marked, 0 for any other. And what is found of a node.
-use Prim.Native.Nat.{ℕ, _<_}
+-- Bits in lent words, a word for each node, as refusals 4 and 5 use them. And what is found of a node.
+use Prim.Native.Nat.{ℕ, _+_, _<_, _≤_}
 use mathlib.Core.Path.{_≡_}
-use mathlib.Core.Bool.{Bool, cond, not, _&&_, _||_}
+use mathlib.Core.Bool.{Bool, true, cond, not, _&&_, _||_}
 use mathlib.Core.List.{List}
-use lib.Dec.{eqb}
-use lib.ListN.{getD, set}
+use lib.Dec.{leb, eqb}
+use lib.ListN.{length, getD, set}
+use Rattle.basis.specs.KeySets.{has, plus}
+use Rattle.basis.specs.Kinds as kind
+use Rattle.basis.specs.Numbers.{lowest}
 use Rattle.table.specs.declared.Look.{Look}
 use Rattle.table.specs.Tables.{Table, pAt, qAt}
-use Rattle.table.specs.Nodes.{fitting, leftNode, rightNode}
+use Rattle.table.specs.Nodes.{fitting, leftNode, rightNode, names, badNode}
+use Rattle.table.specs.Reach.{processNode, linkRoot, reachedFrom, wrongKey}
+use Rattle.table.specs.Sound.{Shaped}
 
-abbrev pub isMarked : List ℕ → ℕ → Bool
-isMarked marks x = not (eqb (getD marks x 0) 0)
+-- the bits of a node's word: another node names it; its p, its q is a node; a process, a link reaches it
+abbrev pub namedBit : ℕ
+namedBit = 0
 
--- x is marked too, if asked to
-unfoldable pub marked : List ℕ → Bool → ℕ → List ℕ
-marked marks on x = cond on (set marks x 1) marks
+abbrev pub leftBit : ℕ
+leftBit = 1
 
--- the words show a test of the first n nodes
-abbrev pub Shows : List ℕ → ℕ → (ℕ → Bool) → Type 0
-Shows marks n test = (m : ℕ) → m < n → getD marks m 0 ≡ cond (test m) 1 0
+abbrev pub rightBit : ℕ
+rightBit = 2
 
--- one mark: whether it was there, and the words after
-pub record Mark (before after : List ℕ) (on : Bool) (x : ℕ) (there : Bool) : Type 0 where
-  pub is : there ≡ (on && isMarked before x)
-  pub leaves : after ≡ marked before on x
+abbrev pub processBit : ℕ
+processBit = 3
 
--- two marks, one after the other: whether one of them was there
-pub record TwoMarks (before after : List ℕ) (first : Bool) (p : ℕ) (second : Bool) (q : ℕ) (there : Bool) : Type 0 where
-  pub is : there ≡ ((first && isMarked before p) || (second && isMarked (marked before first p) q))
-  pub leaves : after ≡ marked (marked before first p) second q
+abbrev pub linkBit : ℕ
+linkBit = 4
+
+-- a word with a bit, if asked to
+unfoldable pub plusIf : ℕ → ℕ → Bool → ℕ
+plusIf w bit on = cond on (plus w bit) w
+
+-- the word of a node that nothing names yet
+abbrev pub firstWord : Bool → Bool → Bool → Bool → ℕ
+firstWord left right process link = plusIf (plusIf (plusIf (plusIf 0 leftBit left) rightBit right) processBit process) linkBit link
+
+abbrev pub isMarked : List ℕ → ℕ → ℕ → Bool
+isMarked words bit x = has (getD words x 0) bit
+
+-- the word of x is changed, if asked to
+unfoldable pub changed : (ℕ → ℕ) → List ℕ → Bool → ℕ → List ℕ
+changed change words on x = cond on (set words x (change (getD words x 0))) words
+
+-- to that of a node which is named too, by one that a process, a link reaches
+abbrev pub marking : Bool → Bool → ℕ → ℕ
+marking process link w = plusIf (plusIf (plus w namedBit) processBit process) linkBit link
+
+module _ (process link : Bool) where
+  -- one node marked: whether it was named before, and the words after
+  pub record Mark (before after : List ℕ) (on : Bool) (x : ℕ) (there : Bool) : Type 0 where
+    pub is : there ≡ (on && isMarked before namedBit x)
+    pub leaves : after ≡ changed (marking process link) before on x
+
+  -- two, one after the other: whether one of them was
+  pub record TwoMarks (before after : List ℕ) (first : Bool) (p : ℕ) (second : Bool) (q : ℕ) (there : Bool) : Type 0 where
+    pub is : there ≡ ((first && isMarked before namedBit p) || (second && isMarked (changed (marking process link) before first p) namedBit q))
+    pub leaves : after ≡ changed (marking process link) (changed (marking process link) before first p) second q
 
 pub record Looked (t : Table) (n : ℕ) (l : Look) : Type 0 where
   pub fitting : l .fitting ≡ fitting t n
@@ -36,3 +66,51 @@ pub record Looked (t : Table) (n : ℕ) (l : Look) : Type 0 where
   pub right : l .right ≡ rightNode t n
   pub p : l .p ≡ pAt t n
   pub q : l .q ≡ qAt t n
+
+-- a bit of the words shows a test of the first n nodes
+abbrev pub Shows : List ℕ → ℕ → ℕ → (ℕ → Bool) → Type 0
+Shows words bit n test = (m : ℕ) → m < n → isMarked words bit m ≡ test m
+
+-- the words show of the first n nodes which fields are nodes, and where processes and links start
+pub record Shown (t : Table) (words : List ℕ) (n : ℕ) : Type 0 where
+  pub left : Shows words leftBit n (leftNode t)
+  pub right : Shows words rightBit n (rightNode t)
+  pub process : Shows words processBit n (processNode t)
+  pub link : Shows words linkBit n (linkRoot t)
+
+-- what looking for a bad node finds, and leaves where there is none
+pub record Bad (t : Table) (words : List ℕ) (r : ℕ) : Type 0 where
+  pub is : r ≡ lowest (badNode t) (t .sizes .nodes)
+  pub leaves : t .sizes .nodes ≤ r → Shown t words (t .sizes .nodes)
+
+-- the nodes from i up have handed on a bit: only reached nodes have it, all starts, and what the reached of those name
+pub record Handed (t : Table) (words : List ℕ) (bit : ℕ) (start : ℕ → Bool) (i : ℕ) : Type 0 where
+  pub sound : (m : ℕ) → m < t .sizes .nodes → isMarked words bit m ≡ true → reachedFrom t start m ≡ true
+  pub starts : (m : ℕ) → m < t .sizes .nodes → start m ≡ true → isMarked words bit m ≡ true
+  pub named : (k m : ℕ) → i ≤ k → k < t .sizes .nodes → reachedFrom t start k ≡ true → names t k m ≡ true → isMarked words bit m ≡ true
+
+-- the words then
+pub record Above (t : Table) (words : List ℕ) (i : ℕ) : Type 0 where
+  pub left : Shows words leftBit (t .sizes .nodes) (leftNode t)
+  pub right : Shows words rightBit (t .sizes .nodes) (rightNode t)
+  pub process : Handed t words processBit (processNode t) i
+  pub link : Handed t words linkBit (linkRoot t) i
+
+-- a node of this kind and party is wrong, by what reaches it
+abbrev pub wrongHere : ℕ → ℕ → Bool → Bool → Bool
+wrongHere k party process link =
+    (leb kind.attribute k && leb k kind.environment)
+    && ((process && not (eqb party 0))
+    || (link && (eqb k kind.environment || eqb party 0)))
+
+-- node i is next: what visiting it asks, and does
+pub record Descends (t : Table) (words : List ℕ) (i : ℕ) : Type 0 where
+  pub shaped : Shaped t
+  pub long : t .sizes .nodes ≤ length words
+  pub inside : i < t .sizes .nodes
+  pub fit : (k : ℕ) → k < t .sizes .nodes → fitting t k ≡ true
+  pub above : Above t words (i + 1)
+
+pub record Visit (t : Table) (words : List ℕ) (i lowest r : ℕ) : Type 0 where
+  pub is : r ≡ cond (wrongKey t i) i lowest
+  pub above : Above t words i

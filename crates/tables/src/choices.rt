@@ -1,4 +1,5 @@
 // The last choice of a residual: what it does, under how many guards, and what it leaves.
+use choice::marking::has_mark;
 use residual::choosing::collect;
 use residual::choosing::count_choices;
 use residual::choosing::outcome;
@@ -7,14 +8,13 @@ use table::Sizes;
 use table::is_guard;
 use term::Label;
 ghost use mathlib.Core.Path.{_≡_};
-ghost use Prim.Native.Nat.{_≤_};
+ghost use Prim.Native.Nat.{_*_, _≤_};
 ghost use lib.ListN.{length, take};
 ghost use Rattle.basis.specs.Numbers.{howMany};
 ghost use Rattle.table.specs.Tables.{table};
-ghost use Rattle.choice.specs.Marking.{WalkMarks};
+ghost use Rattle.choice.specs.Marking.{markedGuard, WalkMarks};
 ghost use Rattle.choice.specs.Turns.{Prepared};
 ghost use Rattle.residual.specs.Wholes.{Whole};
-ghost use Rattle.tables.specs.Guards.{markedGuard};
 
 fn print_number(n: u64) {
     io::write_all(1, b" ");
@@ -31,14 +31,14 @@ fn print_does(does: Label) {
 }
 
 // How many guards are marked; a process node that is marked as walked does not count.
-fn marked_guards(kinds: &[u8], marks: &[u8]) -> usize
-    requires { ⌜ length (now kinds) ≤ length (now marks) ⌝ }
+fn marked_guards(kinds: &[u8], marks: &[u32]) -> usize
+    requires { ⌜ length (now kinds) ≤ 32 * length (now marks) ⌝ }
     ensures { λ r. ⌜ r ≡ howMany (markedGuard (now (kinds .entry)) (now (marks .entry))) (length (now (kinds .entry))) ⌝ }
 {
     let mut count: usize = 0;
     let mut i = 0;
     while i < kinds.len() {
-        if is_guard(kinds[i]) & (marks[i] == 1) {
+        if is_guard(kinds[i]) & has_mark(marks, i) {
             count += 1;
         }
         i += 1;
@@ -61,7 +61,7 @@ pub fn print_last_choice(
     kinds: &[u8],
     operands: &[u8],
     scratch: &[u32],
-    marks: &mut [u8],
+    marks: &mut [u32],
     words: &mut [u32],
 )
     requires { ⌜ Prepared (table sizes (now kinds) (now operands)) (now scratch) ⌝ }

@@ -34,7 +34,7 @@ fn print_start(sizes: Sizes, kinds: &[u8], operands: &[u8], scratch: &[u32])
     if !whole_term(sizes, kinds, &words[..1]) {
         return;
     }
-    let mut marks = [0u8; 4096];
+    let mut marks = [0u32; 128];
     print_last_choice(sizes, kinds, operands, scratch, &mut marks, &mut words);
 }
 

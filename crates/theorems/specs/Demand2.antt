@@ -14,7 +14,6 @@ use Rattle.term.specs.Processes.{Derivation, derivations, process}
 use Rattle.state.specs.Evaluation.{linkHolds}
 use Rattle.state.specs.WellFormed.{Proper, Words}
 use Rattle.steps.specs.declared.Tally.{Tally}
-use Rattle.steps.specs.Tallies.{tally, noTally}
 use Rattle.steps.specs.Steps.{done, stateChecks, loadOf, stepOf}
 use Rattle.labs.specs.Agents.{System}
 use Rattle.labs.specs.Expressions.{_⊨_, φ}
@@ -23,16 +22,16 @@ use Rattle.labs.specs.Systems.{Acted, Passed, put, qry, between}
 use Rattle.labs.specs.Reading.{systemOf, initial}
 use Rattle.theorems.specs.Run.{Run}
 
--- The step (kind, agent, number) may take S to S′ and tallies the agents that take an entry: a rule gives it and the limits allow it:
+-- The step (kind, agent, number) may take S to S′, with this tally of the agents that take an entry: a rule gives it and the limits allow it:
 -- at most 65,535 derivations of every subterm of the residual, a clock of at most 65,535, at most 63 words left
 pub data Allowed (t : Table) (S S′ : System) : ℕ → ℕ → ℕ → Tally → Type 0 where
   act : {x c : ℕ} {d : Derivation} → Acted t (t .sizes .agents) x d S S′ → getElem? (derivations (process t (S .agent x .P))) c ≡ some d →
       ((P : Term) → Subterm P (S .agent x .P) → length (derivations (process t P)) ≤ 65535) →
-      S′ .clock ≤ 65535 → length (words (d .leaving)) ≤ 63 → Allowed t S S′ 0 x c noTally
+      S′ .clock ≤ 65535 → length (words (d .leaving)) ≤ 63 → Allowed t S S′ 0 x c (record { taken = 0 })
   propagate : {x k : ℕ} {took : ℕ → Bool} → k < t .sizes .stigmergy → Passed t (t .sizes .agents) x put k took S S′ →
-      Allowed t S S′ 1 x k (tally (howMany took (t .sizes .agents)))
+      Allowed t S S′ 1 x k (record { taken = howMany took (t .sizes .agents) })
   confirm : {x k : ℕ} {took : ℕ → Bool} → k < t .sizes .stigmergy → Passed t (t .sizes .agents) x qry k took S S′ →
-      Allowed t S S′ 2 x k (tally (howMany took (t .sizes .agents)))
+      Allowed t S S′ 2 x k (record { taken = howMany took (t .sizes .agents) })
 
 -- bytes, as slices hold them
 abbrev pub Bytes : List ℕ → Type 0

@@ -9,7 +9,6 @@ use Rattle.basis.specs.Numbers.{howMany, forEach}
 use Rattle.basis.specs.Bytes.{u16At}
 use Rattle.agreement.specs.Machine.{afterSteps}
 use Rattle.table.specs.Checks.{passes, refuses, firstOf, passed, numberOf}
-use Rattle.steps.specs.Tallies.{noTally}
 use Rattle.steps.specs.Steps.{Outcome, stateChecks}
 use Rattle.steps.specs.Runs.{Progress, runOf}
 use Rattle.theorems.specs.Lists.{Step, outcomeOf, next}
@@ -57,4 +56,4 @@ module _ (bytes s : List ℕ) (scratch : ℕ) (schedule : List ℕ) where
         InTurn answers (size schedule) (runOf bytes s scratch schedule answers .progress)
     -- a refused run leaves state and answers as they came, and its totals are 0
     pub run-refused : (number place : ℕ) → runOf bytes s scratch schedule answers .check ≡ refuses number place →
-        runOf bytes s scratch schedule answers .progress ≡ record { state = s; answers = answers; done = 0; refused = 0; tally = noTally }
+        runOf bytes s scratch schedule answers .progress ≡ record { state = s; answers = answers; done = 0; refused = 0; tally = record { taken = 0 } }

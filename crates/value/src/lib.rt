@@ -1,8 +1,8 @@
-// Values and truths, and the operations, comparisons and connectives on them.
+// Values, the operations and comparisons on them, and what a comparison comes to.
 use basis::kinds;
 ghost use mathlib.Core.Path.{_≡_};
 ghost use Rattle.value.specs.Values.{signedOf, fit, arithmetic, operate as operateOf};
-ghost use Rattle.value.specs.Truths.{testOf, compareValues as compareOf, connect as connectOf};
+ghost use Rattle.value.specs.Truths.{testOf, compareValues as compareOf};
 
 // A value: absent, or a signed 32-bit number as its two's complement word.
 pub enum Value {
@@ -104,29 +104,5 @@ pub fn compare_values(kind: u8, a: Value, b: Value) -> Truth
     Truth {
         defined: true,
         holds: test(kind, x, y),
-    }
-}
-
-// Not, and, or on what their parts come to.
-pub fn connect(kind: u8, a: Truth, b: Truth) -> Truth
-    ensures { λ r. ⌜ r ≡ connectOf kind a b ⌝ }
-{
-    match kind {
-        kinds::NOT => Truth {
-            defined: a.defined,
-            holds: a.defined & !a.holds,
-        },
-        kinds::AND => Truth {
-            defined: a.defined & b.defined,
-            holds: a.holds & b.holds,
-        },
-        kinds::OR => Truth {
-            defined: a.defined & b.defined,
-            holds: a.holds | b.holds,
-        },
-        _ => Truth {
-            defined: false,
-            holds: false,
-        },
     }
 }

@@ -599,7 +599,8 @@ fn long_schedule(rng: &mut Rng) -> Case {
     case_at(table, &World::start(&fleet), call)
 }
 
-/// A chain of about 4,000 nodes under one another.
+/// A chain of about 4,000 nodes under one another: sequences, choices, a guard, an expression, ticks before an action, and those as a
+/// definition's body.
 pub fn deep_chain(kind: usize) -> Draft {
     let mut draft = Draft::new(1, 0);
     let room = MAX_NODES - 12;
@@ -628,7 +629,7 @@ pub fn deep_chain(kind: usize) -> Draft {
             }
             draft.set_attribute(0, value)
         }
-        _ => {
+        4 | 5 => {
             let one = draft.constant(1);
             let mut top = draft.set_attribute(0, one);
             for _ in 0..room / 2 {
@@ -637,8 +638,15 @@ pub fn deep_chain(kind: usize) -> Draft {
             }
             top
         }
+        _ => unreachable!("there is no chain of kind {kind}"),
     };
-    draft.agent(start);
+    if kind == 5 {
+        draft.define(start);
+        let call = draft.call(0);
+        draft.agent(call);
+    } else {
+        draft.agent(start);
+    }
     draft
 }
 

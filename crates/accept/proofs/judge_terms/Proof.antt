@@ -1,22 +1,20 @@
 -- `accept::judge_terms` meets its contract.
 -- Assumes nothing.
 use Prim.Native.Nat.{ℕ}
-use mathlib.Core.Path.{subst, _∙_}
-use native.Mathlib.Omega.{arith}
+use mathlib.Core.Path.{_∙_}
 use denote.Ref.{now}
-use Rattle.table.specs.Tables.{Table, table, firstRoot}
+use Rattle.table.specs.Tables.{Table, table}
 use Rattle.term.specs.Exposure.{badCall}
 use Rattle.term.specs.Acceptance.{overfull}
-use Rattle.accept.specs.Scratch.{Held}
 use Rattle.accept.proofs.judge_terms.Statement.{statement}
 use Rattle.accept.proofs.judge_terms.Tie as tie
 use Rattle.accept.proofs.Fullness.{counted}
-use Rattle.accept.proofs.Answering.{judged-later, judged-none, refuses-at, passes-at, none-at, held-all}
+use Rattle.accept.proofs.Answering.{judged-later, judged-none, refuses-at, passes-at, none-at, ends-at}
 
 abbrev tableAt : tie.Start → Table
 tableAt a = table (a .args .sizes) (now (a .args .kinds)) (now (a .args .operands))
 
--- 6 has passed
+-- 6 has passed, and 7 is judged
 abbrev called : tie.Else1 → tie.After-lowest-bad-call
 called c = c .before .before .before .before
 
@@ -26,9 +24,8 @@ start c = called c .before .before .before .before .before
 abbrev D : tie.Else1 → ℕ
 D c = start c .args .sizes .definitions
 
--- all nodes are counted
-all : (c : tie.After-pass) → Held (tableAt (start (c .before .before .before))) (D (c .before .before .before)) (firstRoot (tableAt (start (c .before .before .before)))) (c .pass .last .1 .1 .1 .0)
-all c = subst (λ (n : ℕ). Held (tableAt (start (c .before .before .before))) (D (c .before .before .before)) n (c .pass .last .1 .1 .1 .0)) (c .before .first-root .ensures) (c .pass .ensures)
+abbrev passed : tie.After-lowest-overfull → tie.Else1
+passed c = c .before .before
 
 lowest-bad-call-requires : tie.Need-lowest-bad-call-requires
 lowest-bad-call-requires c κs = c .before .before .before .before .pre
@@ -39,39 +36,37 @@ same-length c = c .before .before .before .before .lowest-bad-call .kept .1 .1 .
 returns : tie.Need-returns
 returns c = refuses-at 6 _ (badCall (tableAt (c .before .before .before .before .before .before .before .before .before))) (c .before .before .before .before .lowest-bad-call .ensures .is) (c .if1 .taken)
 
-first-root-requires : tie.Need-first-root-requires
-first-root-requires c κs = c .before .before .before .before .before .before .before .before .before .before .pre .0 .shaped .limits
-
-pass-requires : tie.Need-pass-requires
-pass-requires c κs =
-    let f = c .first-root .ensures in
-    (held-all (called (c .before .before) .lowest-bad-call .ensures) (c .before .before .if1 .left), omega arith)
-
 lowest-overfull-requires : tie.Need-lowest-overfull-requires
-lowest-overfull-requires c κs = all (c .before .before .before)
+lowest-overfull-requires c κs =
+    let j = called (c .before) .lowest-bad-call .ensures in
+    j .held (ends-at 6 (D (c .before)) (badCall (tableAt (start (c .before)))) (j .is) (c .before .if1 .left))
 
 same-length-2 : tie.Need-same-length-2
-same-length-2 c = c .before .before .before .before .before .before .pass .kept .1 .1 .1 .0 ∙ c .before .before .before .before .before .before .before .before .before .before .before .before .before .lowest-bad-call .kept .1 .1 .1 .0
+same-length-2 c = c .before .before .before .before .lowest-overfull .kept .1 .1 .1 .0 ∙ called (passed (c .before .before .before .before)) .lowest-bad-call .kept .1 .1 .1 .0
 
 returns-2 : tie.Need-returns-2
 returns-2 c =
-    let l = c .before .before .before .before .before .before .before .before .before in
+    let x = c .before .before .before .before in
+    let l = passed x in
     judged-later (passes-at 6 (D l) (badCall (tableAt (start l))) (called l .lowest-bad-call .ensures .is) (l .if1 .left))
-    (refuses-at 7 _ (overfull (tableAt (start l))) (c .before .before .lowest-overfull .ensures) (c .if2 .taken))
+    (refuses-at 7 _ (overfull (tableAt (start l))) (x .lowest-overfull .ensures .is) (c .if2 .taken))
 
 same-length-3 : tie.Need-same-length-3
-same-length-3 c = c .before .before .before .before .before .before .pass .kept .1 .1 .1 .0 ∙ c .before .before .before .before .before .before .before .before .before .before .before .before .before .lowest-bad-call .kept .1 .1 .1 .0
+same-length-3 c = c .before .before .before .before .lowest-overfull .kept .1 .1 .1 .0 ∙ called (passed (c .before .before .before .before)) .lowest-bad-call .kept .1 .1 .1 .0
 
 returns-3 : tie.Need-returns-3
 returns-3 c =
-    let l = c .before .before .before .before .before .before .before .before .before in
+    let x = c .before .before .before .before in
+    let l = passed x in
     let t = tableAt (start l) in
+    let N = start l .args .sizes .nodes in
     let e = called l .lowest-bad-call .ensures .is in
-    let f = c .before .before .lowest-overfull .ensures in
+    let j = x .lowest-overfull .ensures in
     judged-later (passes-at 6 (D l) (badCall t) e (l .if1 .left))
-    (judged-later (passes-at 7 _ (overfull t) f (c .if2 .left))
+    (judged-later (passes-at 7 N (overfull t) (j .is) (c .if2 .left))
     (judged-none
-    (counted (all (c .before .before .before .before .before .before)) (record { sound = start l .pre .0; calls = none-at 6 (D l) (badCall t) e (l .if1 .left); nodes = none-at 7 _ (overfull t) f (c .if2 .left) }))))
+    (counted (j .held) (j .all (ends-at 7 N (overfull t) (j .is) (c .if2 .left)))
+    (record { sound = start l .pre .0; calls = none-at 6 (D l) (badCall t) e (l .if1 .left); nodes = none-at 7 N (overfull t) (j .is) (c .if2 .left) }))))
 
 pub judge-terms-spec : {M : Type 1} → statement M
 judge-terms-spec =
@@ -80,8 +75,6 @@ judge-terms-spec =
     lowest-bad-call-requires
     same-length
     returns
-    first-root-requires
-    pass-requires
     lowest-overfull-requires
     same-length-2
     returns-2

@@ -18,7 +18,7 @@ slice-aggregate-judge c = search needs
 judge-requires : tie.Need-judge-requires
 judge-requires c κs =
     let a = c .before .before .before .before .before .before in
-    (a .pre .0, (a .pre .1 .0, (a .pre .1 .1, zeros-unmarked (tb a) 4096 (a .pre .0 .checked .sound .shaped .limits .nodes))))
+    (a .pre .0, (a .pre .1 .0, (a .pre .1 .1, zeros-unmarked (tb a) 128 (a .pre .0 .checked .sound .shaped .limits .nodes))))
 
 enum-known-found : tie.Need-enum-known-found
 enum-known-found c = search needs

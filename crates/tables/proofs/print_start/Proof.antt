@@ -5,9 +5,8 @@ use native.Mathlib.Omega.{arith}
 use denote.Ref.{now}
 use lib.ListN.{replicate}
 use borrow.Author.Tests.{not-false}
-use Rattle.basis.proofs.Lists.{getD-row}
 use Rattle.table.specs.Tables.{table}
-use Rattle.choice.proofs.Collecting.{marks-zero}
+use Rattle.choice.proofs.Collecting.{marks-zero, zeros-none}
 use borrow.Author.Needs.{needs}
 use Rattle.tables.proofs.print_start.Statement.{statement}
 use Rattle.tables.proofs.print_start.Tie as tie
@@ -55,7 +54,7 @@ print-last-choice-requires c κs =
       a .pre,
       (
         (omega arith, record { room = omega arith; term = sym (w .ensures (now (a .args .operands))) ∙ not-false (w .result) (c .before .before .if1 .left) }),
-        marks-zero (table (a .args .sizes) (now (a .args .kinds)) (now (a .args .operands))) (replicate 4096 0) (omega (arith, a .pre .checked .sound .shaped .limits .nodes)) (λ n. getD-row 4096 n 0),
+        marks-zero (table (a .args .sizes) (now (a .args .kinds)) (now (a .args .operands))) (replicate 128 0) (omega (arith, a .pre .checked .sound .shaped .limits .nodes)) (zeros-none 128),
       ),
     )
 

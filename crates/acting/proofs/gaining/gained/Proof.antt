@@ -12,10 +12,10 @@ abbrev tb : tie.Start → Table
 tb a = table (a .args .sizes) (now (a .args .kinds)) (now (a .args .operands))
 
 guard-keys-requires : tie.Need-guard-keys-requires
-guard-keys-requires c κs = search needs
+guard-keys-requires c κs = let a = c .before .before .before .before in (a .pre .shaped, a .pre .marked .1 .room)
 
 label-keys-requires : tie.Need-label-keys-requires
-label-keys-requires c κs = let a = c .before .before .before .before .before in (a .pre .shaped, a .pre .within, c .guard-keys .ensures .small (omega arith))
+label-keys-requires c κs = let a = c .before .before .before .before .before in (a .pre .shaped, a .pre .within, c .guard-keys .ensures (a .pre .marked .0) (a .pre .marked .1) .small (omega arith))
 
 with-entry-requires : tie.Need-with-entry-requires
 with-entry-requires c κs = search needs

@@ -1,12 +1,10 @@
 -- `mark_node` meets its contract. Assumes nothing.
 use mathlib.Core.Bool.{true}
 use mathlib.Core.Logic.{⊎-elim}
-use mathlib.Core.Path.{_≡_, sym, ap, subst, _∙_}
+use mathlib.Core.Path.{_≡_, refl, sym, ap, subst, _∙_}
 use mathlib.Core.List.{List, []}
 use native.Mathlib.Omega.{arith}
-use borrow.Author.Tests.{eq-eqb}
 use denote.Ref.{now}
-use lib.ListN.{set}
 use Rattle.table.specs.Tables.{Table, table, kindAt}
 use Rattle.table.specs.Nodes.{isProcess}
 use Rattle.term.specs.declared.Mode.the-variants.{Ticks}
@@ -15,7 +13,7 @@ use Rattle.choice.specs.declared.Side.{Side}
 use Rattle.choice.specs.declared.Turn.{Turn}
 use Rattle.choice.specs.Chosen.{chosenIn}
 use Rattle.choice.specs.Turns.{chosenAt, ahead, sideGuards, SideReached, Onward, Turned}
-use Rattle.choice.specs.Marking.{WalkMarks, Marked}
+use Rattle.choice.specs.Marking.{WithMark, WalkMarks, Marked}
 use Rattle.choice.proofs.Collecting.{reached-process, only-first, marked-none, marked-guard, marked-join, marked-before, marked-after, marked-same}
 use Prim.Native.Nat.{ℕ, _<_}
 use borrow.Fn.Kinds.{In}
@@ -24,6 +22,7 @@ use Rattle.choice.proofs.marking.mark_node.Reads as mark-node
 use Rattle.choice.proofs.marking.mark_node.Kinds as mark-node-kinds
 use Rattle.choice.proofs.marking.+mark_node.Lts-mark_node as mark-node-lts
 use Rattle.accept.proofs.pair.Reads as pair-reads
+use Rattle.choice.proofs.marking.has_mark.Reads as has-mark-reads
 use Rattle.choice.proofs.marking.mark.Reads as mark-reads
 use Rattle.choice.proofs.marking.only_tick.Reads as only-tick-reads
 use Rattle.choice.proofs.turns.turn_at.Reads as turn-at-reads
@@ -42,7 +41,7 @@ mark-node-below t =
 
 module _ (t : ℕ) where
   abbrev claims : mark-node-lts.Claims
-  claims = (pair-reads.Asked, pair-reads.Learnt, only-tick-reads.Asked, only-tick-reads.Learnt, turn-at-reads.Asked, turn-at-reads.Learnt, mark-reads.Asked, mark-reads.Learnt, mark-node-below t, mark-node.Post)
+  claims = (pair-reads.Asked, pair-reads.Learnt, only-tick-reads.Asked, only-tick-reads.Learnt, has-mark-reads.Asked, has-mark-reads.Learnt, turn-at-reads.Asked, turn-at-reads.Learnt, mark-reads.Asked, mark-reads.Learnt, mark-node-below t, mark-node.Post)
 
   abbrev Tested : Type 0
   Tested = mark-node-lts.After-only-tick claims (mark-node-at t) mark-node.Post
@@ -79,8 +78,8 @@ module _ (t : ℕ) where
   process : (c : Tested) → isProcess (kindAt (tb c) (n c)) ≡ true
   process c = reached-process (tb c) (start c .args .goal) (start c .pre .1 .1 .0)
 
-  noted : (c : Tested) → c .only-tick .result ≡ true → (mid vs : List ℕ) → Marked (tb c) (guards c) (ms c) mid → vs ≡ set mid (n c) 1 → Marked (tb c) (guards c) (ms c) vs
-  noted c e mid vs m f = marked-same (only c e) (marked-after (tb c) (ms c) (marks c) (n c) (process c) (low c) mid (marked-same (sym (only c e)) m) vs f)
+  noted : (c : Tested) → c .only-tick .result ≡ true → {mid vs : List ℕ} → Marked (tb c) (guards c) (ms c) mid → WithMark mid (n c) vs → Marked (tb c) (guards c) (ms c) vs
+  noted c e m f = marked-same (only c e) (marked-after (tb c) (ms c) (marks c) (n c) (process c) (low c) (marked-same (sym (only c e)) m) f)
 
   abbrev At : Type 0
   At = mark-node-lts.After-turn-at claims (mark-node-at t) mark-node.Post
@@ -122,7 +121,7 @@ module _ (t : ℕ) where
       let o = c .before .before in
       let z = tested o in
       ⊎-elim (λ w. aside o _ _ _ (w .1 .given .1) (w .2) (marked-none (tb z) (ms z) (marks z)))
-      (⊎-elim (λ w. aside o _ _ _ (w .1 .given .1) (w .7) (marked-guard (tb z) (ms z) (marks z) _ (collects o _ (w .1 .given .1)) _ (w .4 .ensures)))
+      (⊎-elim (λ w. aside o _ _ _ (w .1 .given .1) (w .7) (marked-guard (tb z) (ms z) (marks z) _ (collects o _ (w .1 .given .1)) (w .4 .ensures)))
       (λ w. aside o _ _ _ (w .1 .given .1) (w .7) (w .4 .ensures))) (c .match2 .came)
 
   -- the walk is done
@@ -145,13 +144,13 @@ module _ (t : ℕ) where
   only-tick-requires : mark-node-lts.Need-only-tick-requires claims (mark-node-at t) mark-node.Post
   only-tick-requires c κs = tt
 
-  slice-read-if2 : mark-node-lts.Need-slice-read-if2 claims (mark-node-at t) mark-node.Post
-  slice-read-if2 c = let z = c .before .before in omega (arith, low z, marks z .room)
+  has-mark-requires : mark-node-lts.Need-has-mark-requires claims (mark-node-at t) mark-node.Post
+  has-mark-requires c κs = let z = c .before .before in omega (arith, low z, marks z .room)
 
   returns : mark-node-lts.Need-returns claims (mark-node-at t) mark-node.Post
   returns c =
-      let z = c .before .before .before in
-      marked-same (only z (c .before .before .if1 .taken)) (marked-before (tb z) (ms z) (marks z) (n z) (process z) (eq-eqb _ _ (c .if2 .taken)))
+      let z = c .before .before .before .before in
+      marked-same (only z (c .before .before .before .if1 .taken)) (marked-before (tb z) (ms z) (marks z) (n z) (process z) (sym (c .before .has-mark .ensures) ∙ c .if2 .taken))
 
   turn-at-requires : mark-node-lts.Need-turn-at-requires claims (mark-node-at t) mark-node.Post
   turn-at-requires c κs = let a = start (c .before) in (a .pre .1 .0, a .pre .1 .1 .0)
@@ -194,17 +193,20 @@ module _ (t : ℕ) where
   mark-requires-2 c κs = let j = c .before .before in omega (arith, low (j .before .before .before), walked j .marks .room)
 
   same-length : mark-node-lts.Need-same-length claims (mark-node-at t) mark-node.Post
-  same-length c =
+  same-length c = refl
+
+  same-length-2 : mark-node-lts.Need-same-length-2 claims (mark-node-at t) mark-node.Post
+  same-length-2 c =
       let i = c .before .before .before .before in
-      noted (i .before .before .before .before) (i .if3 .taken) _ _ (walked (i .before)) (c .before .before .mark2 .ensures) .same
+      noted (i .before .before .before .before) (i .if3 .taken) (walked (i .before)) (c .before .before .mark2 .ensures) .same
 
   returns-2 : mark-node-lts.Need-returns-2 claims (mark-node-at t) mark-node.Post
   returns-2 c =
       let i = c .before .before .before .before in
-      noted (i .before .before .before .before) (i .if3 .taken) _ _ (walked (i .before)) (c .before .before .mark2 .ensures)
+      noted (i .before .before .before .before) (i .if3 .taken) (walked (i .before)) (c .before .before .mark2 .ensures)
 
-  same-length-2 : mark-node-lts.Need-same-length-2 claims (mark-node-at t) mark-node.Post
-  same-length-2 c = walked (c .before) .same
+  same-length-3 : mark-node-lts.Need-same-length-3 claims (mark-node-at t) mark-node.Post
+  same-length-3 c = walked (c .before) .same
 
   returns-3 : mark-node-lts.Need-returns-3 claims (mark-node-at t) mark-node.Post
   returns-3 c = walked (c .before)
@@ -213,7 +215,8 @@ pub +mark-node-spec : {M : Type 1} → statement M
 +mark-node-spec = close μ-mark-node λ t. mark-node-lts.spec (claims t) (mark-node-at t) mark-node.Post
     (pair-requires t)
     (only-tick-requires t)
-    (slice-read-if2 t)
+    (has-mark-requires t)
+    (same-length t)
     (returns t)
     (turn-at-requires t)
     (enum-told t)
@@ -225,7 +228,7 @@ pub +mark-node-spec : {M : Type 1} → statement M
     (mark-node-requires t)
     (mark-node-requires-2 t)
     (mark-requires-2 t)
-    (same-length t)
-    (returns-2 t)
     (same-length-2 t)
+    (returns-2 t)
+    (same-length-3 t)
     (returns-3 t)

@@ -1,26 +1,29 @@
--- `evaluation::values::value_below` meets its contract. The measure is the limit: a call's limit is the node, which is below it.
+-- `evaluation::values::value_below` meets its contract: the kind picks the case. The measure is the limit: a call's limit is the node, which is below it.
 -- Assumes nothing.
 use Prim.Native.Nat.{ℕ, _<_}
-use mathlib.Core.Path.{sym, _∙_}
+use mathlib.Core.Path.{sym, ap, _∙_}
 use native.Mathlib.Omega.{arith}
 use borrow.Author.Needs.{needs}
-use borrow.Author.Tests.{not-true, not-false}
+use borrow.Author.Tests.{ne-eqb}
 use borrow.Fn.Kinds.{In}
 use borrow.Fn.PlainCycle.{Measures, is, falls, and}
-use Rattle.evaluation.proofs.Steps.{value-out, value-leaf, value-node}
+use Rattle.value.specs.declared.Value.the-variants.{Present}
+use Rattle.state.specs.Evaluation.{valueStep}
+use Rattle.evaluation.proofs.Steps.{value-out, value-at}
 use Rattle.evaluation.proofs.values.value_below.Reads as value-below
 use Rattle.evaluation.proofs.values.value_below.Kinds as kinds
 use Rattle.evaluation.proofs.values.+value_below.Lts-value_below as lts
-use Rattle.evaluation.proofs.values.is_operation.Reads as is-operation
-use Rattle.evaluation.proofs.values.leaf_value.Reads as leaf-value
+use Rattle.evaluation.proofs.values.agent_of.Reads as agent-of
 use Rattle.table.proofs.p_at.Reads as p-at
 use Rattle.table.proofs.q_at.Reads as q-at
+use Rattle.table.proofs.constant_at.Reads as constant-at
+use Rattle.state.proofs.value_in.Reads as value-in
 use Rattle.value.proofs.operate.Reads as operate
 use Rattle.evaluation.proofs.values.+value_below.{statement}
 use Rattle.evaluation.proofs.values.+value_below.Tie.{close}
 
 abbrev limit : Measures 3 kinds.ps ℕ
-limit κs a = a .1 .1 .1 .1 .1 .1 .0
+limit κs a = a .1 .1 .1 .1 .1 .0
 
 -- what it is given at the measure t, and what it may use of its callees: of itself, below t
 abbrev at : ℕ → In 3 kinds.ps
@@ -28,14 +31,16 @@ at t = and 3 kinds.ps (is 3 kinds.ps limit t) value-below.Pre
 
 abbrev callees : ℕ → lts.Claims
 callees t = (
-  is-operation.Asked,
-  is-operation.Learnt,
-  leaf-value.Asked,
-  leaf-value.Learnt,
   p-at.Asked,
   p-at.Learnt,
   q-at.Asked,
   q-at.Learnt,
+  agent-of.Asked,
+  agent-of.Learnt,
+  constant-at.Asked,
+  constant-at.Learnt,
+  value-in.Asked,
+  value-in.Learnt,
   and 3 kinds.ps (falls 3 kinds.ps _<_ limit t) value-below.Pre,
   value-below.Post,
   operate.Asked,
@@ -44,21 +49,10 @@ callees t = (
 
 module _ (t : ℕ) where
   returns : lts.Need-returns (callees t) (at t) value-below.Post
-  returns c = sym (value-out _ _ _ _ _ _ (c .if1 .taken))
+  returns c = λ sizes e. sym (value-out _ _ _ _ _ _ (c .if1 .taken))
 
   shared-slice-read-kind : lts.Need-shared-slice-read-kind (callees t) (at t) value-below.Post
   shared-slice-read-kind c = search needs
-
-  is-operation-requires : lts.Need-is-operation-requires (callees t) (at t) value-below.Post
-  is-operation-requires c κs = search needs
-
-  leaf-value-requires : lts.Need-leaf-value-requires (callees t) (at t) value-below.Post
-  leaf-value-requires c κs = (c .before .before .before .before .before .before .before .pre .1 .0, omega arith)
-
-  returns-2 : lts.Need-returns-2 (callees t) (at t) value-below.Post
-  returns-2 c =
-      c .leaf-value .ensures
-      ∙ sym (value-leaf _ _ _ _ _ _ (c .before .before .before .before .if1 .left) (sym (c .before .before .is-operation .ensures) ∙ not-true _ (c .before .if2 .taken)))
 
   p-at-requires : lts.Need-p-at-requires (callees t) (at t) value-below.Post
   p-at-requires c κs = search needs
@@ -66,29 +60,66 @@ module _ (t : ℕ) where
   q-at-requires : lts.Need-q-at-requires (callees t) (at t) value-below.Post
   q-at-requires c κs = search needs
 
+  agent-of-requires : lts.Need-agent-of-requires (callees t) (at t) value-below.Post
+  agent-of-requires c κs = search needs
+
+  constant-at-requires : lts.Need-constant-at-requires (callees t) (at t) value-below.Post
+  constant-at-requires c κs = search needs
+
+  value-in-requires : lts.Need-value-in-requires (callees t) (at t) value-below.Post
+  value-in-requires c κs = search needs
+
+  value-in-requires-2 : lts.Need-value-in-requires-2 (callees t) (at t) value-below.Post
+  value-in-requires-2 c κs = search needs
+
+  value-in-requires-3 : lts.Need-value-in-requires-3 (callees t) (at t) value-below.Post
+  value-in-requires-3 c κs = search needs
+
   value-below-requires : lts.Need-value-below-requires (callees t) (at t) value-below.Post
-  value-below-requires c κs = (omega arith, (c .before .before .before .before .before .before .before .before .before .pre .1 .0, omega arith))
+  value-below-requires c κs = omega arith
 
   value-below-requires-2 : lts.Need-value-below-requires-2 (callees t) (at t) value-below.Post
-  value-below-requires-2 c κs = (omega arith, (c .before .before .before .before .before .before .before .before .before .before .pre .1 .0, omega arith))
+  value-below-requires-2 c κs = omega arith
 
   operate-requires : lts.Need-operate-requires (callees t) (at t) value-below.Post
   operate-requires c κs = search needs
 
+  returns-2 : lts.Need-returns-2 (callees t) (at t) value-below.Post
+  unfolding valueStep
+  returns-2 c = λ sizes e. rw (value-at _ _ _ _ _ _ (c .before .before .before .before .before .before .if1 .left), c .before .match .keys1) (ap Present (c .constant-at .ensures))
+
   returns-3 : lts.Need-returns-3 (callees t) (at t) value-below.Post
-  returns-3 c =
-      rw (value-node _ _ _ _ _ _ (c .before .before .before .before .before .before .before .before .if1 .left) (sym (c .before .before .before .before .before .before .is-operation .ensures) ∙ not-false _ (c .before .before .before .before .before .if2 .left)), ← c .before .before .before .before .p-at .ensures .is, ← c .before .before .before .q-at .ensures .is, ← c .before .before .value-below .ensures, ← c .before .value-below2 .ensures) (c .operate .ensures)
+  unfolding valueStep
+  returns-3 c = λ sizes e. rw (value-at _ _ _ _ _ _ (c .before .before .before .before .before .before .if1 .left), c .before .match .keys2, ← c .before .before .before .before .p-at .ensures .is, ← c .before .before .before .q-at .ensures .is, ← c .before .before .agent-of .ensures .is) (c .value-in .ensures)
+
+  returns-4 : lts.Need-returns-4 (callees t) (at t) value-below.Post
+  unfolding valueStep
+  returns-4 c = λ sizes e. rw (value-at _ _ _ _ _ _ (c .before .before .before .before .before .before .if1 .left), c .before .match .keys3, ← c .before .before .before .before .p-at .ensures .is, ← c .before .before .before .q-at .ensures .is, ← c .before .before .agent-of .ensures .is) (c .value-in2 .ensures)
+
+  returns-5 : lts.Need-returns-5 (callees t) (at t) value-below.Post
+  unfolding valueStep
+  returns-5 c = λ sizes e. rw (value-at _ _ _ _ _ _ (c .before .before .before .before .before .before .if1 .left), c .before .match .keys4, ← c .before .before .before .before .p-at .ensures .is) (c .value-in3 .ensures)
+
+  returns-6 : lts.Need-returns-6 (callees t) (at t) value-below.Post
+  unfolding valueStep
+  returns-6 c = let r = c .before .before .before .match .rest in λ sizes e. rw (value-at _ _ _ _ _ _ (c .before .before .before .before .before .before .before .before .if1 .left), ne-eqb _ _ (r .0 .0 .0 .1), ne-eqb _ _ (r .0 .0 .1), ne-eqb _ _ (r .0 .1), ne-eqb _ _ (r .1), ← c .before .before .before .before .before .before .p-at .ensures .is, ← c .before .before .before .before .before .q-at .ensures .is, ← c .before .before .value-below .ensures sizes e, ← c .before .value-below2 .ensures sizes e) (c .operate .ensures)
 
 pub +value-below-spec : {M : Type 1} → statement M
 +value-below-spec = close limit λ t. lts.spec (callees t) (at t) value-below.Post
     (returns t)
     (shared-slice-read-kind t)
-    (is-operation-requires t)
-    (leaf-value-requires t)
-    (returns-2 t)
     (p-at-requires t)
     (q-at-requires t)
+    (agent-of-requires t)
+    (constant-at-requires t)
+    (value-in-requires t)
+    (value-in-requires-2 t)
+    (value-in-requires-3 t)
     (value-below-requires t)
     (value-below-requires-2 t)
     (operate-requires t)
+    (returns-2 t)
     (returns-3 t)
+    (returns-4 t)
+    (returns-5 t)
+    (returns-6 t)

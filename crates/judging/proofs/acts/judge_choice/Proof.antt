@@ -6,8 +6,8 @@ use borrow.Author.Needs.{needs}
 use borrow.Author.Tests.{not-true, not-false}
 use denote.Ref.{now}
 use Rattle.table.specs.Tables.{Table, table}
+use Rattle.choice.proofs.Collecting.{marks-zero}
 use Rattle.residual.specs.Wholes.{Taking, residualTerm}
-use Rattle.judging.proofs.Asking.{unmarked-marks}
 use Rattle.judging.proofs.Choosing.{whole-residual, agent-12, agent-13, agent-taking, agent-guards, agent-14, agent-doing, agent-last}
 use Rattle.judging.proofs.acts.judge_choice.Statement.{statement}
 use Rattle.judging.proofs.acts.judge_choice.Tie as tie
@@ -40,7 +40,7 @@ returns-2 c =
 collect-requires : tie.Need-collect-requires
 collect-requires c κs =
     let a = c .before .before .before .before .before .before .before .before .before .before .before .before in
-    (a .pre .0 .ready, (whole-residual (a .pre .0), (taking (c .before), unmarked-marks (here a) (now (a .args .marks)) (a .pre .1))))
+    (a .pre .0 .ready, (whole-residual (a .pre .0), (taking (c .before), marks-zero (here a) (now (a .args .marks)) (a .pre .1 .room) (a .pre .1 .none))))
 
 all-hold-requires : tie.Need-all-hold-requires
 all-hold-requires c κs = let a = c .before .before .before .before .before .before .before .before .before .before .before .before .before .before .before .before in agent-guards (a .pre .0) (a .args .c) (taking (c .before .before .before .before .before)) (a .pre .1) (c .before .before .before .collect .ensures)

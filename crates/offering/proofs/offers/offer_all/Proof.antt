@@ -4,45 +4,75 @@ use Prim.Native.Nat.{_-_, _≤_}
 use mathlib.Core.Path.{_≡_, refl, ap, _∙_}
 use native.Mathlib.Omega.{arith}
 use lib.ListN.{length}
+use borrow.Author.Needs.{needs}
 use Rattle.basis.specs.Numbers.{forEach, howMany}
+use Rattle.basis.proofs.KeySets.{has-either}
 use Rattle.table.specs.Tables.{table}
 use Rattle.steps.proofs.Offers.{offered-length}
-use Rattle.offering.proofs.Turns.{Turns, few-take, next-turn, counts-once}
+use Rattle.offering.proofs.Turns.{Turns, few-take, next-turn, judged, nobody, counts-once}
 use Rattle.offering.proofs.offers.offer_all.Statement.{statement}
 use Rattle.offering.proofs.offers.offer_all.Tie as tie
 
 abbrev Inv-loop : tie.InvT-loop
-Inv-loop sizes kinds operands state₀ agent key counts confirming tally₀ other₀ state tally other =
+Inv-loop sizes kinds operands state₀ agent key counts confirming touched asked tally₀ linked entry other₀ state tally other =
     (other ≤ sizes .agents) × Turns (table sizes kinds operands) state₀ agent key counts confirming other tally state
 
 abbrev μ-loop : tie.MeasureT-loop
-μ-loop sizes kinds operands state₀ agent key counts confirming tally₀ other₀ state tally other = sizes .agents - other
+μ-loop sizes kinds operands state₀ agent key counts confirming touched asked tally₀ linked entry other₀ state tally other = sizes .agents - other
+
+-- where the loop begins, and where the function does
+abbrev found : tie.At-loop Inv-loop μ-loop → tie.After-receivers Inv-loop μ-loop
+found l = l .before .before .before .before .before .before .before .before
+
+abbrev start : tie.After-receivers Inv-loop μ-loop → tie.Start Inv-loop μ-loop
+start c = c .before .before .before .before .before
 
 -- the words are still as many
-same : (c : tie.At-loop Inv-loop μ-loop) → length (c .loop .state) ≡ length (c .before .before .before .before .before .args .state .now)
-same c = ap length (c .loop .inv .1 .state) ∙ offered-length _ _ _ _ _ _ _
+same : (l : tie.At-loop Inv-loop μ-loop) → length (l .loop .state) ≡ length (start (found l) .args .state .now)
+same l = ap length (l .loop .inv .1 .state) ∙ offered-length _ _ _ _ _ _ _
+
+receivers-requires : tie.Need-receivers-requires Inv-loop μ-loop
+receivers-requires c κs = search needs
 
 no-tally-requires : tie.Need-no-tally-requires Inv-loop μ-loop
-no-tally-requires c κs = tt
+no-tally-requires c κs = search needs
+
+same-length : tie.Need-same-length Inv-loop μ-loop
+same-length c = refl
+
+returns : tie.Need-returns Inv-loop μ-loop
+returns c =
+    let e = c .before .before .before in
+    rw (c .before .no-tally .ensures) (nobody _ _ _ _ _ _ _ _ (e .receivers .ensures) (has-either _ _) (c .if1 .taken) _ (omega arith))
+
+links-hold-requires : tie.Need-links-hold-requires Inv-loop μ-loop
+links-hold-requires c κs = search needs
+
+entry-of-requires : tie.Need-entry-of-requires Inv-loop μ-loop
+entry-of-requires c κs = search needs
 
 loop-holds : tie.Need-loop-holds Inv-loop μ-loop
 unfolding forEach howMany
-loop-holds c = (omega arith, record { answer = c .no-tally .ensures; state = refl })
+loop-holds c = (omega arith, record { answer = c .before .before .before .before .before .no-tally .ensures; state = refl })
 
-offer-to-requires : tie.Need-offer-to-requires Inv-loop μ-loop
-offer-to-requires c κs =
-    let l = c .before .before .before in
-    let given = l .before .before .before .before .before .pre in
-    (record { shaped = given .shaped; blocks = omega (arith, same l, given .blocks); agent = given .agent; key = given .key }, omega arith)
+respond-requires : tie.Need-respond-requires Inv-loop μ-loop
+respond-requires c κs = omega (arith, start (found (c .before .before)) .pre .shaped .limits .agents)
+
+write-response-requires : tie.Need-write-response-requires Inv-loop μ-loop
+write-response-requires c κs =
+    let l = c .before .before .before .before in
+    let given = start (found l) .pre in
+    (omega (arith, same l, given .blocks), record { agent = omega (arith, given .shaped .limits .agents); key = omega (arith, given .key, given .shaped .limits .stigmergy) })
 
 tally-of-requires : tie.Need-tally-of-requires Inv-loop μ-loop
-tally-of-requires c κs = tt
+tally-of-requires c κs = search needs
 
 add-tally-requires : tie.Need-add-tally-requires Inv-loop μ-loop
 add-tally-requires c κs =
-    let l = c .before .before .before .before .before .before .before in (
-      record { taken = omega (arith, l .before .before .before .before .before .pre .shaped .limits .agents, few-take _ _ _ _ _ _ _ (l .loop .inv .1)) },
-      rw (c .tally-of .ensures) (counts-once (c .before .before .before .offer-to .result)),
+    let r = c .before .before .before .before .before in
+    let l = r .before .before .before in (
+      record { taken = omega (arith, start (found l) .pre .shaped .limits .agents, few-take _ _ _ _ _ _ _ (l .loop .inv .1)) },
+      rw (c .tally-of .ensures) (counts-once (r .respond .result)),
     )
 
 add-other : tie.Need-add-other Inv-loop μ-loop
@@ -53,17 +83,20 @@ loop-less c = omega arith
 
 loop-again : tie.Need-loop-again Inv-loop μ-loop
 loop-again c =
-    let l = c .before .before .before .before .before .before .before .before in
-    let given = l .before .before .before .before .before .pre in
-    (omega arith, next-turn _ _ _ _ _ _ _ (l .loop .inv .1) (omega (arith, given .key, given .shaped .limits .stigmergy)) (c .before .before .before .before .offer-to .ensures) (c .before .tally-of .ensures) (c .add-tally .ensures))
+    let w = c .before .before .before .before in
+    let r = w .before .before in
+    let l = r .before .before .before in
+    let e = found l in
+    let is = judged _ _ _ _ _ _ _ _ (e .receivers .ensures) (has-either _ _) _ (l .before .before .before .links-hold .ensures) (l .loop .other) (omega arith) in
+    (omega arith, next-turn _ _ _ _ _ _ _ (l .loop .inv .1) (l .before .entry-of .ensures) (r .respond .ensures ∙ is) (w .write-response .ensures) (c .before .tally-of .ensures) (c .add-tally .ensures))
 
-same-length : tie.Need-same-length Inv-loop μ-loop
-same-length c = same (c .before .before)
+same-length-2 : tie.Need-same-length-2 Inv-loop μ-loop
+same-length-2 c = same (c .before .before)
 
-returns : tie.Need-returns Inv-loop μ-loop
-returns c =
+returns-2 : tie.Need-returns-2 Inv-loop μ-loop
+returns-2 c =
     let l = c .before .before in
-    let all : l .loop .other ≡ l .before .before .before .before .before .args .sizes .agents = omega arith in
+    let all : l .loop .other ≡ start (found l) .args .sizes .agents = omega arith in
     rw all at (l .loop .inv .1)
 
 pub offer-all-spec : {M : Type 1} → statement M
@@ -72,13 +105,19 @@ offer-all-spec =
     (tie.spec
     Inv-loop
     μ-loop
+    receivers-requires
     no-tally-requires
+    same-length
+    returns
+    links-hold-requires
+    entry-of-requires
     loop-holds
-    offer-to-requires
+    respond-requires
+    write-response-requires
     tally-of-requires
     add-tally-requires
     add-other
     loop-less
     loop-again
-    same-length
-    returns)
+    same-length-2
+    returns-2)

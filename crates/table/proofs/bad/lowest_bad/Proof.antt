@@ -1,47 +1,165 @@
 -- `table::bad::lowest_bad` meets its contract.
 -- Assumes nothing.
-use mathlib.Core.Path.{_≡_, sym}
+use Prim.Native.Nat.{ℕ, _+_, _≤_, _<_, _-_}
+use native.Mathlib.Omega.{arith}
+use mathlib.Core.Path.{_≡_, refl, sym, ap, _∙_}
+use mathlib.Core.Bool.{true, false}
+use mathlib.Core.List.{List}
 use denote.Ref.{now}
-use lib.ListN.{length, take}
-use lib.Seq.{length-take-le}
+use lib.Dec.{ltb}
+use lib.ListN.{length, length-set}
 use borrow.Author.Needs.{needs}
-use Rattle.basis.proofs.Writing.{cleared-whole}
-use Rattle.table.proofs.Marking.{shows-none}
+use borrow.Author.Count.{below-more}
+use borrow.Author.Tests.{not-true, not-false}
+use Rattle.basis.proofs.Numbers.{lowest-at, lowest-none}
+use Rattle.table.specs.Tables.{Table, table}
+use Rattle.table.specs.Nodes.{inner, fitting, badNode}
+use Rattle.table.specs.Marks.{Bad}
+use Rattle.table.proofs.Marking.{marks-length, marks-found, marks-lower}
+use Rattle.table.proofs.Naming.{bad-unfit, Turned, turned-none, bad-is, turned-more}
 use Rattle.table.proofs.bad.lowest_bad.Statement.{statement}
 use Rattle.table.proofs.bad.lowest_bad.Tie as tie
 
-whole : (a : tie.Start) → length (take (a .args .sizes .nodes) (now (a .args .scratch))) ≡ a .args .sizes .nodes
-whole a = length-take-le (a .args .sizes .nodes) (now (a .args .scratch)) (a .pre .1)
+abbrev Inv-loop : tie.InvT-loop
+Inv-loop sizes kinds operands scratch₀ first i₀ scratch i =
+    (i ≤ sizes .nodes) × (length scratch ≡ length scratch₀) × Turned (table sizes kinds operands) scratch i
+    × ((k : ℕ) → k < i → badNode (table sizes kinds operands) k ≡ false)
 
-slice-relend-prefix-clear : tie.Need-slice-relend-prefix-clear
-slice-relend-prefix-clear c = search needs
+abbrev μ-loop : tie.MeasureT-loop
+μ-loop sizes kinds operands scratch₀ first i₀ scratch i = sizes .nodes - i
 
-slice-aggregate-clear : tie.Need-slice-aggregate-clear
-slice-aggregate-clear c = sym (whole (c .before .before .before .before))
+abbrev here : tie.At-loop Inv-loop μ-loop → Table
+here c = let a = c .before .before .before .before .before .args in table (a .sizes) (now (a .kinds)) (now (a .operands))
 
-clear-requires : tie.Need-clear-requires
-clear-requires c κs = search needs
+abbrev head : tie.After-mark-both Inv-loop μ-loop → tie.At-loop Inv-loop μ-loop
+head c = c .before .before .before .before .before .before .before .before .before .before .before
 
-first-bad-requires : tie.Need-first-bad-requires
-first-bad-requires c κs =
-    let b = c .before .before .before in
-    let a = b .before .before .before .before .before in
-    let m = shows-none _ (cleared-whole (take (a .args .sizes .nodes) (now (a .args .scratch))) (whole a) (b .clear .ensures)) in
-    (a .pre .0, m .0, m .1)
+found-at : (t : Table) (words : List ℕ) (i : ℕ) → i < t .sizes .nodes → badNode t i ≡ true → ((k : ℕ) → k < i → badNode t k ≡ false) → Bad t words i
+found-at t words i h e f = record { is = sym (lowest-at (badNode t) (t .sizes .nodes) i h e f); leaves = λ g. absurd (omega arith) }
 
-same-length : tie.Need-same-length
+-- the marks of a turn tell whether its node is bad, and the words show one node more
+turn : (c : tie.After-mark-both Inv-loop μ-loop)
+    → (c .mark-both .result ≡ badNode (here (head c)) (head c .loop .i))
+    × Turned (here (head c)) (c .mark-both .last .0) (head c .loop .i + 1)
+    × (length (c .mark-both .last .0) ≡ length (head c .loop .scratch))
+turn c =
+    let l = head c .loop in
+    let i = l .i in
+    let t = here (head c) in
+    let k = c .before .before .before .before .before .before .before .before .look-at in
+    let e = k .ensures in
+    let good : fitting t i ≡ true = sym (e .fitting) ∙ not-false (k .result .fitting) (c .before .before .before .before .before .before .if2 .left) in
+    let w = rw (e .left, e .right) at (c .before .before .before .before .first-word .ensures) in
+    let m = marks-found t e (inner t i) false false (ap (ltb i) (head c .before .first-root .ensures)) refl refl (c .mark-both .ensures) in
+    let small : i < length (l .scratch) = omega (arith, c .before .before .before .before .before .before .before .before .before .if1 .taken, head c .before .before .before .before .before .pre .1, l .inv .1) in (
+      bad-is t (l .inv .2) (l .inv .3) small good w m,
+      turned-more t (l .inv .2) (l .inv .3) small good w m,
+      marks-length m ∙ simp length-set,
+    )
+
+first-root-requires : tie.Need-first-root-requires Inv-loop μ-loop
+first-root-requires c κs = search needs
+
+loop-holds : tie.Need-loop-holds Inv-loop μ-loop
+loop-holds c =
+    let a = c .before .before .before .before .args in
+    (omega arith, refl, turned-none (table (a .sizes) (now (a .kinds)) (now (a .operands))) (now (a .scratch)), λ k h. absurd (omega arith))
+
+look-at-requires : tie.Need-look-at-requires Inv-loop μ-loop
+look-at-requires c κs = search needs
+
+same-length : tie.Need-same-length Inv-loop μ-loop
 same-length c = search needs
 
-returns : tie.Need-returns
-returns c = search needs
+returns : tie.Need-returns Inv-loop μ-loop
+returns c =
+    let a = c .before .before .before .before .before in
+    let l = a .loop in
+    let t = here a in
+    let k = c .before .before .look-at in
+    let unfit = sym (k .ensures .fitting) ∙ not-true (k .result .fitting) (c .if2 .taken) in
+    found-at t (l .scratch) (l .i) (omega arith) (bad-unfit t (l .i) unfit) (l .inv .3)
+
+shared-slice-read-first-word : tie.Need-shared-slice-read-first-word Inv-loop μ-loop
+shared-slice-read-first-word c = search needs
+
+first-word-requires : tie.Need-first-word-requires Inv-loop μ-loop
+first-word-requires c κs = search needs
+
+mul-scratch : tie.Need-mul-scratch Inv-loop μ-loop
+mul-scratch c = search needs
+
+slice-write-scratch : tie.Need-slice-write-scratch Inv-loop μ-loop
+slice-write-scratch c = search needs
+
+mark-both-requires : tie.Need-mark-both-requires Inv-loop μ-loop
+mark-both-requires c κs =
+    let a = c .before .before .before .before .before .before .before .before .before .before in
+    let k = c .before .before .before .before .before .before .before .look-at in
+    let w = marks-lower (here a) (k .ensures) (ltb (a .loop .i) (a .before .first-root .result))
+    (not-false (k .result .fitting) (c .before .before .before .before .before .if2 .left)) in
+    let g = length-set (a .loop .scratch) (a .loop .i) (c .before .before .before .first-word .result) in
+    ((λ e. omega (arith, w .0 e)), λ e. omega (arith, w .1 e))
+
+same-length-2 : tie.Need-same-length-2 Inv-loop μ-loop
+same-length-2 c = let m = c .before .before .before in turn m .2 ∙ head m .loop .inv .1
+
+returns-2 : tie.Need-returns-2 Inv-loop μ-loop
+returns-2 c =
+    let m = c .before .before .before in
+    let l = head m .loop in
+    found-at (here (head m)) (m .mark-both .last .0) (l .i) (omega arith) (sym (turn m .0) ∙ c .if3 .taken) (l .inv .3)
+
+add-i : tie.Need-add-i Inv-loop μ-loop
+add-i c = search needs
+
+loop-less : tie.Need-loop-less Inv-loop μ-loop
+loop-less c = search needs
+
+loop-again : tie.Need-loop-again Inv-loop μ-loop
+loop-again c =
+    let m = c .before .before .before in
+    let l = head m .loop in
+    let w = turn m in (
+      omega arith,
+      w .2 ∙ l .inv .1,
+      w .1,
+      below-more (λ (k : ℕ). badNode (here (head m)) k ≡ false) (l .i) (l .inv .3) (sym (w .0) ∙ c .if3 .left),
+    )
+
+same-length-3 : tie.Need-same-length-3 Inv-loop μ-loop
+same-length-3 c = search needs
+
+returns-3 : tie.Need-returns-3 Inv-loop μ-loop
+returns-3 c =
+    let a = c .before .before in
+    let t = here a in
+    let e : a .loop .i ≡ t .sizes .nodes = omega arith in
+    record {
+      is = sym (lowest-none (badNode t) (t .sizes .nodes) (λ k h. a .loop .inv .3 k (omega arith)));
+      leaves = λ h. rw e at (a .loop .inv .2 .shown);
+    }
 
 pub lowest-bad-spec : {M : Type 1} → statement M
 lowest-bad-spec =
     tie.close
     (tie.spec
-    slice-relend-prefix-clear
-    slice-aggregate-clear
-    clear-requires
-    first-bad-requires
+    Inv-loop
+    μ-loop
+    first-root-requires
+    loop-holds
+    look-at-requires
     same-length
-    returns)
+    returns
+    shared-slice-read-first-word
+    first-word-requires
+    mul-scratch
+    slice-write-scratch
+    mark-both-requires
+    same-length-2
+    returns-2
+    add-i
+    loop-less
+    loop-again
+    same-length-3
+    returns-3)

@@ -2,7 +2,7 @@
 -- Assumes nothing.
 use native.Mathlib.Omega.{arith}
 use borrow.Author.Needs.{needs}
-use Rattle.table.proofs.Marking.{marks-both, mark-length}
+use Rattle.table.proofs.Marking.{marks-both}
 use Rattle.table.proofs.marks.mark_both.Statement.{statement}
 use Rattle.table.proofs.marks.mark_both.Tie as tie
 
@@ -10,7 +10,7 @@ mark-requires : tie.Need-mark-requires
 mark-requires c κs = search needs
 
 mark-requires-2 : tie.Need-mark-requires-2
-mark-requires-2 c κs = λ e. omega (arith, c .before .before .before .before .before .before .pre .1 e, mark-length (c .before .before .before .mark .ensures))
+mark-requires-2 c κs = λ e. omega (arith, c .before .before .before .before .before .before .pre .1 e, c .before .before .before .mark .kept .0)
 
 same-length : tie.Need-same-length
 same-length c = search needs

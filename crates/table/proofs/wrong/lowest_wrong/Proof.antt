@@ -1,39 +1,91 @@
 -- `table::wrong::lowest_wrong` meets its contract.
 -- Assumes nothing.
-use Prim.Native.Nat.{ℕ, _<_}
+use Prim.Native.Nat.{ℕ, _≤_, _<_, _+_, _-_}
 use native.Mathlib.Omega.{arith}
 use mathlib.Core.Bool.{true}
-use mathlib.Core.Path.{_≡_}
+use mathlib.Core.Path.{_≡_, refl, subst, _∙_}
+use denote.Ref.{now}
+use lib.ListN.{length}
 use borrow.Author.Needs.{needs}
 use Rattle.table.specs.Tables.{Table, table}
 use Rattle.table.specs.Nodes.{fitting}
+use Rattle.table.specs.Reach.{wrongKey}
+use Rattle.table.specs.Marks.{Above}
 use Rattle.table.proofs.Promises.{not-bad}
-use Rattle.table.proofs.Halving.{lowest-halves}
+use Rattle.table.proofs.Spreading.{above-first, Lower, lower-first, lower-more, lower-last}
 use Rattle.table.proofs.wrong.lowest_wrong.Statement.{statement}
 use Rattle.table.proofs.wrong.lowest_wrong.Tie as tie
 
-abbrev here : tie.Start → Table
-here c = table (c .args .sizes) (c .args .kinds .now) (c .args .operands .now)
+abbrev Inv-loop : tie.InvT-loop
+Inv-loop sizes kinds operands scratch₀ lowest₀ i₀ scratch lowest i =
+    (i ≤ sizes .nodes) × (length scratch ≡ length scratch₀) × Above (table sizes kinds operands) scratch i
+    × Lower (wrongKey (table sizes kinds operands)) (sizes .nodes) i lowest
 
-all-fit : (c : tie.Start) (k : ℕ) → k < here c .sizes .nodes → fitting (here c) k ≡ true
+abbrev μ-loop : tie.MeasureT-loop
+μ-loop sizes kinds operands scratch₀ lowest₀ i₀ scratch lowest i = i
+
+abbrev here : tie.Start Inv-loop μ-loop → Table
+here c = table (c .args .sizes) (now (c .args .kinds)) (now (c .args .operands))
+
+all-fit : (c : tie.Start Inv-loop μ-loop) (k : ℕ) → k < here c .sizes .nodes → fitting (here c) k ≡ true
 all-fit c k h = not-bad (here c) k (c .pre .2 k h) .0
 
-wrong-from-requires : tie.Need-wrong-from-requires
-wrong-from-requires c κs = let s = c .before .before .before .before in (s .pre .0, s .pre .1, all-fit s)
+loop-holds : tie.Need-loop-holds Inv-loop μ-loop
+loop-holds c =
+    let s = c .before .before .before in
+    (omega arith, refl, above-first (here s) (all-fit s) (s .pre .3), lower-first (wrongKey (here s)) (here s .sizes .nodes))
 
-wrong-from-requires-2 : tie.Need-wrong-from-requires-2
-wrong-from-requires-2 c κs = let s = c .before .before .before .before .before .before .before .before in (s .pre .0, omega arith, all-fit s)
+sub-i : tie.Need-sub-i Inv-loop μ-loop
+sub-i c = search needs
 
-lesser-requires : tie.Need-lesser-requires
-lesser-requires c κs = search needs
+visit-requires : tie.Need-visit-requires Inv-loop μ-loop
+visit-requires c κs =
+    let s = c .before .before .before .before .before .before in
+    let l = c .before .before .loop in
+    let e : l .i ≡ l .i - 1 + 1 = omega arith in
+    record {
+      shaped = s .pre .0;
+      long = omega arith;
+      inside = omega arith;
+      fit = all-fit s;
+      above = subst (Above (here s) (l .scratch)) e (l .inv .2);
+    }
 
-same-length : tie.Need-same-length
+loop-less : tie.Need-loop-less Inv-loop μ-loop
+loop-less c = search needs
+
+loop-again : tie.Need-loop-again Inv-loop μ-loop
+loop-again c =
+    let t = here (c .before .before .before .before .before .before .before .before .before) in
+    let l = c .before .before .before .before .before .loop in
+    let v = c .before .before .visit .ensures in
+    let e : l .i ≡ l .i - 1 + 1 = omega arith in (
+      omega arith,
+      search needs,
+      v .above,
+      rw (v .is) (lower-more (wrongKey t) (t .sizes .nodes) (l .i - 1) (l .lowest) (subst (λ (i : ℕ). Lower (wrongKey t) (t .sizes .nodes) i (l .lowest)) e (l .inv .3))),
+    )
+
+same-length : tie.Need-same-length Inv-loop μ-loop
 same-length c = search needs
 
-returns : tie.Need-returns
-returns c = lowest-halves (here (c .before .before .before .before .before .before .before .before .before .before .before .before)) (c .before .before .before .before .before .before .before .wrong-from .ensures) (c .before .before .before .wrong-from2 .ensures) (c .lesser .ensures)
+returns : tie.Need-returns Inv-loop μ-loop
+returns c =
+    let t = here (c .before .before .before .before .before) in
+    let l = c .before .loop in
+    let e : l .i ≡ 0 = omega arith in
+    lower-last (wrongKey t) (t .sizes .nodes) (l .lowest) (subst (λ (i : ℕ). Lower (wrongKey t) (t .sizes .nodes) i (l .lowest)) e (l .inv .3))
 
 pub lowest-wrong-spec : {M : Type 1} → statement M
 lowest-wrong-spec =
     tie.close
-    (tie.spec wrong-from-requires wrong-from-requires-2 lesser-requires same-length returns)
+    (tie.spec
+    Inv-loop
+    μ-loop
+    loop-holds
+    sub-i
+    visit-requires
+    loop-less
+    loop-again
+    same-length
+    returns)

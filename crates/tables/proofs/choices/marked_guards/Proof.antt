@@ -5,14 +5,13 @@ use mathlib.Core.Bool.{Bool, true, false, cond, _&&_}
 use mathlib.Core.Logic.{⊎-elim}
 use mathlib.Core.List.{List}
 use denote.Ref.{now}
-use mathlib.Core.Path.{_≡_, sym, ap, subst, _∙_}
+use mathlib.Core.Path.{_≡_, sym, ap, ap₂, subst, _∙_}
 use borrow.Author.Needs.{needs}
 use native.Mathlib.Omega.{arith}
 use lib.ListN.{length}
 use Rattle.basis.specs.Numbers.{howMany}
 use Rattle.basis.proofs.Numbers.{howMany-more, howMany-bound, howMany-none}
-use Rattle.choice.specs.Marking.{hasMark}
-use Rattle.tables.specs.Guards.{markedGuard}
+use Rattle.choice.specs.Marking.{markedGuard}
 use Rattle.tables.proofs.choices.marked_guards.Statement.{statement}
 use Rattle.tables.proofs.choices.marked_guards.Tie as tie
 
@@ -44,8 +43,8 @@ shared-slice-read-is-guard c = search needs
 is-guard-requires : tie.Need-is-guard-requires Inv-loop μ-loop
 is-guard-requires c κs = search needs
 
-shared-slice-read-if1 : tie.Need-shared-slice-read-if1 Inv-loop μ-loop
-shared-slice-read-if1 c = search needs
+has-mark-requires : tie.Need-has-mark-requires Inv-loop μ-loop
+has-mark-requires c κs = omega arith
 
 add-count : tie.Need-add-count Inv-loop μ-loop
 add-count c =
@@ -63,7 +62,7 @@ loop-again : tie.Need-loop-again Inv-loop μ-loop
 loop-again c =
     let a = c .before .before .before .before .before .before .before .before .args in
     let l = c .before .before .before .before .before .loop in
-    let g = ap (λ (x : Bool). x && hasMark (now (a .marks)) (l .i)) (sym (c .before .before .is-guard .ensures)) in (
+    let g = ap₂ _&&_ (sym (c .before .before .is-guard .ensures)) (sym (c .before .has-mark .ensures)) in (
       omega arith,
       ⊎-elim (λ t. counted (now (a .kinds)) (now (a .marks)) (l .i) (l .inv .1) (g ∙ t .0 .taken) (t .1)) (λ t. passed (now (a .kinds)) (now (a .marks)) (l .i) (l .inv .1) (g ∙ t .0 .left) (t .1)) (c .if1 .came),
     )
@@ -83,7 +82,7 @@ marked-guards-spec =
     loop-holds
     shared-slice-read-is-guard
     is-guard-requires
-    shared-slice-read-if1
+    has-mark-requires
     add-count
     add-i
     loop-less
