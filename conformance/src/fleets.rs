@@ -138,6 +138,18 @@ pub fn nested_ands() -> Fleet {
     writers(draft, link, 32)
 }
 
+/// One agent that acts by this process, again and again.
+fn repeated(mut draft: Draft, process: u16) -> Fleet {
+    let again = draft.call(0);
+    let body = draft.sequence(process, again);
+    draft.define(body);
+    let start = draft.call(0);
+    draft.agent(start);
+    let table = draft.bytes();
+    let call = full_run(&table, &[Step::act(0, 0)]);
+    Fleet { table, call }
+}
+
 /// An act through 2,000 guards, again and again.
 pub fn many_guards() -> Fleet {
     let mut draft = Draft::new(1, 0);
@@ -147,14 +159,7 @@ pub fn many_guards() -> Fleet {
         let guard = draft.truth();
         top = draft.guarded(guard, top);
     }
-    let again = draft.call(0);
-    let body = draft.sequence(top, again);
-    draft.define(body);
-    let start = draft.call(0);
-    draft.agent(start);
-    let table = draft.bytes();
-    let call = full_run(&table, &[Step::act(0, 0)]);
-    Fleet { table, call }
+    repeated(draft, top)
 }
 
 /// Ticks that join over a large body: a chain of sequences of ticks before an action, again and again.
@@ -168,12 +173,5 @@ pub fn joined_ticks() -> Fleet {
         let guarded = draft.guarded(guard, tick);
         top = draft.sequence(guarded, top);
     }
-    let again = draft.call(0);
-    let body = draft.sequence(top, again);
-    draft.define(body);
-    let start = draft.call(0);
-    draft.agent(start);
-    let table = draft.bytes();
-    let call = full_run(&table, &[Step::act(0, 0)]);
-    Fleet { table, call }
+    repeated(draft, top)
 }
