@@ -1,12 +1,19 @@
-/* The proved LAbS rehearsal machine: target/staticlib/librehearsal.a, written by `rt staticlib rehearsal`.
+/* The proved LAbS rehearsal machine, for C and C++ on x86-64 Linux: target/staticlib/librehearsal.a, which
+ * `rt staticlib rehearsal` writes. docs/FORMATS.md says what tables, schedules, states and steps are;
+ * examples/rehearse.c is a whole program.
  *
- * A slice is a pointer and a count of elements. A caller owes for each that the pointer is aligned, not null (also where the
- * count is 0) and valid for so many elements, and that what is written (state, scratch, answers) overlaps no other slice.
- * Nothing else is asked: any bytes as table and schedule and any words as state get an answer. No call keeps a pointer,
- * allocates or prints. A call on the deepest tables fits 800 KB of stack, as measured.
+ * Slices. A slice is a pointer and a count of elements. A caller owes for each that the pointer is aligned, not null
+ * (also where the count is 0) and valid for so many elements, and that what is written (state, scratch, answers)
+ * overlaps no other slice. Nothing else is asked: any bytes as table and schedule and any words as state get an
+ * answer. No call keeps a pointer, allocates or prints.
  *
- * The answer is one number. Refused: LABS_REFUSED + 65,536 x place + refusal (1 to 20), and state and answer bytes are as they
- * came. Done: load 0; step the number of agents that took the entry; run done + 65,536 x refused + 2^32 x taken. */
+ * Threads. The library has no data of its own. Calls may run in several threads at once, as long as no thread uses
+ * what another one's call writes; a table and a schedule are only read, and may be shared.
+ *
+ * Stack. A call on the deepest tables fits 800 KB of stack, as measured.
+ *
+ * Answers. An answer is one number, which the macros under "Answers" take apart. A refused call has its refusal and
+ * its place in it, and leaves state and answer bytes as they came. */
 #ifndef REHEARSAL_H
 #define REHEARSAL_H
 
@@ -17,22 +24,172 @@
 extern "C" {
 #endif
 
-/* How many words a state has. */
-#define LABS_STATE_WORDS 4194
-/* Scratch words that suffice for every table; two for each node suffice for one. What they hold, before and after, is free. */
-#define LABS_SCRATCH_WORDS 8192
+/* ---- Limits ---- */
+
+#define LABS_MAX_NODES 4096
+#define LABS_MAX_DEFINITIONS 64
+#define LABS_MAX_AGENTS 32
+/* Of attributes, of stigmergy keys, and of environment keys. */
+#define LABS_MAX_KEYS 16
+#define LABS_MAX_STEPS 8192
+#define LABS_MAX_DERIVATIONS 65535
+#define LABS_MAX_CLOCK 65535
+/* Words of a residual. */
+#define LABS_MAX_RESIDUAL 63
+
+/* ---- Bytes of a table and of a schedule; operands are of four bytes, p and then q, or agent and then number ---- */
+
+#define LABS_HEADER_BYTES 12
+#define LABS_TABLE_BYTES(nodes) (LABS_HEADER_BYTES + 5 * (nodes))
+#define LABS_TABLE_KIND(node) (LABS_HEADER_BYTES + (node))
+#define LABS_TABLE_OPERAND(nodes, node) (LABS_HEADER_BYTES + (nodes) + 4 * (node))
+
+#define LABS_SCHEDULE_BYTES(steps) (2 + 5 * (steps))
+#define LABS_SCHEDULE_KIND(step) (2 + (step))
+#define LABS_SCHEDULE_OPERAND(steps, step) (2 + (steps) + 4 * (step))
+
+enum labs_node {
+    LABS_NODE_IDLE = 0,
+    LABS_NODE_TICK = 1,
+    LABS_NODE_SET_ATTRIBUTE = 2,
+    LABS_NODE_SET_STIGMERGY = 3,
+    LABS_NODE_SET_ENVIRONMENT = 4,
+    LABS_NODE_SEQUENCE = 5,
+    LABS_NODE_CHOICE = 6,
+    LABS_NODE_GUARDED = 7,
+    LABS_NODE_PARALLEL = 8,
+    LABS_NODE_CALL = 9,
+    LABS_NODE_TRUE = 16,
+    LABS_NODE_EQUAL = 17,
+    LABS_NODE_LESS = 18,
+    LABS_NODE_GREATER = 19,
+    LABS_NODE_NOT = 20,
+    LABS_NODE_AND = 21,
+    LABS_NODE_OR = 22,
+    LABS_NODE_CONSTANT = 32,
+    LABS_NODE_ATTRIBUTE = 33,
+    LABS_NODE_STIGMERGY = 34,
+    LABS_NODE_ENVIRONMENT = 35,
+    LABS_NODE_ADD = 36,
+    LABS_NODE_SUBTRACT = 37,
+    LABS_NODE_MULTIPLY = 38,
+    LABS_NODE_DIVIDE = 39,
+    LABS_NODE_REMAINDER = 40,
+    LABS_NODE_ROOT = 64
+};
+
+/* Whose value an attribute or stigmergy key node reads. */
+enum labs_party { LABS_PARTY_OWN = 0, LABS_PARTY_SENDER = 1, LABS_PARTY_RECEIVER = 2 };
+
+/* Kinds of steps. */
+enum labs_step_kind { LABS_ACT = 0, LABS_PROPAGATE = 1, LABS_CONFIRM = 2 };
+
+/* ---- Words of a state: LABS_CLOCK, LABS_AGENTS and the macros with a parameter give a word's index ---- */
+
+/* The clock, and how many agents there are. */
+#define LABS_CLOCK 0
+#define LABS_AGENTS 1
+
+/* A value: whether it is present (0 or 1), and its two's complement word, 0 where it is absent. */
+#define LABS_PAIR_WORDS 2
+#define LABS_STORE_WORDS (LABS_PAIR_WORDS * LABS_MAX_KEYS)
+#define LABS_ENVIRONMENT(key) (LABS_AGENTS + 1 + LABS_PAIR_WORDS * (key))
+#define LABS_ENVIRONMENT_PRESENT(key) (LABS_ENVIRONMENT(key))
+#define LABS_ENVIRONMENT_VALUE(key) (LABS_ENVIRONMENT(key) + 1)
+
+/* An agent's block: attributes, entries, two sets of keys, the residual's length and its words. */
+#define LABS_BLOCK_WORDS (LABS_STORE_WORDS + LABS_ENTRIES_WORDS + 3 + LABS_MAX_RESIDUAL)
+#define LABS_BLOCK(agent) (LABS_ENVIRONMENT(LABS_MAX_KEYS) + LABS_BLOCK_WORDS * (agent))
+#define LABS_ATTRIBUTE(agent, key) (LABS_BLOCK(agent) + LABS_PAIR_WORDS * (key))
+#define LABS_ATTRIBUTE_PRESENT(agent, key) (LABS_ATTRIBUTE(agent, key))
+#define LABS_ATTRIBUTE_VALUE(agent, key) (LABS_ATTRIBUTE(agent, key) + 1)
+
+/* An entry: its value's two's complement word, and its stamp, 0 where there is no entry. */
+#define LABS_ENTRY_WORDS 2
+#define LABS_ENTRIES_WORDS (LABS_ENTRY_WORDS * LABS_MAX_KEYS)
+#define LABS_ENTRY(agent, key) (LABS_ATTRIBUTE(agent, LABS_MAX_KEYS) + LABS_ENTRY_WORDS * (key))
+#define LABS_ENTRY_VALUE(agent, key) (LABS_ENTRY(agent, key))
+#define LABS_ENTRY_STAMP(agent, key) (LABS_ENTRY(agent, key) + 1)
+
+/* The keys to confirm and the keys to propagate: bit k is key k. */
+#define LABS_ZC(agent) (LABS_ENTRY(agent, LABS_MAX_KEYS))
+#define LABS_ZP(agent) (LABS_ZC(agent) + 1)
+
+/* What is left of the agent's process: how many words, and word i of it. */
+#define LABS_RESIDUAL_LENGTH(agent) (LABS_ZP(agent) + 1)
+#define LABS_RESIDUAL(agent, i) (LABS_RESIDUAL_LENGTH(agent) + 1 + (i))
+
+/* How many words a state has: 4,194. */
+#define LABS_STATE_WORDS (LABS_BLOCK(LABS_MAX_AGENTS))
+
+/* What the words of a residual are; any other word is a process node. */
+enum labs_residual {
+    LABS_RESIDUAL_IDLE = 65532,
+    LABS_RESIDUAL_TICK = 65533,
+    LABS_RESIDUAL_PARALLEL = 65534,
+    LABS_RESIDUAL_SEQUENCE = 65535
+};
+
+/* ---- Scratch: what its words hold, before and after a call, is free ---- */
+
+/* Words that suffice for a table of so many nodes, and for every table. */
+#define LABS_SCRATCH(nodes) (2 * (nodes))
+#define LABS_SCRATCH_WORDS (LABS_SCRATCH(LABS_MAX_NODES))
+
+/* ---- Answers ---- */
+
 /* Set in the answer of a refused call, and of no other. */
 #define LABS_REFUSED (UINT64_C(1) << 63)
+#define LABS_IS_REFUSED(answer) (((answer) & LABS_REFUSED) != 0)
+
+/* Of a refused call: why, and where (a node, a definition, or 0). */
+#define LABS_REFUSAL(answer) ((unsigned)((answer) & 0xffff))
+#define LABS_PLACE(answer) (((answer) & ~LABS_REFUSED) >> 16)
+
+/* Of a step that is done: how many agents took the entry; of an act none. A load that is done answers 0. */
+#define LABS_STEP_TAKEN(answer) ((unsigned)(answer))
+
+/* Of a run that is not refused: how many steps were done, how many were refused, and how often an entry was taken. */
+#define LABS_RUN_DONE(answer) ((unsigned)((answer) & 0xffff))
+#define LABS_RUN_REFUSED(answer) ((unsigned)((answer) >> 16 & 0xffff))
+#define LABS_RUN_TAKEN(answer) ((unsigned)((answer) >> 32))
+
+/* Why a call was refused; of a step inside a run, its answer byte. */
+enum labs_refusal {
+    LABS_REFUSAL_TABLE_SHORT = 1,
+    LABS_REFUSAL_SIZE_OUTSIDE_LIMITS = 2,
+    LABS_REFUSAL_TABLE_LENGTH = 3,
+    LABS_REFUSAL_BAD_NODE = 4,
+    LABS_REFUSAL_WRONG_PARTY = 5,
+    LABS_REFUSAL_EXPOSED_CALL = 6,
+    LABS_REFUSAL_NODE_DERIVATIONS = 7,
+    LABS_REFUSAL_BUFFER_LENGTH = 8,
+    LABS_REFUSAL_STATE_NOT_WELL_FORMED = 9,
+    LABS_REFUSAL_STEP_OUT_OF_RANGE = 10,
+    LABS_REFUSAL_KEYS_PENDING = 11,
+    LABS_REFUSAL_RESIDUAL_DERIVATIONS = 12,
+    LABS_REFUSAL_NO_SUCH_CHOICE = 13,
+    LABS_REFUSAL_GUARD_FAILS = 14,
+    LABS_REFUSAL_EXPRESSION_ABSENT = 15,
+    LABS_REFUSAL_CLOCK_AT_END = 16,
+    LABS_REFUSAL_RESIDUAL_TOO_LONG = 17,
+    LABS_REFUSAL_KEY_NOT_IN_SET = 18,
+    LABS_REFUSAL_SCHEDULE_LENGTH = 19,
+    LABS_REFUSAL_ANSWERS_SHORT = 20
+};
+
+/* ---- Calls ---- */
 
 /* Checks a table, and makes state that of its fleet before any step. */
 uint64_t labs_load(const uint8_t *table, size_t table_len, uint32_t *state, size_t state_len,
                    uint32_t *scratch, size_t scratch_len);
 
-/* Does one step: act (kind 0; number is a choice), propagate (1) or confirm (2; number is a key). */
+/* Does one step. The number is an act's choice, or the key of a propagate or confirm. */
 uint64_t labs_step(const uint8_t *table, size_t table_len, uint32_t *state, size_t state_len,
                    uint32_t *scratch, size_t scratch_len, uint8_t kind, uint16_t agent, uint16_t number);
 
-/* Does each step of a schedule in turn, going on past refused ones, and writes a byte for each to answers: 0, or its refusal. */
+/* Does each step of a schedule in turn, going on past refused ones, and writes a byte for each to answers: 0 if it is
+ * done, or its refusal. Bytes of answers past the schedule's steps stay. */
 uint64_t labs_run(const uint8_t *table, size_t table_len, uint32_t *state, size_t state_len,
                   uint32_t *scratch, size_t scratch_len, const uint8_t *schedule, size_t schedule_len,
                   uint8_t *answers, size_t answers_len);

@@ -1,44 +1,10 @@
 //! The proved library, called as C calls it, on cases that the second implementation generates.
 
 pub mod fleets;
+#[path = "../../include/rehearsal.rs"]
+pub mod rehearsal;
 
 use reference::cases::{Call, Case, ANSWER_FILL};
-
-extern "C" {
-    fn labs_load(
-        table: *const u8,
-        table_len: usize,
-        state: *mut u32,
-        state_len: usize,
-        scratch: *mut u32,
-        scratch_len: usize,
-    ) -> u64;
-
-    fn labs_step(
-        table: *const u8,
-        table_len: usize,
-        state: *mut u32,
-        state_len: usize,
-        scratch: *mut u32,
-        scratch_len: usize,
-        kind: u8,
-        agent: u16,
-        number: u16,
-    ) -> u64;
-
-    fn labs_run(
-        table: *const u8,
-        table_len: usize,
-        state: *mut u32,
-        state_len: usize,
-        scratch: *mut u32,
-        scratch_len: usize,
-        schedule: *const u8,
-        schedule_len: usize,
-        answers: *mut u8,
-        answers_len: usize,
-    ) -> u64;
-}
 
 /// What a call gives back: the packed answer, the state and the answer bytes.
 #[derive(Clone, Debug, PartialEq, Eq)]
@@ -142,36 +108,11 @@ pub fn call_on(
     call: &Call,
     answers: &mut [u8],
 ) -> u64 {
-    let (t, t_len) = (table.as_ptr(), table.len());
-    let (s, s_len) = (state.as_mut_ptr(), state.len());
-    let (w, w_len) = (scratch.as_mut_ptr(), scratch.len());
-    // Each pointer is that of a slice of the length beside it, and no two of them overlap.
-    unsafe {
-        match call {
-            Call::Load => labs_load(t, t_len, s, s_len, w, w_len),
-            Call::Step(step) => labs_step(
-                t,
-                t_len,
-                s,
-                s_len,
-                w,
-                w_len,
-                step.kind,
-                step.agent,
-                step.number,
-            ),
-            Call::Run { schedule, .. } => labs_run(
-                t,
-                t_len,
-                s,
-                s_len,
-                w,
-                w_len,
-                schedule.as_ptr(),
-                schedule.len(),
-                answers.as_mut_ptr(),
-                answers.len(),
-            ),
+    match call {
+        Call::Load => rehearsal::load(table, state, scratch),
+        Call::Step(step) => {
+            rehearsal::step(table, state, scratch, step.kind, step.agent, step.number)
         }
+        Call::Run { schedule, .. } => rehearsal::run(table, state, scratch, schedule, answers),
     }
 }

@@ -45,7 +45,7 @@ impl History {
     /// The next step with the length of its scratch; says what it answers.
     pub fn note(&mut self, scratch_words: usize, step: Step) -> Answer<u32> {
         if scratch_words < 2 * self.fleet.sizes.nodes {
-            return Err(Reason::Room.into());
+            return Err(Reason::BufferLength.into());
         }
         let write = self.write_of(step);
         let answer = self.world.step(&self.fleet, step);

@@ -12,7 +12,7 @@ use crate::table::{Fleet, Sizes};
 pub fn open(table: &[u8], state_words: usize, scratch_words: usize) -> Answer<Fleet> {
     let sizes = Sizes::read(table)?;
     if state_words != STATE_WORDS || scratch_words < 2 * sizes.nodes {
-        return Err(Reason::Room.into());
+        return Err(Reason::BufferLength.into());
     }
     Fleet::read(table, sizes)
 }

@@ -11,7 +11,7 @@ pub enum Reason {
     WrongParty = 5,
     ExposedCall = 6,
     NodeDerivations = 7,
-    Room = 8,
+    BufferLength = 8,
     StateNotWellFormed = 9,
     StepOutOfRange = 10,
     KeysPending = 11,
@@ -30,6 +30,30 @@ pub enum Reason {
 pub const REASONS: usize = 20;
 
 impl Reason {
+    /// In the order of the numbers.
+    pub const ALL: [Reason; REASONS] = [
+        Reason::TableShort,
+        Reason::SizeOutsideLimits,
+        Reason::TableLength,
+        Reason::BadNode,
+        Reason::WrongParty,
+        Reason::ExposedCall,
+        Reason::NodeDerivations,
+        Reason::BufferLength,
+        Reason::StateNotWellFormed,
+        Reason::StepOutOfRange,
+        Reason::KeysPending,
+        Reason::ResidualDerivations,
+        Reason::NoSuchChoice,
+        Reason::GuardFails,
+        Reason::ExpressionAbsent,
+        Reason::ClockAtEnd,
+        Reason::ResidualTooLong,
+        Reason::KeyNotInSet,
+        Reason::ScheduleLength,
+        Reason::AnswersShort,
+    ];
+
     pub fn number(self) -> u8 {
         self as u8
     }

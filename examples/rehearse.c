@@ -1,0 +1,69 @@
+/* Rehearses the fleet in a file, a table and after it a schedule, as labs_show does, and says what labs_show does not:
+ * which steps were refused, and why. docs/FORMATS.md has the formats.
+ * Status: 0 done, 1 load or run refused, 2 no such file. */
+#include "rehearsal.h"
+
+#include <stdio.h>
+
+/* One byte more than the longest table and schedule. */
+static uint8_t input[LABS_TABLE_BYTES(LABS_MAX_NODES) + LABS_SCHEDULE_BYTES(LABS_MAX_STEPS) + 1];
+static uint8_t answers[LABS_MAX_STEPS];
+static uint32_t state[LABS_STATE_WORDS], scratch[LABS_SCRATCH_WORDS];
+
+static unsigned u16_at(const uint8_t *bytes)
+{
+    return bytes[0] | (unsigned)bytes[1] << 8;
+}
+
+static int refused(const char *call, uint64_t answer)
+{
+    if (LABS_IS_REFUSED(answer))
+        printf("%s: refusal %u at %lu\n", call, LABS_REFUSAL(answer), (unsigned long)LABS_PLACE(answer));
+    return LABS_IS_REFUSED(answer);
+}
+
+int main(int argc, char **argv)
+{
+    static const char *const kinds[] = {"act", "propagate", "confirm"};
+    FILE *file = argc == 2 ? fopen(argv[1], "rb") : NULL;
+    size_t length = file ? fread(input, 1, sizeof input, file) : 0;
+    if (!file || ferror(file)) {
+        fprintf(stderr, "usage: %s FILE, with a table and a schedule that can be read\n", argv[0]);
+        return 2;
+    }
+    fclose(file);
+
+    /* The table is as long as its header says; the rest is the schedule. */
+    size_t table_len = length < LABS_HEADER_BYTES ? length : LABS_TABLE_BYTES((size_t)u16_at(input));
+    if (table_len > length)
+        table_len = length;
+    const uint8_t *schedule = input + table_len;
+
+    if (refused("load", labs_load(input, table_len, state, LABS_STATE_WORDS, scratch, LABS_SCRATCH_WORDS)))
+        return 1;
+    uint64_t answer = labs_run(input, table_len, state, LABS_STATE_WORDS, scratch, LABS_SCRATCH_WORDS,
+                               schedule, length - table_len, answers, sizeof answers);
+    if (refused("run", answer))
+        return 1;
+    printf("done %u refused %u taken %u\n", LABS_RUN_DONE(answer), LABS_RUN_REFUSED(answer), LABS_RUN_TAKEN(answer));
+
+    unsigned steps = u16_at(schedule);
+    for (unsigned i = 0; i < steps; i++) {
+        const uint8_t *operand = schedule + LABS_SCHEDULE_OPERAND(steps, i);
+        unsigned kind = schedule[LABS_SCHEDULE_KIND(i)];
+        if (answers[i])
+            printf("step %u (%s, agent %u, number %u): refusal %u\n", i, kind <= LABS_CONFIRM ? kinds[kind] : "no kind",
+                   u16_at(operand), u16_at(operand + 2), (unsigned)answers[i]);
+    }
+    for (unsigned agent = 0; agent < state[LABS_AGENTS]; agent++) {
+        for (unsigned key = 0; key < LABS_MAX_KEYS; key++) {
+            unsigned stamp = state[LABS_ENTRY_STAMP(agent, key)];
+            if (stamp)
+                printf("agent %u key %u: value %d stamp %u%s%s\n", agent, key,
+                       (int)(int32_t)state[LABS_ENTRY_VALUE(agent, key)], stamp,
+                       state[LABS_ZC(agent)] >> key & 1 ? ", to confirm" : "",
+                       state[LABS_ZP(agent)] >> key & 1 ? ", to propagate" : "");
+        }
+    }
+    return 0;
+}

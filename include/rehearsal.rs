@@ -1,0 +1,200 @@
+//! The proved library, for Rust on x86-64 Linux: a module to include by its path. rehearsal.h beside it says what the
+//! calls do, which stack they need, and what the numbers are; examples/rehearse.rs is a whole program.
+//!
+//! Slices of Rust are what the library asks of its caller: aligned, not null, valid, and apart where they are written.
+
+pub const MAX_NODES: usize = 4_096;
+pub const MAX_AGENTS: usize = 32;
+pub const MAX_KEYS: usize = 16;
+pub const MAX_STEPS: usize = 8_192;
+pub const MAX_RESIDUAL: usize = 63;
+
+/// Words of scratch that suffice for every table.
+pub const SCRATCH_WORDS: usize = 2 * MAX_NODES;
+
+/// The words of a state, by their index.
+pub mod word {
+    use super::{MAX_AGENTS, MAX_KEYS, MAX_RESIDUAL};
+
+    pub const CLOCK: usize = 0;
+    pub const AGENTS: usize = 1;
+    const PAIR_WORDS: usize = 2;
+    const ENTRY_WORDS: usize = 2;
+    const BLOCK_WORDS: usize = (PAIR_WORDS + ENTRY_WORDS) * MAX_KEYS + 3 + MAX_RESIDUAL;
+
+    /// A value's two words: whether it is present, and its two's complement word.
+    pub const fn environment(key: usize) -> usize {
+        AGENTS + 1 + PAIR_WORDS * key
+    }
+
+    const fn block(agent: usize) -> usize {
+        environment(MAX_KEYS) + BLOCK_WORDS * agent
+    }
+
+    /// As of the environment.
+    pub const fn attribute(agent: usize, key: usize) -> usize {
+        block(agent) + PAIR_WORDS * key
+    }
+
+    /// The value of an entry, and its stamp, 0 where there is no entry.
+    pub const fn entry_value(agent: usize, key: usize) -> usize {
+        attribute(agent, MAX_KEYS) + ENTRY_WORDS * key
+    }
+
+    pub const fn entry_stamp(agent: usize, key: usize) -> usize {
+        entry_value(agent, key) + 1
+    }
+
+    /// The keys to confirm, bit k for key k.
+    pub const fn zc(agent: usize) -> usize {
+        entry_value(agent, MAX_KEYS)
+    }
+
+    /// The keys to propagate.
+    pub const fn zp(agent: usize) -> usize {
+        zc(agent) + 1
+    }
+
+    /// How many words the residual has; they follow.
+    pub const fn residual_length(agent: usize) -> usize {
+        zp(agent) + 1
+    }
+
+    /// How many words a state has.
+    pub const STATE_WORDS: usize = block(MAX_AGENTS);
+}
+
+/// A refused call: why, and where (a node, a definition, or 0).
+#[derive(Clone, Copy, Debug, PartialEq, Eq)]
+pub struct Refused {
+    pub refusal: u16,
+    pub place: u64,
+}
+
+/// What an answer says: a report, or why the call was refused.
+pub fn taken_apart(answer: u64) -> Result<u64, Refused> {
+    if answer >> 63 == 0 {
+        return Ok(answer);
+    }
+    Err(Refused {
+        refusal: answer as u16,
+        place: answer << 1 >> 17,
+    })
+}
+
+/// How many steps of a run were done, how many were refused, and how often an entry was taken.
+#[derive(Clone, Copy, Debug, PartialEq, Eq)]
+pub struct Totals {
+    pub done: u16,
+    pub refused: u16,
+    pub taken: u32,
+}
+
+impl Totals {
+    /// Of the report of a run.
+    pub fn of(report: u64) -> Totals {
+        Totals {
+            done: report as u16,
+            refused: (report >> 16) as u16,
+            taken: (report >> 32) as u32,
+        }
+    }
+}
+
+/// labs_load.
+pub fn load(table: &[u8], state: &mut [u32], scratch: &mut [u32]) -> u64 {
+    unsafe {
+        labs_load(
+            table.as_ptr(),
+            table.len(),
+            state.as_mut_ptr(),
+            state.len(),
+            scratch.as_mut_ptr(),
+            scratch.len(),
+        )
+    }
+}
+
+/// labs_step.
+pub fn step(
+    table: &[u8],
+    state: &mut [u32],
+    scratch: &mut [u32],
+    kind: u8,
+    agent: u16,
+    number: u16,
+) -> u64 {
+    unsafe {
+        labs_step(
+            table.as_ptr(),
+            table.len(),
+            state.as_mut_ptr(),
+            state.len(),
+            scratch.as_mut_ptr(),
+            scratch.len(),
+            kind,
+            agent,
+            number,
+        )
+    }
+}
+
+/// labs_run.
+pub fn run(
+    table: &[u8],
+    state: &mut [u32],
+    scratch: &mut [u32],
+    schedule: &[u8],
+    answers: &mut [u8],
+) -> u64 {
+    unsafe {
+        labs_run(
+            table.as_ptr(),
+            table.len(),
+            state.as_mut_ptr(),
+            state.len(),
+            scratch.as_mut_ptr(),
+            scratch.len(),
+            schedule.as_ptr(),
+            schedule.len(),
+            answers.as_mut_ptr(),
+            answers.len(),
+        )
+    }
+}
+
+extern "C" {
+    fn labs_load(
+        table: *const u8,
+        table_len: usize,
+        state: *mut u32,
+        state_len: usize,
+        scratch: *mut u32,
+        scratch_len: usize,
+    ) -> u64;
+
+    fn labs_step(
+        table: *const u8,
+        table_len: usize,
+        state: *mut u32,
+        state_len: usize,
+        scratch: *mut u32,
+        scratch_len: usize,
+        kind: u8,
+        agent: u16,
+        number: u16,
+    ) -> u64;
+
+    fn labs_run(
+        table: *const u8,
+        table_len: usize,
+        state: *mut u32,
+        state_len: usize,
+        scratch: *mut u32,
+        scratch_len: usize,
+        schedule: *const u8,
+        schedule_len: usize,
+        answers: *mut u8,
+        answers_len: usize,
+    ) -> u64;
+}
