@@ -6,7 +6,9 @@
 #[path = "../include/rehearsal.rs"]
 mod rehearsal;
 
-use rehearsal::{load, run, taken_apart, word, Refused, Totals, MAX_KEYS, MAX_STEPS, SCRATCH_WORDS};
+use rehearsal::{
+    load, run, taken_apart, word, Refused, Totals, MAX_KEYS, MAX_STEPS, SCRATCH_WORDS,
+};
 use std::process::exit;
 
 fn u16_at(bytes: &[u8], at: usize) -> u16 {
@@ -24,12 +26,19 @@ fn report(call: &str, answer: u64) -> u64 {
 fn main() {
     let arguments: Vec<String> = std::env::args().collect();
     let Some(Ok(input)) = arguments.get(1).map(std::fs::read) else {
-        eprintln!("usage: {} FILE, with a table and a schedule that can be read", arguments[0]);
+        eprintln!(
+            "usage: {} FILE, with a table and a schedule that can be read",
+            arguments[0]
+        );
         exit(2)
     };
 
     // The table is as long as its header says; the rest is the schedule.
-    let nodes = if input.len() < 12 { 0 } else { u16_at(&input, 0) };
+    let nodes = if input.len() < 12 {
+        0
+    } else {
+        u16_at(&input, 0)
+    };
     let (table, schedule) = input.split_at(input.len().min(12 + 5 * usize::from(nodes)));
 
     let mut state = vec![0; word::STATE_WORDS];
@@ -37,12 +46,18 @@ fn main() {
     let mut answers = vec![0; MAX_STEPS];
     report("load", load(table, &mut state, &mut scratch));
     let answer = run(table, &mut state, &mut scratch, schedule, &mut answers);
-    let Totals { done, refused, taken } = Totals::of(report("run", answer));
+    let Totals {
+        done,
+        refused,
+        taken,
+    } = Totals::of(report("run", answer));
     println!("done {done} refused {refused} taken {taken}");
 
     let steps = usize::from(u16_at(schedule, 0));
     for (i, &answer) in answers[..steps].iter().enumerate() {
-        let kind = ["act", "propagate", "confirm"].get(usize::from(schedule[2 + i])).unwrap_or(&"no kind");
+        let kind = ["act", "propagate", "confirm"]
+            .get(usize::from(schedule[2 + i]))
+            .unwrap_or(&"no kind");
         let operand = 2 + steps + 4 * i;
         let (agent, number) = (u16_at(schedule, operand), u16_at(schedule, operand + 2));
         if answer != 0 {
@@ -51,12 +66,17 @@ fn main() {
     }
     for agent in 0..state[word::AGENTS] as usize {
         for key in 0..MAX_KEYS {
-            let (value, stamp) = (state[word::entry_value(agent, key)] as i32, state[word::entry_stamp(agent, key)]);
+            let (value, stamp) = (
+                state[word::entry_value(agent, key)] as i32,
+                state[word::entry_stamp(agent, key)],
+            );
             let waits = |set: usize, text| if state[set] >> key & 1 == 1 { text } else { "" };
             let confirm = waits(word::zc(agent), ", to confirm");
             let propagate = waits(word::zp(agent), ", to propagate");
             if stamp != 0 {
-                println!("agent {agent} key {key}: value {value} stamp {stamp}{confirm}{propagate}");
+                println!(
+                    "agent {agent} key {key}: value {value} stamp {stamp}{confirm}{propagate}"
+                );
             }
         }
     }

@@ -1,54 +1,208 @@
-//! A program in C that includes the header and links the library.
+//! include/rehearsal.h compiles as C and C++ without a warning, and every number in it is the second implementation's;
+//! so are those of include/rehearsal.rs.
 
-use std::io::Write;
-use std::path::Path;
-use std::process::{Command, Stdio};
+use std::collections::BTreeSet;
+use std::fmt::Write;
+use std::fs;
+use std::path::{Path, PathBuf};
+use std::process::Command;
 
-use reference::generate::edges;
-use reference::schedule;
+use conformance::numbers::{self, Named};
+use conformance::rehearsal::{
+    self, taken_apart, word, Refused, Totals, MAX_AGENTS, MAX_KEYS, MAX_NODES, MAX_RESIDUAL,
+    MAX_STEPS, SCRATCH_WORDS,
+};
+use reference::refusal::{pack, Refusal};
+use reference::Reason;
 
-/// Compiles tests/caller.c into cargo's folder for tests.
-fn compiled() -> std::path::PathBuf {
-    let here = Path::new(env!("CARGO_MANIFEST_DIR"));
-    let program = Path::new(env!("CARGO_TARGET_TMPDIR")).join("caller");
-    let status = Command::new("cc")
-        .args(["-std=c11", "-Wall", "-Wextra", "-Werror", "-pedantic"])
+/// Compilers with the language that each is to take the header as.
+const LANGUAGES: [(&str, &str, &str); 5] = [
+    ("cc", "c", "c99"),
+    ("cc", "c", "c17"),
+    ("c++", "c++", "c++11"),
+    ("c++", "c++", "c++17"),
+    ("c++", "c++", "c++20"),
+];
+const STRICT: [&str; 4] = ["-Wall", "-Wextra", "-Werror", "-pedantic"];
+
+fn include() -> PathBuf {
+    Path::new(env!("CARGO_MANIFEST_DIR")).join("../include")
+}
+
+/// A program that prints each number on a line, and calls the library so that its declarations are linked too.
+fn program(all: &[Named]) -> String {
+    let mut text = String::from(
+        "#include \"rehearsal.h\"\n#include <inttypes.h>\n#include <stdio.h>\n\
+         static const uint64_t numbers[] = {\n",
+    );
+    for (name, _) in all {
+        writeln!(text, "(uint64_t)({name}),").unwrap();
+    }
+    text.push_str(
+        "0};\nstatic uint32_t state[LABS_STATE_WORDS], scratch[LABS_SCRATCH_WORDS];\n\
+         int main(void)\n{\n\
+         uint8_t none[1] = {0};\n\
+         for (size_t i = 0; i + 1 < sizeof numbers / sizeof *numbers; i++)\n\
+         printf(\"%\" PRIu64 \"\\n\", numbers[i]);\n\
+         uint64_t answer = labs_load(none, 0, state, LABS_STATE_WORDS, scratch, LABS_SCRATCH_WORDS);\n\
+         answer |= labs_step(none, 0, state, LABS_STATE_WORDS, scratch, LABS_SCRATCH_WORDS, LABS_ACT, 0, 0);\n\
+         answer |= labs_run(none, 0, state, LABS_STATE_WORDS, scratch, LABS_SCRATCH_WORDS, none, 0, none, 0);\n\
+         return LABS_REFUSAL(answer) == LABS_REFUSAL_TABLE_SHORT ? 0 : 1;\n}\n",
+    );
+    text
+}
+
+/// What the program prints when it is compiled as this language.
+fn printed(source: &Path, (compiler, language, standard): (&str, &str, &str)) -> Vec<u64> {
+    let program = source.with_extension(standard);
+    let status = Command::new(compiler)
+        .args(STRICT)
+        .arg(format!("-std={standard}"))
         .arg("-I")
-        .arg(here.join("../include"))
-        .arg(here.join("tests/caller.c"))
-        .arg(here.join("../target/staticlib/librehearsal.a"))
+        .arg(include())
+        .args(["-x", language])
+        .arg(source)
+        .args(["-x", "none"])
+        .arg(include().join("../target/staticlib/librehearsal.a"))
         .arg("-o")
         .arg(&program)
         .status()
-        .expect("a C compiler, cc, can be run");
+        .unwrap_or_else(|_| panic!("a compiler, {compiler}, can be run"));
     assert!(
         status.success(),
-        "the header or the caller does not compile"
+        "the header does not compile as {standard}"
     );
-    program
+    let output = Command::new(&program).output().expect("it runs");
+    assert!(
+        output.status.success(),
+        "the calls of {standard} are linked"
+    );
+    let text = String::from_utf8(output.stdout).unwrap();
+    text.lines().map(|line| line.parse().unwrap()).collect()
 }
 
 #[test]
-fn a_program_in_c_rehearses_the_example() {
-    let table = edges::example().bytes();
-    let mut child = Command::new(compiled())
-        .arg(table.len().to_string())
-        .stdin(Stdio::piped())
-        .stdout(Stdio::piped())
-        .spawn()
-        .expect("the caller starts");
-    let mut stdin = child.stdin.take().expect("it has an input");
-    stdin.write_all(&table).unwrap();
-    let steps = edges::example_steps();
-    stdin.write_all(&schedule::write(&steps)).unwrap();
-    drop(stdin);
-    let output = child.wait_with_output().expect("the caller ends");
-    assert!(output.status.success());
-    let printed = String::from_utf8(output.stdout).unwrap();
-    // The paper's example: done 5, refused 2, taken 1.
-    assert!(
-        printed.starts_with("done 5 refused 2 taken 1\n"),
-        "{printed}"
-    );
-    assert_eq!(printed.lines().count(), 1 + steps.len());
+fn every_number_of_the_header_is_the_references() {
+    let all = numbers::all();
+    let source = Path::new(env!("CARGO_TARGET_TMPDIR")).join("numbers.c");
+    fs::write(&source, program(&all)).unwrap();
+    for language in LANGUAGES {
+        let printed = printed(&source, language);
+        assert_eq!(printed.len(), all.len());
+        for ((name, expected), number) in all.iter().zip(printed) {
+            assert_eq!(number, *expected, "{name} as {}", language.2);
+        }
+    }
+}
+
+/// The names that the header defines.
+fn defined() -> BTreeSet<String> {
+    let text = fs::read_to_string(include().join("rehearsal.h")).unwrap();
+    let name = |rest: &str| -> String {
+        let letter = |c: &char| c.is_ascii_uppercase() || *c == '_';
+        rest.chars().take_while(letter).collect()
+    };
+    let mut names = BTreeSet::new();
+    for line in text.lines() {
+        if let Some(rest) = line.strip_prefix("#define ") {
+            names.insert(name(rest));
+        } else if line.contains(" = ") && !line.trim_start().starts_with('*') {
+            let items = line.split([',', '{']).map(str::trim_start);
+            names.extend(items.filter(|item| item.starts_with("LABS_")).map(name));
+        }
+    }
+    assert!(names.remove("REHEARSAL_H"));
+    names
+}
+
+#[test]
+fn no_name_of_the_header_is_left_out() {
+    let held: BTreeSet<String> = numbers::all()
+        .iter()
+        .map(|(name, _)| name.split('(').next().unwrap().to_string())
+        .collect();
+    assert_eq!(defined(), held);
+}
+
+#[test]
+fn every_word_of_a_state_has_one_name() {
+    let mut indices: Vec<u64> = numbers::words().iter().map(|(_, index)| *index).collect();
+    indices.sort_unstable();
+    assert!(indices.into_iter().eq(0..word::STATE_WORDS as u64));
+}
+
+/// The same numbers for Rust.
+#[test]
+fn every_number_of_the_module_is_the_references() {
+    let all = numbers::all();
+    let number = |name: &str| {
+        let found = all.iter().find(|(other, _)| other == name);
+        found.expect("a number of this name").1 as usize
+    };
+    assert_eq!(MAX_NODES, number("LABS_MAX_NODES"));
+    assert_eq!(MAX_AGENTS, number("LABS_MAX_AGENTS"));
+    assert_eq!(MAX_KEYS, number("LABS_MAX_KEYS"));
+    assert_eq!(MAX_STEPS, number("LABS_MAX_STEPS"));
+    assert_eq!(MAX_RESIDUAL, number("LABS_MAX_RESIDUAL"));
+    assert_eq!(SCRATCH_WORDS, number("LABS_SCRATCH_WORDS"));
+    assert_eq!(word::STATE_WORDS, number("LABS_STATE_WORDS"));
+    assert_eq!(word::CLOCK, number("LABS_CLOCK"));
+    assert_eq!(word::AGENTS, number("LABS_AGENTS"));
+    for k in 0..MAX_KEYS {
+        let name = format!("LABS_ENVIRONMENT({k})");
+        assert_eq!(word::environment(k), number(&name));
+    }
+    for a in 0..MAX_AGENTS {
+        for k in 0..MAX_KEYS {
+            let at = |name: &str| number(&format!("LABS_{name}({a}, {k})"));
+            assert_eq!(word::attribute(a, k), at("ATTRIBUTE"));
+            assert_eq!(word::entry_value(a, k), at("ENTRY_VALUE"));
+            assert_eq!(word::entry_stamp(a, k), at("ENTRY_STAMP"));
+        }
+        let at = |name: &str| number(&format!("LABS_{name}({a})"));
+        assert_eq!(word::zc(a), at("ZC"));
+        assert_eq!(word::zp(a), at("ZP"));
+        assert_eq!(word::residual_length(a), at("RESIDUAL_LENGTH"));
+    }
+
+    for place in [0, 4_095] {
+        let answer = pack::<()>(&Err(Refusal::at(Reason::BadNode, place)));
+        let refused = Refused {
+            refusal: u16::from(Reason::BadNode.number()),
+            place: u64::from(place),
+        };
+        assert_eq!(taken_apart(answer), Err(refused));
+    }
+    let (done, refused, taken) = (8_191, 1, 70_000);
+    let answer = pack(&Ok(reference::Totals {
+        done: u32::from(done),
+        refused: u32::from(refused),
+        taken,
+    }));
+    let totals = Totals {
+        done,
+        refused,
+        taken,
+    };
+    assert_eq!(taken_apart(answer).map(Totals::of), Ok(totals));
+}
+
+/// Threads that share a table, each with buffers of its own.
+#[test]
+fn calls_may_run_in_several_threads() {
+    let table = &conformance::fleets::table(2_000, 64);
+    let call = || {
+        let mut state = vec![0; word::STATE_WORDS];
+        let mut scratch = vec![0; SCRATCH_WORDS];
+        let answer = rehearsal::load(table, &mut state, &mut scratch);
+        (answer, state)
+    };
+    let alone = call();
+    let together = || (0..200).all(|_| call() == alone);
+    std::thread::scope(|scope| {
+        let threads: Vec<_> = (0..4).map(|_| scope.spawn(together)).collect();
+        for thread in threads {
+            assert!(thread.join().unwrap());
+        }
+    });
 }
