@@ -2,6 +2,7 @@
 
 pub mod fleets;
 pub mod numbers;
+pub mod page;
 #[path = "../../include/rehearsal.rs"]
 pub mod rehearsal;
 
