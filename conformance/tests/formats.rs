@@ -435,10 +435,28 @@ fn acts_of(table: &[u8]) -> Vec<u8> {
     run(table, &schedule::write(&steps)).answers[..steps.len()].to_vec()
 }
 
-/// What the page says of acts (13, 14, 15, 17).
+/// Eight (tick + tick) in sequence, which have 256 ticks.
+fn many_ticks(draft: &mut Draft) -> u16 {
+    let mut top = draft.tick();
+    for _ in 0..8 {
+        let (left, right) = (draft.tick(), draft.tick());
+        let either = draft.choice(left, right);
+        top = draft.sequence(top, either);
+    }
+    top
+}
+
+/// What the page says of acts (12, 13, 14, 15, 17).
 #[test]
 fn acts_are_refused_as_the_page_says() {
     let number = |reason: Reason| reason.number();
+    // (a ; ticks) | ticks: after the action both sides can end, in more ways than there may be.
+    let ticks = acts(|d| {
+        let (a, left, right) = (action(d), many_ticks(d), many_ticks(d));
+        let left = d.sequence(a, left);
+        d.parallel(left, right)
+    });
+    assert_eq!(ticks[..2], [0, number(Reason::ResidualDerivations)]);
     // An action leaves a tick, the tick leaves idle, and idle has no choice.
     assert_eq!(acts(action)[..4], [0, 0, 13, 13]);
     let before_idle = acts(|d| {
