@@ -124,6 +124,15 @@ fn the_bytes_give_what_the_page_says() {
     for (i, row) in steps.iter().enumerate() {
         assert_eq!(given.answers[i].to_string(), row[3], "step {i}");
     }
+    let flat = page.replace('\n', " ");
+    let between = |before: &str, after: &str| {
+        let (_, rest) = flat.split_once(before).expect(before);
+        rest.split(after).next().unwrap().to_string()
+    };
+    let packed = between("`labs_run` answers ", ", which");
+    assert_eq!(packed.replace(',', ""), given.packed.to_string());
+    let answers = bytes(&between("writes the answer bytes `", "`"));
+    assert_eq!(given.answers[..steps.len()], answers);
     let words = rows(&page, "| Word | Value | What it is |");
     let pairs: Vec<(usize, u32)> = words
         .iter()

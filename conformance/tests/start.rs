@@ -134,6 +134,9 @@ fn readme_s_commands_work_as_typed() {
     let stored = fs::read(root().join(STORED)).unwrap();
     assert_eq!(block(&readme, "output"), told(&stored).0);
     assert_eq!(block(&readme, "lines"), show(&stored));
+    let page = text("docs/FORMATS.md");
+    let halls = bytes(&block(&page, "hex"));
+    assert_eq!(block(&page, "refused"), told(&halls).0);
 
     // The programs that were just compiled, on other inputs.
     let file = Path::new(env!("CARGO_TARGET_TMPDIR")).join("input");
