@@ -1,6 +1,7 @@
 //! Documents of the repository, read for what tests hold: tables, fenced blocks, commands.
 
 use std::fs;
+use std::io::{stderr, Write};
 use std::path::{Path, PathBuf};
 
 /// The repository's folder.
@@ -68,14 +69,10 @@ pub fn bytes(hex: &str) -> Vec<u8> {
 
 /// The program labs_show, if it has been built; else it is said, past the capture of tests, so that it is seen.
 pub fn labs_show() -> Option<PathBuf> {
-    use std::io::Write;
     let path = root().join("target/bin/labs_show");
     if !path.exists() {
-        writeln!(
-            std::io::stderr(),
-            "skipped: target/bin/labs_show is not built"
-        )
-        .unwrap();
+        let mut seen = stderr();
+        writeln!(seen, "skipped: target/bin/labs_show is not built").unwrap();
         return None;
     }
     Some(path)

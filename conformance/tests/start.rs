@@ -3,9 +3,10 @@
 
 use std::fmt::Write;
 use std::fs;
+use std::io::{BufRead, BufReader};
 use std::os::unix::fs::{symlink, PermissionsExt};
 use std::path::{Path, PathBuf};
-use std::process::{Command, Output};
+use std::process::{Command, Output, Stdio};
 
 use conformance::page::{block, bytes, commands, labs_show, root, text};
 use reference::generate::edges;
@@ -166,7 +167,7 @@ fn tools(name: &str, rt: Option<&str>) -> PathBuf {
     let folder = Path::new(env!("CARGO_TARGET_TMPDIR")).join(name);
     let _ = fs::remove_dir_all(&folder);
     fs::create_dir(&folder).unwrap();
-    for tool in ["bash", "awk", "dirname", "mkdir", "tee", "uname"] {
+    for tool in ["bash", "awk", "dirname", "mkdir", "sleep", "tee", "uname"] {
         let found = shell(&format!("command -v {tool}")).stdout;
         let found = String::from_utf8(found).unwrap();
         symlink(found.trim(), folder.join(tool)).unwrap();
@@ -179,7 +180,8 @@ fn tools(name: &str, rt: Option<&str>) -> PathBuf {
     folder
 }
 
-/// ./rehearse in a copy of what it reads, with these tools alone.
+/// What ./rehearse prints, in a copy of what it reads and with these tools alone. Once it has said that the first crate is
+/// proved, the file `seen` is there.
 fn rehearse(tools: &Path) -> Output {
     let folder = tools.join("repository");
     fs::create_dir_all(folder.join("crates/labs_show")).unwrap();
@@ -188,17 +190,26 @@ fn rehearse(tools: &Path) -> Output {
     }
     if let Some(program) = labs_show() {
         fs::create_dir_all(folder.join("target/bin")).unwrap();
-        symlink(
-            program.canonicalize().unwrap(),
-            folder.join("target/bin/labs_show"),
-        )
-        .unwrap();
+        let copy = folder.join("target/bin/labs_show");
+        symlink(program.canonicalize().unwrap(), copy).unwrap();
     }
-    Command::new("bash")
+    let mut child = Command::new("bash")
         .arg(folder.join("rehearse"))
         .env("PATH", tools)
-        .output()
-        .expect("bash runs")
+        .stdout(Stdio::piped())
+        .stderr(Stdio::piped())
+        .spawn()
+        .expect("bash runs");
+    let mut stdout = Vec::new();
+    for line in BufReader::new(child.stdout.take().unwrap()).lines() {
+        let line = line.unwrap();
+        if line.starts_with("1 of ") {
+            fs::write(folder.join("seen"), "").unwrap();
+        }
+        stdout.extend(format!("{line}\n").into_bytes());
+    }
+    let rest = child.wait_with_output().unwrap();
+    Output { stdout, ..rest }
 }
 
 #[test]
@@ -210,16 +221,16 @@ fn a_missing_tool_is_one_clear_line() {
     assert!(said.contains("rt") && said.contains("Rattle"), "{said}");
 }
 
-/// A toolchain that says of two crates what rt says, and keeps what it was asked.
+/// A toolchain that says of two crates what rt says, and keeps what it was asked. It goes on to the second crate once the
+/// first has been seen.
 const SAYS: &str = r#"#!/usr/bin/env bash
 echo "$*" >>asked
-case $1 in
-check)
-    echo "fn basis::lowest: proved"
-    echo "rt: basis proved (5 s)"
-    echo "rt: value STATE"
-    ;;
-esac
+[ "$1" = check ] || exit 0
+echo "fn basis::lowest: proved"
+echo "rt: basis proved (5 s)"
+for ((i = 0; i < 100; i++)); do [ -e seen ] || sleep 0.1; done
+[ -e seen ] || exit 1
+echo "rt: value SECOND
 "#;
 
 #[test]
@@ -227,19 +238,18 @@ fn rehearse_says_where_it_is() {
     if labs_show().is_none() {
         return;
     }
-    let folder = tools("with_rt", Some(&SAYS.replace("STATE", "proved (4 s)")));
+    let folder = tools("with_rt", Some(&SAYS.replace("SECOND", "proved (4 s)\"")));
     let output = rehearse(&folder);
     let said = String::from_utf8(output.stdout).unwrap();
     assert!(output.status.success(), "{said}");
     let count = needed().to_string();
     let lines: Vec<&str> = said.lines().collect();
-    assert!(
-        lines[0].starts_with(&format!("proving {count} crates")),
-        "{said}"
-    );
+    let first = format!("proving {count} crates");
+    assert!(lines[0].starts_with(&first), "{said}");
     assert_eq!(lines[1], format!("1 of {count}: basis proved (5 s)"));
     assert_eq!(lines[2], format!("2 of {count}: value proved (4 s)"));
-    assert!(lines[3].starts_with(&format!("{count} of {count}: rehearsal proved (")));
+    let last = format!("{count} of {count}: rehearsal proved (");
+    assert!(lines[3].starts_with(&last), "{said}");
     assert!(
         said.ends_with(&block(&text("README.md"), "lines")),
         "{said}"
@@ -247,12 +257,11 @@ fn rehearse_says_where_it_is() {
     let asked = fs::read_to_string(folder.join("repository/asked")).unwrap();
     assert_eq!(asked, "check labs_show\nstaticlib rehearsal\n");
 
-    let fails = SAYS.replace("STATE", "NOT PROVED (exit 1, 4 s)\"; exit 1; echo \"");
-    let folder = tools("with_failing_rt", Some(&fails));
-    let output = rehearse(&folder);
+    let fails = SAYS.replace("SECOND", "NOT PROVED (exit 1, 4 s)\"\nexit 1");
+    let output = rehearse(&tools("with_failing_rt", Some(&fails)));
     assert_eq!(output.status.code(), Some(1));
     let said = String::from_utf8(output.stdout).unwrap();
-    assert!(said.contains("value NOT PROVED"), "{said}");
+    assert!(said.ends_with("value NOT PROVED (exit 1, 4 s)\n"), "{said}");
 }
 
 /// How many crates labs_show and the library need.
