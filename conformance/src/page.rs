@@ -3,6 +3,7 @@
 use std::fs;
 use std::io::{stderr, Write};
 use std::path::{Path, PathBuf};
+use std::sync::Once;
 
 /// The repository's folder.
 pub fn root() -> PathBuf {
@@ -67,12 +68,15 @@ pub fn bytes(hex: &str) -> Vec<u8> {
     hex.split_whitespace().map(byte).collect()
 }
 
-/// The program labs_show, if it has been built; else it is said, past the capture of tests, so that it is seen.
+/// The program labs_show, if it has been built; else that is said once, past the capture of tests, so that it is seen.
 pub fn labs_show() -> Option<PathBuf> {
+    static SAID: Once = Once::new();
     let path = root().join("target/bin/labs_show");
     if !path.exists() {
         let mut seen = stderr();
-        writeln!(seen, "skipped: target/bin/labs_show is not built").unwrap();
+        SAID.call_once(|| {
+            writeln!(seen, "skipped: target/bin/labs_show is not built").unwrap();
+        });
         return None;
     }
     Some(path)

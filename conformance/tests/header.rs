@@ -5,7 +5,7 @@ use std::collections::BTreeSet;
 use std::fmt::Write;
 use std::fs;
 use std::path::{Path, PathBuf};
-use std::process::Command;
+use std::process::{Command, Stdio};
 
 use conformance::numbers::{self, Named};
 use conformance::rehearsal::{
@@ -91,6 +91,24 @@ fn every_number_of_the_header_is_the_references() {
         assert_eq!(printed.len(), all.len());
         for ((name, expected), number) in all.iter().zip(printed) {
             assert_eq!(number, *expected, "{name} as {}", language.2);
+        }
+    }
+}
+
+#[test]
+fn the_example_in_c_has_no_warning() {
+    for (compiler, language, standard) in LANGUAGES {
+        if language == "c" {
+            let status = Command::new(compiler)
+                .args(STRICT)
+                .args([&format!("-std={standard}"), "-O2", "-S", "-o", "-"])
+                .arg("-I")
+                .arg(include())
+                .arg(include().join("../examples/rehearse.c"))
+                .stdout(Stdio::null())
+                .status()
+                .unwrap_or_else(|_| panic!("a compiler, {compiler}, can be run"));
+            assert!(status.success(), "the example as {standard}");
         }
     }
 }
