@@ -97,6 +97,8 @@ fn inputs() -> Vec<Vec<u8>> {
         page[..60].to_vec(),
         page[..page.len() - 1].to_vec(),
         edges::doubling(64, true).bytes(),
+        vec![255; 100_000],
+        [page, vec![0; 70_000]].concat(),
     ];
     for index in 0..40 {
         let rng = &mut Rng::for_index(6, index);
