@@ -18,7 +18,7 @@ use Rattle.table.specs.declared.Look.{Look}
 use Rattle.table.specs.Tables.{Table, pAt, qAt}
 use Rattle.table.specs.Nodes.{fieldsAt, isNode, fits, fitting, leftNode, rightNode, names}
 use Rattle.table.specs.Reach.{processNode, linkRoot}
-use Rattle.table.specs.Marks.{namedBit, plusIf, firstWord, marking, isMarked, changed, Shows, Shown, Mark, TwoMarks, Looked}
+use Rattle.table.specs.Marks.{namedBit, leftBit, rightBit, processBit, linkBit, notProcessBit, notLinkBit, plusIf, firstWord, marking, isMarked, changed, Shows, Shown, Mark, TwoMarks, Looked}
 use Rattle.table.proofs.Operands.{left-lower, right-lower}
 
 pub changed-off : (change : ℕ → ℕ) (words : List ℕ) (on : Bool) (x : ℕ) → on ≡ false → words ≡ changed change words on x
@@ -82,19 +82,54 @@ marking-test true true l r e f v = by (l && e) (r && f)
     by true y = or-true y
     by false y = refl
 
-pub first-named : (l r p k : Bool) → has (firstWord l r p k) namedBit ≡ false
-first-named l r p k = simp (has-plusIf, has-nothing)
+-- the bits of a word that nothing names yet
+module _ (left right process link notProcess notLink : Bool) where
+  abbrev first : ℕ
+  first = firstWord left right process link notProcess notLink
+
+  pub first-named : has first namedBit ≡ false
+  first-named = simp (has-plusIf, has-nothing)
+
+  pub first-left : has first leftBit ≡ left
+  first-left = simp (has-plusIf, has-nothing) (or-false left)
+
+  pub first-right : has first rightBit ≡ right
+  first-right = simp (has-plusIf, has-nothing) (or-false right)
+
+  pub first-process : has first processBit ≡ process
+  first-process = simp (has-plusIf, has-nothing) (or-false process)
+
+  pub first-link : has first linkBit ≡ link
+  first-link = simp (has-plusIf, has-nothing) (or-false link)
+
+  pub first-not-process : has first notProcessBit ≡ notProcess
+  first-not-process = simp (has-plusIf, has-nothing) (or-false notProcess)
+
+  pub first-not-link : has first notLinkBit ≡ notLink
+  first-not-link = simp (has-plusIf, has-nothing) (or-false notLink)
 
 module _ (t : Table) where
-  pub shown-next : (words : List ℕ) (i : ℕ) {w : ℕ} → i < length words → Shown t words i
-      → w ≡ firstWord (leftNode t i) (rightNode t i) (processNode t i) (linkRoot t i) → Shown t (set words i w) (i + 1)
-  shown-next words i l s d =
+  pub shown-next : (words : List ℕ) (i : ℕ) {w : ℕ} (x y : Bool) → i < length words → Shown t words i
+      → w ≡ firstWord (leftNode t i) (rightNode t i) (processNode t i) (linkRoot t i) x y → Shown t (set words i w) (i + 1)
+  shown-next words i x y l s d =
       record {
-        left = shows-next words _ i _ _ l (s .left) (rw d (simp (has-plusIf, has-nothing, or-false)));
-        right = shows-next words _ i _ _ l (s .right) (rw d (simp (has-plusIf, has-nothing, or-false)));
-        process = shows-next words _ i _ _ l (s .process) (rw d (simp (has-plusIf, has-nothing) (or-false (processNode t i))));
-        link = shows-next words _ i _ _ l (s .link) (rw d (simp (has-plusIf, has-nothing) (or-false (linkRoot t i))));
+        left = shows-next words _ i _ _ l (s .left) (rw d (first-left L R P K x y));
+        right = shows-next words _ i _ _ l (s .right) (rw d (first-right L R P K x y));
+        process = shows-next words _ i _ _ l (s .process) (rw d (first-process L R P K x y));
+        link = shows-next words _ i _ _ l (s .link) (rw d (first-link L R P K x y));
       }
+    where
+      L : Bool
+      L = leftNode t i
+
+      R : Bool
+      R = rightNode t i
+
+      P : Bool
+      P = processNode t i
+
+      K : Bool
+      K = linkRoot t i
 
   pub looked : {n : ℕ} {f : Fields} {p q : ℕ} {a b l r : Bool}
       → f ≡ fieldsAt t n → p ≡ pAt t n → q ≡ qAt t n → a ≡ fits t n (f .p) p → b ≡ fits t n (f .q) q → l ≡ isNode (f .p) → r ≡ isNode (f .q)

@@ -1,7 +1,7 @@
 -- Bits in lent words, a word for each node, as refusals 4 and 5 use them. And what is found of a node.
 use Prim.Native.Nat.{ℕ, _+_, _<_, _≤_}
 use mathlib.Core.Path.{_≡_}
-use mathlib.Core.Bool.{Bool, true, cond, not, _&&_, _||_}
+use mathlib.Core.Bool.{Bool, true, false, cond, not, _&&_, _||_}
 use mathlib.Core.List.{List}
 use lib.Dec.{leb, eqb}
 use lib.ListN.{length, getD, set}
@@ -9,12 +9,14 @@ use Rattle.basis.specs.KeySets.{has, plus}
 use Rattle.basis.specs.Kinds as kind
 use Rattle.basis.specs.Numbers.{lowest}
 use Rattle.table.specs.declared.Look.{Look}
+use Rattle.table.specs.declared.Scan.{Scan}
 use Rattle.table.specs.Tables.{Table, pAt, qAt}
 use Rattle.table.specs.Nodes.{fitting, leftNode, rightNode, names, badNode}
 use Rattle.table.specs.Reach.{processNode, linkRoot, reachedFrom, wrongKey}
 use Rattle.table.specs.Sound.{Shaped}
 
--- the bits of a node's word: another node names it; its p, its q is a node; a process, a link reaches it
+-- the bits of a node's word: another node names it; its p, its q is a node; a process, a link reaches it; it reaches a
+-- key that a process must not reach, and one that a link must not
 abbrev pub namedBit : ℕ
 namedBit = 0
 
@@ -30,16 +32,31 @@ processBit = 3
 abbrev pub linkBit : ℕ
 linkBit = 4
 
+abbrev pub notProcessBit : ℕ
+notProcessBit = 5
+
+abbrev pub notLinkBit : ℕ
+notLinkBit = 6
+
 -- a word with a bit, if asked to
 unfoldable pub plusIf : ℕ → ℕ → Bool → ℕ
 plusIf w bit on = cond on (plus w bit) w
 
 -- the word of a node that nothing names yet
-abbrev pub firstWord : Bool → Bool → Bool → Bool → ℕ
-firstWord left right process link = plusIf (plusIf (plusIf (plusIf 0 leftBit left) rightBit right) processBit process) linkBit link
+abbrev pub firstWord : Bool → Bool → Bool → Bool → Bool → Bool → ℕ
+firstWord left right process link notProcess notLink =
+    plusIf (plusIf (plusIf (plusIf (plusIf (plusIf 0 leftBit left) rightBit right) processBit process) linkBit link) notProcessBit notProcess) notLinkBit notLink
 
 abbrev pub isMarked : List ℕ → ℕ → ℕ → Bool
 isMarked words bit x = has (getD words x 0) bit
+
+-- a bit that a node has by itself, or from what it names
+abbrev pub risen : List ℕ → ℕ → Look → Bool → Bool
+risen words bit l here = here || ((l .left && isMarked words bit (l .p)) || (l .right && isMarked words bit (l .q)))
+
+-- by its word, a process node or the root of a link reaches what it must not
+abbrev pub doubted : ℕ → Bool
+doubted w = (has w processBit && has w notProcessBit) || (has w linkBit && has w notLinkBit)
 
 -- the word of x is changed, if asked to
 unfoldable pub changed : (ℕ → ℕ) → List ℕ → Bool → ℕ → List ℕ
@@ -48,6 +65,13 @@ changed change words on x = cond on (set words x (change (getD words x 0))) word
 -- to that of a node which is named too, by one that a process, a link reaches
 abbrev pub marking : Bool → Bool → ℕ → ℕ
 marking process link w = plusIf (plusIf (plus w namedBit) processBit process) linkBit link
+
+-- a node of this kind and party is wrong, by what reaches it
+abbrev pub wrongHere : ℕ → ℕ → Bool → Bool → Bool
+wrongHere k party process link =
+    (leb kind.attribute k && leb k kind.environment)
+    && ((process && not (eqb party 0))
+    || (link && (eqb k kind.environment || eqb party 0)))
 
 module _ (process link : Bool) where
   -- one node marked: whether it was named before, and the words after
@@ -78,10 +102,11 @@ pub record Shown (t : Table) (words : List ℕ) (n : ℕ) : Type 0 where
   pub process : Shows words processBit n (processNode t)
   pub link : Shows words linkBit n (linkRoot t)
 
--- what looking for a bad node finds, and leaves where there is none
-pub record Bad (t : Table) (words : List ℕ) (r : ℕ) : Type 0 where
-  pub is : r ≡ lowest (badNode t) (t .sizes .nodes)
-  pub leaves : t .sizes .nodes ≤ r → Shown t words (t .sizes .nodes)
+-- what looking for a bad node finds, and leaves where there is none; and where it is not doubtful, no key is wrong
+pub record Bad (t : Table) (words : List ℕ) (r : Scan) : Type 0 where
+  pub is : r .bad ≡ lowest (badNode t) (t .sizes .nodes)
+  pub leaves : t .sizes .nodes ≤ r .bad → Shown t words (t .sizes .nodes)
+  pub sure : t .sizes .nodes ≤ r .bad → r .doubtful ≡ false → (k : ℕ) → k < t .sizes .nodes → wrongKey t k ≡ false
 
 -- the nodes from i up have handed on a bit: only reached nodes have it, all starts, and what the reached of those name
 pub record Handed (t : Table) (words : List ℕ) (bit : ℕ) (start : ℕ → Bool) (i : ℕ) : Type 0 where
@@ -95,13 +120,6 @@ pub record Above (t : Table) (words : List ℕ) (i : ℕ) : Type 0 where
   pub right : Shows words rightBit (t .sizes .nodes) (rightNode t)
   pub process : Handed t words processBit (processNode t) i
   pub link : Handed t words linkBit (linkRoot t) i
-
--- a node of this kind and party is wrong, by what reaches it
-abbrev pub wrongHere : ℕ → ℕ → Bool → Bool → Bool
-wrongHere k party process link =
-    (leb kind.attribute k && leb k kind.environment)
-    && ((process && not (eqb party 0))
-    || (link && (eqb k kind.environment || eqb party 0)))
 
 -- node i is next: what visiting it asks, and does
 pub record Descends (t : Table) (words : List ℕ) (i : ℕ) : Type 0 where

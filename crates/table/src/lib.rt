@@ -60,6 +60,12 @@ pub struct Fields {
     pub q: Field,
 }
 
+// What the first pass over the nodes finds: the lowest bad one, and whether some key may be wrong.
+pub struct Scan {
+    pub bad: usize,
+    pub doubtful: bool,
+}
+
 // What is found of a node: whether its fields fit, whether p and q are nodes, p and q.
 struct Look {
     fitting: bool,

@@ -1,6 +1,6 @@
 // A word for each node among lent ones, by its bits.
 ghost use mathlib.Core.Path.{_≡_};
-ghost use mathlib.Core.Bool.{true};
+ghost use mathlib.Core.Bool.{true, false, _&&_};
 ghost use mathlib.Core.List.{[]};
 ghost use Prim.Native.Nat.{_<_};
 ghost use lib.ListN.{length};
@@ -8,12 +8,16 @@ ghost use Rattle.table.specs.Tables.{table};
 ghost use Rattle.table.specs.Nodes.{isProcess};
 ghost use Rattle.table.specs.Reach.{linkRoot};
 ghost use Rattle.table.specs.Sound.{Limits};
-ghost use Rattle.table.specs.Marks.{plusIf, firstWord, Mark, TwoMarks};
+ghost use Rattle.table.specs.Marks.{plusIf, firstWord, wrongHere, isMarked, risen, doubted, notProcessBit, notLinkBit, Mark, TwoMarks};
+use super::Look;
 use super::Sizes;
 use super::kinds::first_root;
 use super::kinds::is_process;
+use super::wrong::wrong_here;
+use basis::has;
 
-// The bits: another node names it; its p, its q is a node; a process, a link reaches it.
+// The bits: another node names it; its p, its q is a node; a process, a link reaches it; it reaches a key that a process
+// must not reach, and one that a link must not.
 const NAMED: usize = 0;
 
 pub const LEFT: usize = 1;
@@ -24,6 +28,10 @@ pub const PROCESS: usize = 3;
 
 pub const LINK: usize = 4;
 
+const NOT_PROCESS: usize = 5;
+
+const NOT_LINK: usize = 6;
+
 // A word with a bit, if asked to.
 fn plus_if(word: u32, bit: usize, on: bool) -> u32
     requires { ⌜ bit < 32 ⌝ }
@@ -32,16 +40,48 @@ fn plus_if(word: u32, bit: usize, on: bool) -> u32
     if on { basis::plus(word, bit) } else { word }
 }
 
-// The word of a node that nothing names yet: whether p and q are nodes, whether it is a process node, a link's root.
-pub fn first_word(sizes: Sizes, kind: u8, node: usize, left: bool, right: bool) -> u32
-    requires { ⌜ Limits sizes ⌝ }
-    ensures { λ r. ⌜ r ≡ firstWord left right (isProcess kind) (linkRoot (table sizes [] []) node) ⌝ }
+// Whether x, if asked for, has a bit.
+fn has_bit(words: &[u32], bit: usize, on: bool, x: usize) -> bool
+    requires { ⌜ (bit < 32) × (on ≡ true → x < length (now words)) ⌝ }
+    ensures { λ r. ⌜ r ≡ (on && isMarked (now (words .entry)) bit x) ⌝ }
+{
+    if !on {
+        return false;
+    }
+    has(words[x], bit)
+}
+
+// Whether a node has a bit by itself, or from what it names.
+fn rises(words: &[u32], bit: usize, look: Look, here: bool) -> bool
+    requires { ⌜ (bit < 32) × (look .left ≡ true → look .p < length (now words)) × (look .right ≡ true → look .q < length (now words)) ⌝ }
+    ensures { λ r. ⌜ r ≡ risen (now (words .entry)) bit look here ⌝ }
+{
+    let left = has_bit(words, bit, look.left, look.p);
+    let right = has_bit(words, bit, look.right, look.q);
+    here | (left | right)
+}
+
+// The word of a node that nothing names yet: whether p and q are nodes, whether it is a process node, a link's root, and
+// whether it reaches a key that a process, a link must not.
+pub fn first_word(words: &[u32], sizes: Sizes, kind: u8, node: usize, look: Look) -> u32
+    requires { ⌜ Limits sizes × (look .left ≡ true → look .p < length (now words)) × (look .right ≡ true → look .q < length (now words)) ⌝ }
+    ensures { λ r. ⌜ r ≡ firstWord (look .left) (look .right) (isProcess kind) (linkRoot (table sizes [] []) node) (risen (now (words .entry)) notProcessBit look (wrongHere kind (look .q) true false)) (risen (now (words .entry)) notLinkBit look (wrongHere kind (look .q) false true)) ⌝ }
 {
     let links = first_root(sizes) + sizes.definitions;
     let end = links + sizes.stigmergy;
-    let fields = plus_if(plus_if(0, LEFT, left), RIGHT, right);
+    let not_process = rises(words, NOT_PROCESS, look, wrong_here(kind, look.q, true, false));
+    let not_link = rises(words, NOT_LINK, look, wrong_here(kind, look.q, false, true));
+    let fields = plus_if(plus_if(0, LEFT, look.left), RIGHT, look.right);
     let starts = plus_if(fields, PROCESS, is_process(kind));
-    plus_if(starts, LINK, (links <= node) & (node < end))
+    let roots = plus_if(starts, LINK, (links <= node) & (node < end));
+    plus_if(plus_if(roots, NOT_PROCESS, not_process), NOT_LINK, not_link)
+}
+
+// Whether, by its word, a process node or the root of a link reaches what it must not.
+pub fn is_doubted(word: u32) -> bool
+    ensures { λ r. ⌜ r ≡ doubted word ⌝ }
+{
+    (has(word, PROCESS) & has(word, NOT_PROCESS)) | (has(word, LINK) & has(word, NOT_LINK))
 }
 
 // Marks x, if asked to, as named by a node that a process, a link reaches, and says whether it was named before.
@@ -58,7 +98,7 @@ fn mark(words: &mut [u32], on: bool, x: usize, process: bool, link: bool) -> boo
         LINK,
         link,
     );
-    basis::has(old, NAMED)
+    has(old, NAMED)
 }
 
 // Marks p and then q, each if asked to, and says whether one was named before.

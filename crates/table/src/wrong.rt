@@ -20,7 +20,7 @@ use super::reading::q_at;
 use basis::has;
 
 // Whether a node of this kind and party is wrong, by whether a process and whether a link reaches it.
-fn wrong_here(kind: u8, party: usize, process: bool, link: bool) -> bool
+pub fn wrong_here(kind: u8, party: usize, process: bool, link: bool) -> bool
     ensures { λ r. ⌜ r ≡ wrongHere kind party process link ⌝ }
 {
     (basis::kinds::ATTRIBUTE <= kind)
@@ -58,14 +58,25 @@ fn visit(
 }
 
 // The lowest key node with a wrong party, or with an environment key that a link reaches, and the number of nodes where
-// there is none. No node of the table is bad, and the words are as `lowest_bad` leaves them.
-pub fn lowest_wrong(sizes: Sizes, kinds: &[u8], operands: &[u8], scratch: &mut [u32]) -> usize
+// there is none. No node of the table is bad, and the words are as `lowest_bad` leaves them. Where it is not doubtful
+// whether there is one, there is none.
+pub fn lowest_wrong(
+    sizes: Sizes,
+    kinds: &[u8],
+    operands: &[u8],
+    scratch: &mut [u32],
+    doubtful: bool,
+) -> usize
     requires { ⌜ Shaped (table sizes (now kinds) (now operands))
         × (sizes .nodes ≤ length (now scratch))
         × ((k : ℕ) → k < sizes .nodes → badNode (table sizes (now kinds) (now operands)) k ≡ false)
-        × Shown (table sizes (now kinds) (now operands)) (now scratch) (sizes .nodes) ⌝ }
+        × Shown (table sizes (now kinds) (now operands)) (now scratch) (sizes .nodes)
+        × (doubtful ≡ false → (k : ℕ) → k < sizes .nodes → wrongKey (table sizes (now kinds) (now operands)) k ≡ false) ⌝ }
     ensures { λ r. ⌜ r ≡ lowest (wrongKey (table sizes (now (kinds .entry)) (now (operands .entry)))) (sizes .nodes) ⌝ }
 {
+    if !doubtful {
+        return sizes.nodes;
+    }
     let mut lowest = sizes.nodes;
     let mut i = sizes.nodes;
     while 0 < i {

@@ -13,6 +13,18 @@ add-links c = search needs
 add-end : tie.Need-add-end
 add-end c = search needs
 
+wrong-here-requires : tie.Need-wrong-here-requires
+wrong-here-requires c κs = search needs
+
+rises-requires : tie.Need-rises-requires
+rises-requires c κs = search needs
+
+wrong-here-requires-2 : tie.Need-wrong-here-requires-2
+wrong-here-requires-2 c κs = search needs
+
+rises-requires-2 : tie.Need-rises-requires-2
+rises-requires-2 c κs = search needs
+
 plus-if-requires : tie.Need-plus-if-requires
 plus-if-requires c κs = search needs
 
@@ -28,14 +40,26 @@ plus-if-requires-3 c κs = search needs
 plus-if-requires-4 : tie.Need-plus-if-requires-4
 plus-if-requires-4 c κs = search needs
 
+plus-if-requires-5 : tie.Need-plus-if-requires-5
+plus-if-requires-5 c κs = search needs
+
+plus-if-requires-6 : tie.Need-plus-if-requires-6
+plus-if-requires-6 c κs = search needs
+
 returns : tie.Need-returns
 returns c = rw (
-  c .plus-if4 .ensures,
-  c .before .plus-if3 .ensures,
-  c .before .before .is-process .ensures,
-  c .before .before .before .plus-if2 .ensures,
-  c .before .before .before .before .plus-if .ensures,
-  c .before .before .before .before .before .before .before .first-root .ensures,
+  c .plus-if6 .ensures,
+  c .before .plus-if5 .ensures,
+  c .before .before .plus-if4 .ensures,
+  c .before .before .before .plus-if3 .ensures,
+  c .before .before .before .before .is-process .ensures,
+  c .before .before .before .before .before .plus-if2 .ensures,
+  c .before .before .before .before .before .before .plus-if .ensures,
+  c .before .before .before .before .before .before .before .rises2 .ensures,
+  c .before .before .before .before .before .before .before .before .wrong-here2 .ensures,
+  c .before .before .before .before .before .before .before .before .before .rises .ensures,
+  c .before .before .before .before .before .before .before .before .before .before .wrong-here .ensures,
+  c .before .before .before .before .before .before .before .before .before .before .before .before .before .first-root .ensures,
 )
 
 pub first-word-spec : {M : Type 1} → statement M
@@ -45,9 +69,15 @@ first-word-spec =
     first-root-requires
     add-links
     add-end
+    wrong-here-requires
+    rises-requires
+    wrong-here-requires-2
+    rises-requires-2
     plus-if-requires
     plus-if-requires-2
     is-process-requires
     plus-if-requires-3
     plus-if-requires-4
+    plus-if-requires-5
+    plus-if-requires-6
     returns)
