@@ -1,22 +1,26 @@
 // Nodes are settled: counted where each call that they expose is below a level. Refusals 6 and 7.
+use crate::Counts;
 use crate::Visit;
 use crate::nodes::visit;
+use crate::sums::NONE;
 use crate::words::discard;
 use crate::words::is_counted;
 use crate::words::lead;
 use crate::words::leads_to;
-use crate::words::pair;
 use crate::words::store;
 use table::Sizes;
 use table::first_root;
 use table::p_at;
-ghost use Prim.Native.Nat.{_≤_, _<_};
+ghost use mathlib.Core.Bool.{true};
+ghost use mathlib.Core.Path.{_≡_};
+ghost use Prim.Native.Nat.{ℕ, _≤_, _<_};
 ghost use lib.ListN.{length};
 ghost use Rattle.table.specs.Tables.{table, firstRoot};
 ghost use Rattle.table.specs.Sound.{Sound};
 ghost use Rattle.term.specs.Acceptance.{scratchWords};
-ghost use Rattle.accept.specs.Scratch.{Held};
-ghost use Rattle.accept.specs.Calls.{Settles, CallsJudged, NodesJudged};
+ghost use Rattle.accept.specs.Scratch.{isCounted, Held};
+ghost use Rattle.accept.specs.declared.Visit.the-variants.{Done};
+ghost use Rattle.accept.specs.Calls.{Visits, Settles, CallsJudged, NodesJudged};
 
 // Counts node top, if each call that it exposes is below a level, and says so. The exposed nodes under it are counted
 // first: from a node the way goes down to a part that is not counted yet, and from a node that is counted now back to
@@ -78,7 +82,22 @@ pub fn lowest_bad_call(sizes: Sizes, kinds: &[u8], operands: &[u8], scratch: &mu
     d
 }
 
-// The lowest node with over 65,535 derivations, and the number of nodes where there is none. Each node is settled in
+// The counts of node n, where the nodes below it and the bodies of all definitions are counted: a visit finds them.
+fn count(sizes: Sizes, kinds: &[u8], operands: &[u8], scratch: &[u32], n: usize) -> Counts
+    requires { ⌜ Held (table sizes (now kinds) (now operands)) (sizes .definitions) (now scratch) ⌝ }
+    requires { ⌜ n < firstRoot (table sizes (now kinds) (now operands)) ⌝ }
+    requires { ⌜ ((k : ℕ) → k < n → isCounted (now scratch) k ≡ true) ⌝ }
+    ensures { λ r. ⌜ Visits (table sizes (now (kinds .entry)) (now (operands .entry))) (sizes .definitions) (now (scratch .entry)) n (Done r) ⌝ }
+{
+    let found = visit(sizes, kinds, operands, scratch, sizes.definitions, n);
+    match found {
+        Visit::Done(c) => c,
+        Visit::Part(_) => NONE,
+        Visit::High => NONE,
+    }
+}
+
+// The lowest node with over 65,535 derivations, and the number of nodes where there is none. Each node is counted in
 // turn.
 pub fn lowest_overfull(sizes: Sizes, kinds: &[u8], operands: &[u8], scratch: &mut [u32]) -> usize
     requires { ⌜ Held (table sizes (now kinds) (now operands)) (sizes .definitions) (now scratch) ⌝ }
@@ -87,8 +106,8 @@ pub fn lowest_overfull(sizes: Sizes, kinds: &[u8], operands: &[u8], scratch: &mu
     let end = first_root(sizes);
     let mut n = 0;
     while n < end {
-        settle(sizes, kinds, operands, scratch, sizes.definitions, n);
-        let c = pair(scratch, n);
+        let c = count(sizes, kinds, operands, scratch, n);
+        store(scratch, n, c);
         if term::DERIVATIONS < c.actions + c.ticks {
             return n;
         }
