@@ -109,14 +109,14 @@ module _ (left right process link notProcess notLink : Bool) where
   first-not-link = simp (has-plusIf, has-nothing) (or-false notLink)
 
 module _ (t : Table) where
-  pub shown-next : (words : List ℕ) (i : ℕ) {w : ℕ} (x y : Bool) → i < length words → Shown t words i
-      → w ≡ firstWord (leftNode t i) (rightNode t i) (processNode t i) (linkRoot t i) x y → Shown t (set words i w) (i + 1)
-  shown-next words i x y l s d =
+  pub shown-next : (words : List ℕ) (i w : ℕ) (x y : Bool) → i < length words → Shown t words i
+      → ((j : ℕ) → j < 5 → has w j ≡ has (firstWord (leftNode t i) (rightNode t i) (processNode t i) (linkRoot t i) x y) j) → Shown t (set words i w) (i + 1)
+  shown-next words i w x y l s d =
       record {
-        left = shows-next words _ i _ _ l (s .left) (rw d (first-left L R P K x y));
-        right = shows-next words _ i _ _ l (s .right) (rw d (first-right L R P K x y));
-        process = shows-next words _ i _ _ l (s .process) (rw d (first-process L R P K x y));
-        link = shows-next words _ i _ _ l (s .link) (rw d (first-link L R P K x y));
+        left = shows-next words _ i _ _ l (s .left) (d leftBit (omega arith) ∙ first-left L R P K x y);
+        right = shows-next words _ i _ _ l (s .right) (d rightBit (omega arith) ∙ first-right L R P K x y);
+        process = shows-next words _ i _ _ l (s .process) (d processBit (omega arith) ∙ first-process L R P K x y);
+        link = shows-next words _ i _ _ l (s .link) (d linkBit (omega arith) ∙ first-link L R P K x y);
       }
     where
       L : Bool

@@ -65,8 +65,8 @@ module _ (t : Table) where
       }
 
   -- a turn: node i's word is written, and what it names is marked
-  module _ {words after : List ℕ} {i w : ℕ} {r : Bool} (x y : Bool) (before : Turned words i) (fine : (k : ℕ) → k < i → badNode t k ≡ false) (inside : i < length words)
-      (good : fitting t i ≡ true) (d : w ≡ firstWord (leftNode t i) (rightNode t i) (processNode t i) (linkRoot t i) x y)
+  module _ {words after : List ℕ} {i : ℕ} {r : Bool} (w : ℕ) (x y : Bool) (before : Turned words i) (fine : (k : ℕ) → k < i → badNode t k ≡ false) (inside : i < length words)
+      (good : fitting t i ≡ true) (d : (j : ℕ) → j < 5 → has w j ≡ has (firstWord (leftNode t i) (rightNode t i) (processNode t i) (linkRoot t i) x y) j)
       (m : TwoMarks false false (set words i w) after (inner t i && leftNode t i) (pAt t i) (inner t i && rightNode t i) (qAt t i) r) where
     abbrev written : List ℕ
     written = set words i w
@@ -77,7 +77,7 @@ module _ (t : Table) where
     h : Shows written namedBit (i + 1) (named t i)
     h =
         shows-next words namedBit i w (named t i) inside (before .names)
-        (rw d (first-named (leftNode t i) (rightNode t i) (processNode t i) (linkRoot t i) x y) ∙ sym (named-self i fine))
+        (d namedBit (omega arith) ∙ first-named (leftNode t i) (rightNode t i) (processNode t i) (linkRoot t i) x y ∙ sym (named-self i fine))
 
     abbrev I : Bool
     I = inner t i
@@ -118,7 +118,7 @@ module _ (t : Table) where
     -- and the words show one node more
     pub turned-more : Turned after (i + 1)
     turned-more =
-        let s = shown-next t words i x y inside (before .shown) d in
+        let s = shown-next t words i w x y inside (before .shown) d in
         record {
           names = λ k g. twice namedBit k ∙ ap (λ (b : Bool). (I && names t i k) || b) (h k g) ∙ sym (named-more i k);
           shown =

@@ -1,22 +1,25 @@
 -- The ascending pass: nodes are told what the nodes reach that they name, so that no second pass is needed where no key is wrong.
 -- Assumes nothing.
 use Prim.Native.Nat.{ℕ, zero, suc, _+_, _<_}
-use mathlib.Core.Bool.{Bool, true, false, not, _&&_, _||_}
+use mathlib.Core.Bool.{Bool, true, false, not, _&&_, _||_, or-false}
 use mathlib.Core.Path.{_≡_, refl, sym, ap, subst, _∙_}
 use mathlib.Core.Logic.{_⊎_, ⊎-elim}
 use mathlib.Core.List.{List}
 use native.Mathlib.Omega.{arith}
+use lib.Bits.{bitOr}
 use lib.Dec.{leb, eqb}
 use lib.ListN.{length, set}
 use lib.Seq.{getD-set-same, getD-set-other}
 use borrow.Author.Count.{below-more}
 use borrow.Author.Tests.{eqb-true}
+use Rattle.basis.proofs.KeySets.{has-nothing, has-both, has-either}
 use Rattle.basis.proofs.Tests.{and-left, and-right, and-both, or-either, or-left, or-right, or-neither, and-fails, is-false, not-both}
 use Rattle.table.specs.Tables.{Table, kindAt, pAt, qAt}
 use Rattle.table.specs.Nodes.{fitting, leftNode, rightNode, names}
 use Rattle.table.specs.Reach.{processNode, linkRoot, reaches, reachedFrom, wrongKey}
 use Rattle.basis.specs.KeySets.{has}
-use Rattle.table.specs.Marks.{namedBit, processBit, linkBit, notProcessBit, notLinkBit, firstWord, isMarked, doubted, wrongHere}
+use Rattle.table.specs.Marks.{namedBit, processBit, linkBit, notProcessBit, notLinkBit, firstWord, isMarked, wordIf, risen, doubted, wrongHere, Looked}
+use Rattle.table.specs.declared.Look.{Look}
 use Rattle.table.proofs.Operands.{left-lower, right-lower, names-lower, names-left, names-right}
 use Rattle.table.proofs.Marking.{first-process, first-link, first-not-process, first-not-link}
 use Rattle.table.proofs.Reaches.{ByLeft, ByRight, reaches-how, reached-which}
@@ -121,7 +124,29 @@ none-wrong t k f g =
     wrong-test (leb 33 (kindAt t k) && leb (kindAt t k) 35) (not (eqb (qAt t k) 0)) (eqb (kindAt t k) 35 || eqb (qAt t k) 0)
     (reachedFrom t (processNode t) k) (reachedFrom t (linkRoot t) k) f g
 
--- BOTH BITS, of a process and of a link
+-- BOTH BITS, of a process and of a link. 96 has these two
+low-stays : (j : ℕ) → j < 5 → has 96 j ≡ false
+unfolding has
+low-stays zero h = refl
+low-stays (suc zero) h = refl
+low-stays (suc (suc zero)) h = refl
+low-stays (suc (suc (suc zero))) h = refl
+low-stays (suc (suc (suc (suc zero)))) h = refl
+low-stays (suc (suc (suc (suc (suc j))))) h = absurd (omega arith)
+
+process-rises : has 96 notProcessBit ≡ true
+unfolding has
+process-rises = refl
+
+link-rises : has 96 notLinkBit ≡ true
+unfolding has
+link-rises = refl
+
+has-wordIf : (words : List ℕ) (on : Bool) (x j : ℕ) → has (wordIf words on x) j ≡ (on && isMarked words j x)
+unfolding wordIf
+has-wordIf words true x j = refl
+has-wordIf words false x j = has-nothing j
+
 module _ (t : Table) where
   abbrev pub notProcess : ℕ → Bool
   notProcess k = wrongHere (kindAt t k) (qAt t k) true false
@@ -140,15 +165,37 @@ module _ (t : Table) where
   abbrev pub raisedAt : List ℕ → ℕ → ℕ → Bool → Bool
   raisedAt words bit i here = here || ((leftNode t i && isMarked words bit (pAt t i)) || (rightNode t i && isMarked words bit (qAt t i)))
 
-  module _ (words after : List ℕ) {i w : ℕ} {doubt : Bool} (before : Informed words i doubt) (small : i < length words)
-      (good : (k : ℕ) → k < i + 1 → fitting t k ≡ true)
+  -- the word of node i: what is known of the node alone, and what rises
+  abbrev pub ownWord : ℕ → ℕ
+  ownWord i = firstWord (leftNode t i) (rightNode t i) (processNode t i) (linkRoot t i) (notProcess i) (notLink i)
+
+  module _ (words : List ℕ) (i : ℕ) {w : ℕ} {l : Look} (k : Looked t i l) (d : w ≡ bitOr (ownWord i) (risen words l)) where
+    word-bits : (j : ℕ) → has w j ≡ (has (ownWord i) j || (has 96 j && ((leftNode t i && isMarked words j (pAt t i)) || (rightNode t i && isMarked words j (qAt t i)))))
+    word-bits j =
+        ap (λ (v : ℕ). has v j) d
+        ∙ has-either (ownWord i) (risen words l) j
+        ∙ ap (λ (b : Bool). has (ownWord i) j || b)
+        (has-both 96 _ j
+        ∙ ap (λ (b : Bool). has 96 j && b)
+        (has-either (wordIf words (l .left) (l .p)) (wordIf words (l .right) (l .q)) j
+        ∙ rw (has-wordIf words (l .left) (l .p) j, has-wordIf words (l .right) (l .q) j, k .left, k .p, k .right, k .q)))
+
+    -- the bits that do not rise, and those that do
+    pub word-low : (j : ℕ) → j < 5 → has w j ≡ has (ownWord i) j
+    word-low j h = word-bits j ∙ rw (low-stays j h) (or-false (has (ownWord i) j))
+
+    word-high : (j : ℕ) → has 96 j ≡ true → has w j ≡ raisedAt words j i (has (ownWord i) j)
+    word-high j e = word-bits j ∙ rw e
+
+  module _ (words after : List ℕ) {i w : ℕ} {doubt : Bool} {l : Look} (before : Informed words i doubt) (small : i < length words)
+      (good : (k : ℕ) → k < i + 1 → fitting t k ≡ true) (look : Looked t i l)
       (kept : (j k : ℕ) → eqb namedBit j ≡ false → isMarked after j k ≡ isMarked (set words i w) j k)
-      (d : w ≡ firstWord (leftNode t i) (rightNode t i) (processNode t i) (linkRoot t i) (raisedAt words notProcessBit i (notProcess i)) (raisedAt words notLinkBit i (notLink i))) where
+      (d : w ≡ bitOr (ownWord i) (risen words l)) where
     abbrev X : Bool
-    X = raisedAt words notProcessBit i (notProcess i)
+    X = notProcess i
 
     abbrev Y : Bool
-    Y = raisedAt words notLinkBit i (notLink i)
+    Y = notLink i
 
     same : (j k : ℕ) → eqb namedBit j ≡ false → k < i → isMarked after j k ≡ isMarked words j k
     same j k e h = kept j k e ∙ rw (getD-set-other words i k w 0 (omega arith))
@@ -169,15 +216,15 @@ module _ (t : Table) where
         let K = linkRoot t i in
         record {
           process = told-more t notProcessBit (processNode t) notProcess words after (before .process) good (λ k h. same notProcessBit k refl h)
-              (new notProcessBit refl ∙ rw d (first-not-process L R P K X Y))
+              (new notProcessBit refl ∙ word-high words i look d notProcessBit process-rises ∙ ap (raisedAt words notProcessBit i) (first-not-process L R P K X Y))
               (λ e.
               let a = or-neither doubt (doubted w) e in
-              (a .0, λ f. new notProcessBit refl ∙ lacks (has w processBit) (has w notProcessBit) (or-neither _ (has w linkBit && has w notLinkBit) (a .1) .0) (rw d (first-process L R P K X Y) ∙ f)));
+              (a .0, λ f. new notProcessBit refl ∙ lacks (has w processBit) (has w notProcessBit) (or-neither _ (has w linkBit && has w notLinkBit) (a .1) .0) (word-low words i look d processBit (omega arith) ∙ first-process L R P K X Y ∙ f)));
           link = told-more t notLinkBit (linkRoot t) notLink words after (before .link) good (λ k h. same notLinkBit k refl h)
-              (new notLinkBit refl ∙ rw d (first-not-link L R P K X Y))
+              (new notLinkBit refl ∙ word-high words i look d notLinkBit link-rises ∙ ap (raisedAt words notLinkBit i) (first-not-link L R P K X Y))
               (λ e.
               let a = or-neither doubt (doubted w) e in
-              (a .0, λ f. new notLinkBit refl ∙ lacks (has w linkBit) (has w notLinkBit) (or-neither (has w processBit && has w notProcessBit) _ (a .1) .1) (rw d (first-link L R P K X Y) ∙ f)));
+              (a .0, λ f. new notLinkBit refl ∙ lacks (has w linkBit) (has w notLinkBit) (or-neither (has w processBit && has w notProcessBit) _ (a .1) .1) (word-low words i look d linkBit (omega arith) ∙ first-link L R P K X Y ∙ f)));
         }
 
   pub informed-sure : (good : (k : ℕ) → k < t .sizes .nodes → fitting t k ≡ true) {words : List ℕ} {doubt : Bool} → Informed words (t .sizes .nodes) doubt → doubt ≡ false

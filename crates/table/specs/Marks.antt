@@ -3,6 +3,7 @@ use Prim.Native.Nat.{ℕ, _+_, _<_, _≤_}
 use mathlib.Core.Path.{_≡_}
 use mathlib.Core.Bool.{Bool, true, false, cond, not, _&&_, _||_}
 use mathlib.Core.List.{List}
+use lib.Bits.{bitAnd, bitOr}
 use lib.Dec.{leb, eqb}
 use lib.ListN.{length, getD, set}
 use Rattle.basis.specs.KeySets.{has, plus}
@@ -42,7 +43,7 @@ notLinkBit = 6
 unfoldable pub plusIf : ℕ → ℕ → Bool → ℕ
 plusIf w bit on = cond on (plus w bit) w
 
--- the word of a node that nothing names yet
+-- the word of a node that nothing names yet, by what is known of the node alone
 abbrev pub firstWord : Bool → Bool → Bool → Bool → Bool → Bool → ℕ
 firstWord left right process link notProcess notLink =
     plusIf (plusIf (plusIf (plusIf (plusIf (plusIf 0 leftBit left) rightBit right) processBit process) linkBit link) notProcessBit notProcess) notLinkBit notLink
@@ -50,9 +51,13 @@ firstWord left right process link notProcess notLink =
 abbrev pub isMarked : List ℕ → ℕ → ℕ → Bool
 isMarked words bit x = has (getD words x 0) bit
 
--- a bit that a node has by itself, or from what it names
-abbrev pub risen : List ℕ → ℕ → Look → Bool → Bool
-risen words bit l here = here || ((l .left && isMarked words bit (l .p)) || (l .right && isMarked words bit (l .q)))
+-- the word of x, if asked for
+unfoldable pub wordIf : List ℕ → Bool → ℕ → ℕ
+wordIf words on x = cond on (getD words x 0) 0
+
+-- the bits that a node has from those that it names: 96 has the last two bits
+abbrev pub risen : List ℕ → Look → ℕ
+risen words l = bitAnd 96 (bitOr (wordIf words (l .left) (l .p)) (wordIf words (l .right) (l .q)))
 
 -- by its word, a process node or the root of a link reaches what it must not
 abbrev pub doubted : ℕ → Bool

@@ -10,6 +10,7 @@ use super::kinds::first_root;
 use super::marks::first_word;
 use super::marks::is_doubted;
 use super::marks::mark_both;
+use super::marks::rising;
 use super::nodes::look_at;
 
 // The lowest node with a bad kind or operand, and the number of nodes where there is none: then the words show which
@@ -27,7 +28,7 @@ pub fn lowest_bad(sizes: Sizes, kinds: &[u8], operands: &[u8], scratch: &mut [u3
         if !look.fitting {
             return Scan { bad: i, doubtful };
         }
-        let word = first_word(scratch, sizes, kinds[i], i, look);
+        let word = first_word(sizes, kinds[i], i, look) | rising(scratch, look);
         scratch[i] = word;
         doubtful = doubtful | is_doubted(word);
         let inner = i < first;

@@ -1,6 +1,6 @@
 // A word for each node among lent ones, by its bits.
 ghost use mathlib.Core.Path.{_≡_};
-ghost use mathlib.Core.Bool.{true, false, _&&_};
+ghost use mathlib.Core.Bool.{true, false};
 ghost use mathlib.Core.List.{[]};
 ghost use Prim.Native.Nat.{_<_};
 ghost use lib.ListN.{length};
@@ -8,7 +8,7 @@ ghost use Rattle.table.specs.Tables.{table};
 ghost use Rattle.table.specs.Nodes.{isProcess};
 ghost use Rattle.table.specs.Reach.{linkRoot};
 ghost use Rattle.table.specs.Sound.{Limits};
-ghost use Rattle.table.specs.Marks.{plusIf, firstWord, wrongHere, isMarked, risen, doubted, notProcessBit, notLinkBit, Mark, TwoMarks};
+ghost use Rattle.table.specs.Marks.{plusIf, firstWord, wrongHere, wordIf, risen, doubted, Mark, TwoMarks};
 use super::Look;
 use super::Sizes;
 use super::kinds::first_root;
@@ -32,6 +32,9 @@ const NOT_PROCESS: usize = 5;
 
 const NOT_LINK: usize = 6;
 
+// The last two.
+const RISING: u32 = 96;
+
 // A word with a bit, if asked to.
 fn plus_if(word: u32, bit: usize, on: bool) -> u32
     requires { ⌜ bit < 32 ⌝ }
@@ -40,37 +43,34 @@ fn plus_if(word: u32, bit: usize, on: bool) -> u32
     if on { basis::plus(word, bit) } else { word }
 }
 
-// Whether x, if asked for, has a bit.
-fn has_bit(words: &[u32], bit: usize, on: bool, x: usize) -> bool
-    requires { ⌜ (bit < 32) × (on ≡ true → x < length (now words)) ⌝ }
-    ensures { λ r. ⌜ r ≡ (on && isMarked (now (words .entry)) bit x) ⌝ }
+// The word of x, if asked for.
+fn word_if(words: &[u32], on: bool, x: usize) -> u32
+    requires { ⌜ (on ≡ true → x < length (now words)) ⌝ }
+    ensures { λ r. ⌜ r ≡ wordIf (now (words .entry)) on x ⌝ }
 {
-    if !on {
-        return false;
-    }
-    has(words[x], bit)
+    if on { words[x] } else { 0 }
 }
 
-// Whether a node has a bit by itself, or from what it names.
-fn rises(words: &[u32], bit: usize, look: Look, here: bool) -> bool
-    requires { ⌜ (bit < 32) × (look .left ≡ true → look .p < length (now words)) × (look .right ≡ true → look .q < length (now words)) ⌝ }
-    ensures { λ r. ⌜ r ≡ risen (now (words .entry)) bit look here ⌝ }
+// The bits that a node has from those that it names.
+pub fn rising(words: &[u32], look: Look) -> u32
+    requires { ⌜ (look .left ≡ true → look .p < length (now words)) × (look .right ≡ true → look .q < length (now words)) ⌝ }
+    ensures { λ r. ⌜ r ≡ risen (now (words .entry)) look ⌝ }
 {
-    let left = has_bit(words, bit, look.left, look.p);
-    let right = has_bit(words, bit, look.right, look.q);
-    here | (left | right)
+    let left = word_if(words, look.left, look.p);
+    let right = word_if(words, look.right, look.q);
+    RISING & (left | right)
 }
 
-// The word of a node that nothing names yet: whether p and q are nodes, whether it is a process node, a link's root, and
-// whether it reaches a key that a process, a link must not.
-pub fn first_word(words: &[u32], sizes: Sizes, kind: u8, node: usize, look: Look) -> u32
-    requires { ⌜ Limits sizes × (look .left ≡ true → look .p < length (now words)) × (look .right ≡ true → look .q < length (now words)) ⌝ }
-    ensures { λ r. ⌜ r ≡ firstWord (look .left) (look .right) (isProcess kind) (linkRoot (table sizes [] []) node) (risen (now (words .entry)) notProcessBit look (wrongHere kind (look .q) true false)) (risen (now (words .entry)) notLinkBit look (wrongHere kind (look .q) false true)) ⌝ }
+// The word of a node that nothing names yet: whether p and q are nodes, whether it is a process node, a link's root, a
+// key that a process, a link must not reach.
+pub fn first_word(sizes: Sizes, kind: u8, node: usize, look: Look) -> u32
+    requires { ⌜ Limits sizes ⌝ }
+    ensures { λ r. ⌜ r ≡ firstWord (look .left) (look .right) (isProcess kind) (linkRoot (table sizes [] []) node) (wrongHere kind (look .q) true false) (wrongHere kind (look .q) false true) ⌝ }
 {
     let links = first_root(sizes) + sizes.definitions;
     let end = links + sizes.stigmergy;
-    let not_process = rises(words, NOT_PROCESS, look, wrong_here(kind, look.q, true, false));
-    let not_link = rises(words, NOT_LINK, look, wrong_here(kind, look.q, false, true));
+    let not_process = wrong_here(kind, look.q, true, false);
+    let not_link = wrong_here(kind, look.q, false, true);
     let fields = plus_if(plus_if(0, LEFT, look.left), RIGHT, look.right);
     let starts = plus_if(fields, PROCESS, is_process(kind));
     let roots = plus_if(starts, LINK, (links <= node) & (node < end));

@@ -16,14 +16,8 @@ add-end c = search needs
 wrong-here-requires : tie.Need-wrong-here-requires
 wrong-here-requires c κs = search needs
 
-rises-requires : tie.Need-rises-requires
-rises-requires c κs = search needs
-
 wrong-here-requires-2 : tie.Need-wrong-here-requires-2
 wrong-here-requires-2 c κs = search needs
-
-rises-requires-2 : tie.Need-rises-requires-2
-rises-requires-2 c κs = search needs
 
 plus-if-requires : tie.Need-plus-if-requires
 plus-if-requires c κs = search needs
@@ -55,11 +49,9 @@ returns c = rw (
   c .before .before .before .before .is-process .ensures,
   c .before .before .before .before .before .plus-if2 .ensures,
   c .before .before .before .before .before .before .plus-if .ensures,
-  c .before .before .before .before .before .before .before .rises2 .ensures,
-  c .before .before .before .before .before .before .before .before .wrong-here2 .ensures,
-  c .before .before .before .before .before .before .before .before .before .rises .ensures,
-  c .before .before .before .before .before .before .before .before .before .before .wrong-here .ensures,
-  c .before .before .before .before .before .before .before .before .before .before .before .before .before .first-root .ensures,
+  c .before .before .before .before .before .before .before .wrong-here2 .ensures,
+  c .before .before .before .before .before .before .before .before .wrong-here .ensures,
+  c .before .before .before .before .before .before .before .before .before .before .before .first-root .ensures,
 )
 
 pub first-word-spec : {M : Type 1} → statement M
@@ -70,9 +62,7 @@ first-word-spec =
     add-links
     add-end
     wrong-here-requires
-    rises-requires
     wrong-here-requires-2
-    rises-requires-2
     plus-if-requires
     plus-if-requires-2
     is-process-requires
