@@ -11,14 +11,14 @@ use lib.Seq.{getD-set-same, getD-set-other}
 use borrow.Author.Count.{below-more}
 use borrow.Author.Tests.{eqb-true, eqb-false}
 use Rattle.basis.specs.KeySets.{has}
-use Rattle.basis.proofs.KeySets.{has-plus, has-nothing}
+use Rattle.basis.proofs.KeySets.{has-plusIf, has-nothing}
 use Rattle.basis.proofs.Tests.{and-right}
 use Rattle.table.specs.declared.Fields.{Fields}
 use Rattle.table.specs.declared.Look.{Look}
 use Rattle.table.specs.Tables.{Table, pAt, qAt}
 use Rattle.table.specs.Nodes.{fieldsAt, isNode, fits, fitting, leftNode, rightNode, names}
 use Rattle.table.specs.Reach.{processNode, linkRoot}
-use Rattle.table.specs.Marks.{namedBit, leftBit, rightBit, processBit, linkBit, notProcessBit, notLinkBit, plusIf, firstWord, marking, isMarked, changed, Shows, Shown, Mark, TwoMarks, Looked}
+use Rattle.table.specs.Marks.{namedBit, leftBit, rightBit, processBit, linkBit, notProcessBit, notLinkBit, firstWord, marking, isMarked, changed, Shows, Shown, Mark, TwoMarks, Looked}
 use Rattle.table.proofs.Operands.{left-lower, right-lower}
 
 pub changed-off : (change : ℕ → ℕ) (words : List ℕ) (on : Bool) (x : ℕ) → on ≡ false → words ≡ changed change words on x
@@ -58,12 +58,6 @@ module _ (change : ℕ → ℕ) (j : ℕ) (d : Bool) (gives : (w : ℕ) → has 
       by : (b : Bool) → eqb x m ≡ b → isMarked (set words x new) j m ≡ ((d && b) || isMarked words j m)
       by true e = rw (← eqb-true x m e, and-true d, getD-set-same words x new 0 (l refl)) (gives (getD words x 0))
       by false e = rw (and-false d, getD-set-other words x m new 0 (λ (g : m ≡ x). eqb-false x m e (sym g)))
-
--- a word with a bit more
-pub has-plusIf : (w bit : ℕ) (on : Bool) (j : ℕ) → has (plusIf w bit on) j ≡ ((eqb bit j && on) || has w j)
-unfolding plusIf
-has-plusIf w bit true j = rw (and-true (eqb bit j)) (has-plus w bit j)
-has-plusIf w bit false j = rw (and-false (eqb bit j))
 
 -- one word more shows one node more
 pub shows-next : (words : List ℕ) (bit i w : ℕ) (test : ℕ → Bool) → i < length words → Shows words bit i test → has w bit ≡ test i

@@ -7,14 +7,13 @@ use mathlib.Core.List.{List}
 use native.Mathlib.Omega.{arith}
 use lib.Dec.{eqb}
 use lib.ListN.{length, set, length-set}
-use Rattle.basis.specs.KeySets.{has}
-use Rattle.basis.specs.Numbers.{someBelow}
+use Rattle.basis.specs.KeySets.{has, plusIf}
 use Rattle.basis.proofs.KeySets.{has-plus}
 use Rattle.basis.proofs.Numbers.{some-more, some-none}
 use Rattle.basis.proofs.Tests.{and-right, and-when, is-false}
 use Rattle.table.specs.Tables.{Table, pAt, qAt}
 use Rattle.table.specs.Nodes.{fitting, leftNode, rightNode, names, inner, named, namesAgain, badNode}
-use Rattle.table.specs.Marks.{namedBit, leftBit, rightBit, processBit, linkBit, plusIf, firstWord, marking, isMarked, changed, Shows, Shown, TwoMarks}
+use Rattle.table.specs.Marks.{namedBit, leftBit, rightBit, processBit, linkBit, firstWord, marking, isMarked, changed, Shows, Shown, TwoMarks}
 use Rattle.table.specs.Reach.{processNode, linkRoot}
 use Rattle.table.proofs.Operands.{left-lower, right-lower, names-lower}
 use Rattle.table.proofs.Promises.{not-bad}

@@ -13,7 +13,7 @@ use lib.Seq.{getD-set-same, getD-set-other}
 use borrow.Author.Count.{below-more}
 use borrow.Author.Tests.{eqb-true}
 use Rattle.basis.proofs.KeySets.{has-nothing, has-both, has-either}
-use Rattle.basis.proofs.Tests.{and-left, and-right, and-both, or-either, or-left, or-right, or-neither, and-fails, is-false, not-both}
+use Rattle.basis.proofs.Tests.{and-left, and-right, and-both, or-either, or-left, or-right, or-neither, is-false, not-both}
 use Rattle.table.specs.Tables.{Table, kindAt, pAt, qAt}
 use Rattle.table.specs.Nodes.{fitting, leftNode, rightNode, names}
 use Rattle.table.specs.Reach.{processNode, linkRoot, reaches, reachedFrom, wrongKey}

@@ -6,7 +6,7 @@ use mathlib.Core.List.{List}
 use lib.Bits.{bitAnd, bitOr}
 use lib.Dec.{leb, eqb}
 use lib.ListN.{length, getD, set}
-use Rattle.basis.specs.KeySets.{has, plus}
+use Rattle.basis.specs.KeySets.{has, plus, plusIf}
 use Rattle.basis.specs.Kinds as kind
 use Rattle.basis.specs.Numbers.{lowest}
 use Rattle.table.specs.declared.Look.{Look}
@@ -38,10 +38,6 @@ notProcessBit = 5
 
 abbrev pub notLinkBit : ℕ
 notLinkBit = 6
-
--- a word with a bit, if asked to
-unfoldable pub plusIf : ℕ → ℕ → Bool → ℕ
-plusIf w bit on = cond on (plus w bit) w
 
 -- the word of a node that nothing names yet, by what is known of the node alone
 abbrev pub firstWord : Bool → Bool → Bool → Bool → Bool → Bool → ℕ

@@ -14,7 +14,6 @@ pub use header::KEYS;
 pub use header::measure;
 pub use kinds::fields_here;
 pub use kinds::first_root;
-pub use kinds::is_expression;
 pub use kinds::is_guard;
 pub use kinds::is_process;
 pub use nodes::is_node;

@@ -8,13 +8,14 @@ ghost use Rattle.table.specs.Tables.{table};
 ghost use Rattle.table.specs.Nodes.{isProcess};
 ghost use Rattle.table.specs.Reach.{linkRoot};
 ghost use Rattle.table.specs.Sound.{Limits};
-ghost use Rattle.table.specs.Marks.{plusIf, firstWord, wrongHere, wordIf, risen, doubted, Mark, TwoMarks};
+ghost use Rattle.table.specs.Marks.{firstWord, wrongHere, wordIf, risen, doubted, Mark, TwoMarks};
 use super::Look;
 use super::Sizes;
 use super::kinds::first_root;
 use super::kinds::is_process;
 use super::wrong::wrong_here;
 use basis::has;
+use basis::plus_if;
 
 // The bits: another node names it; its p, its q is a node; a process, a link reaches it; it reaches a key that a process
 // must not reach, and one that a link must not.
@@ -34,14 +35,6 @@ const NOT_LINK: usize = 6;
 
 // The last two.
 const RISING: u32 = 96;
-
-// A word with a bit, if asked to.
-fn plus_if(word: u32, bit: usize, on: bool) -> u32
-    requires { ⌜ bit < 32 ⌝ }
-    ensures { λ r. ⌜ r ≡ plusIf word bit on ⌝ }
-{
-    if on { basis::plus(word, bit) } else { word }
-}
 
 // The word of x, if asked for.
 fn word_if(words: &[u32], on: bool, x: usize) -> u32
