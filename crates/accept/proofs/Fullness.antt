@@ -7,7 +7,6 @@ use mathlib.Core.Logic.{⊎-elim}
 use mathlib.Core.List.{List}
 use native.Mathlib.Omega.{arith}
 use lib.Dec.{leb}
-use lib.ListN.{length}
 use borrow.Author.Tests.{leb-true, le-leb, lt-leb}
 use Rattle.basis.specs.Numbers.{lowest}
 use Rattle.basis.proofs.Tests.{not-both, either, lt-or-le}
@@ -24,7 +23,7 @@ use Rattle.term.proofs.Exposed.{node-calls}
 use Rattle.term.proofs.Acceptance.{no-process, nodes-few}
 use Rattle.accept.specs.Counts.{Capped, capped, counts, trueCounts, countsOf}
 use Rattle.accept.specs.Scratch.{pairAt, stored, isCounted, Held, Counted}
-use Rattle.accept.specs.Calls.{Visits}
+use Rattle.accept.specs.Calls.{Visits, CountsAt}
 use Rattle.accept.specs.declared.Visit.the-variants.{Done, High}
 use Rattle.accept.specs.declared.Counts.{Counts}
 use Rattle.accept.proofs.Caps.{counts-idle, counts-small}
@@ -43,14 +42,6 @@ few-held : (P : Process) → few P ≡ leb (sum (countsOf P)) 65535
 unfolding countsOf
 few-held P = few-count P ∙ held-sum (actionCount P) (tickCount P)
 
--- a node whose counts a visit has found is counted now
-pub record More (t : Table) (s : List ℕ) (n : ℕ) (c : Counts) (after : List ℕ) : Type 0 where
-  pub held : Held t (t .sizes .definitions) after
-  pub counted : isCounted after n ≡ true
-  pub pair : c ≡ pairAt after n
-  pub kept : (k : ℕ) → isCounted s k ≡ true → isCounted after k ≡ true
-  pub long : length after ≡ length s
-
 pub count-small : (t : Table) (level n : ℕ) (s : List ℕ) {c : Counts} → Visits t level s n (Done c) → Capped c
 count-small t level n s v = rw (v .0) (counts-small (processAt t level n))
 
@@ -60,7 +51,8 @@ module _ {t : Table} {s : List ℕ} (held : Held t (t .sizes .definitions) s) wh
   unfolding nodeProcess
   none-high n v = not-both (node-calls t (held .sound) n) v
 
-  pub count-more : {n : ℕ} {c : Counts} → n < firstRoot t → Visits t (t .sizes .definitions) s n (Done c) → More t s n c (stored s n c)
+  -- a node whose counts a visit has found is counted now
+  pub count-more : {n : ℕ} {c : Counts} → n < firstRoot t → Visits t (t .sizes .definitions) s n (Done c) → CountsAt t n s (stored s n c) c
   count-more {n} {c} h v =
       let room = node-room held n h in
       let small = count-small t (t .sizes .definitions) n s v in
@@ -70,7 +62,6 @@ module _ {t : Table} {s : List ℕ} (held : Held t (t .sizes .definitions) s) wh
         counted = stored-counted s n c room small;
         pair = sym (stored-at s n c room);
         kept = kept-counted others (λ x. stored-counted s n c room small);
-        long = others .long;
       }
 
   held-at : (n : ℕ) → n < firstRoot t → isCounted s n ≡ true → pairAt s n ≡ countsOf (nodeProcess t n)

@@ -13,8 +13,8 @@ use Rattle.accept.specs.Counts.{Capped}
 use Rattle.accept.specs.Scratch.{isCounted, Held}
 use Rattle.accept.proofs.calls.lowest_overfull.Statement.{statement}
 use Rattle.accept.proofs.calls.lowest_overfull.Tie as tie
-use Rattle.accept.proofs.Cells.{node-room}
-use Rattle.accept.proofs.Fullness.{More, count-small, count-more, overfull-yes, overfull-no, lowest-full, none-full}
+use Rattle.accept.proofs.Cells.{held-small}
+use Rattle.accept.proofs.Fullness.{overfull-yes, overfull-no, lowest-full, none-full}
 
 abbrev Inv-loop : tie.InvT-loop
 Inv-loop sizes kinds operands scratch₀ end n₀ scratch n =
@@ -30,9 +30,9 @@ start c = c .before .before .before .before .before
 abbrev tableAt : tie.At-loop Inv-loop μ-loop → Table
 tableAt c = table (start c .args .sizes) (now (start c .args .kinds)) (now (start c .args .operands))
 
--- a turn of the loop: the node is no root, and is counted now
-abbrev loopAt : tie.After-store Inv-loop μ-loop → tie.At-loop Inv-loop μ-loop
-loopAt c = c .before .before .before .before .before
+-- a turn of the loop: the node is no root
+abbrev loopAt : tie.After-count-at Inv-loop μ-loop → tie.At-loop Inv-loop μ-loop
+loopAt c = c .before .before .before
 
 inner : (c : tie.In-loop Inv-loop μ-loop) → c .before .loop .n < firstRoot (tableAt (c .before))
 inner c =
@@ -40,13 +40,8 @@ inner c =
     let h = c .loop-test .taken in
     omega arith
 
-abbrev now-low : (c : tie.After-store Inv-loop μ-loop) → loopAt c .loop .n < firstRoot (tableAt (loopAt c))
-now-low c = inner (c .before .before .before .before)
-
-more : (c : tie.After-store Inv-loop μ-loop) → More (tableAt (loopAt c)) (loopAt c .loop .scratch) (loopAt c .loop .n) (c .before .before .count .result) (c .store .last .0)
-more c =
-    let l = loopAt c in
-    subst (More (tableAt l) (l .loop .scratch) (l .loop .n) (c .before .before .count .result)) (sym (c .store .ensures)) (count-more (l .loop .inv .1) (now-low c) (c .before .before .count .ensures))
+abbrev low : (c : tie.After-count-at Inv-loop μ-loop) → loopAt c .loop .n < firstRoot (tableAt (loopAt c))
+low c = inner (c .before .before)
 
 first-root-requires : tie.Need-first-root-requires Inv-loop μ-loop
 first-root-requires c κs = c .before .before .before .pre .sound .shaped .limits
@@ -54,39 +49,28 @@ first-root-requires c κs = c .before .before .before .pre .sound .shaped .limit
 loop-holds : tie.Need-loop-holds Inv-loop μ-loop
 loop-holds c = (omega arith, c .before .before .before .before .pre, (λ k h. absurd (omega arith)), (λ k h. absurd (omega arith)), refl)
 
-small : (c : tie.After-count Inv-loop μ-loop) → Capped (c .count .result)
-small c =
-    let l = c .before .before .before in
-    count-small (tableAt l) (start l .args .sizes .definitions) (l .loop .n) (l .loop .scratch) (c .count .ensures)
-
-count-requires : tie.Need-count-requires Inv-loop μ-loop
-count-requires c κs = let i = c .before .before .loop .inv in (i .1, (inner (c .before), i .2))
-
-store-requires : tie.Need-store-requires Inv-loop μ-loop
-store-requires c κs =
-    let l = c .before .before .before .before in
-    (node-room (l .loop .inv .1) (l .loop .n) (inner (c .before .before .before)), small (c .before))
+count-at-requires : tie.Need-count-at-requires Inv-loop μ-loop
+count-at-requires c κs = let i = c .before .before .loop .inv in (i .1, (inner (c .before), i .2))
 
 add-if1 : tie.Need-add-if1 Inv-loop μ-loop
 add-if1 c =
-    let w = small (c .before .before .before .before .before) in
+    let x = c .before .before .before in
+    let m = x .count-at .ensures in
+    let w : Capped (x .count-at .result) = subst Capped (sym (m .pair)) (held-small (m .held) (loopAt x .loop .n) (low x) (m .counted)) in
     omega (arith, w .actions, w .ticks)
 
 same-length : tie.Need-same-length Inv-loop μ-loop
-same-length c =
-    let x = c .before .before .before .before in
-    more x .long ∙ loopAt x .loop .inv .4
+same-length c = let x = c .before .before .before .before in x .count-at .kept .1 .1 .1 .0 ∙ loopAt x .loop .inv .4
 
 returns : tie.Need-returns Inv-loop μ-loop
 returns c =
     let x = c .before .before .before .before in
-    let m = more x in
+    let m = x .count-at .ensures in
     let n = loopAt x .loop .n in
-    let h = now-low x in
     record {
-      is = lowest-full (m .held) n h (overfull-yes (m .held) n _ h (m .counted) (m .pair) (c .if1 .taken)) (loopAt x .loop .inv .3);
+      is = lowest-full (m .held) n (low x) (overfull-yes (m .held) n _ (low x) (m .counted) (m .pair) (c .if1 .taken)) (loopAt x .loop .inv .3);
       held = m .held;
-      all = λ e. absurd (omega arith);
+      all = λ e. absurd (omega (arith, low x));
     }
 
 add-n : tie.Need-add-n Inv-loop μ-loop
@@ -98,15 +82,14 @@ loop-less c = omega arith
 loop-again : tie.Need-loop-again Inv-loop μ-loop
 loop-again c =
     let x = c .before .before .before .before in
-    let m = more x in
+    let m = x .count-at .ensures in
     let n = loopAt x .loop .n in
-    let i = loopAt x .loop .inv in
-    let h = now-low x in (
+    let i = loopAt x .loop .inv in (
       omega arith,
       m .held,
       below-more _ _ (λ k l. m .kept k (i .2 k l)) (m .counted),
-      below-more _ _ (i .3) (overfull-no (m .held) n _ h (m .counted) (m .pair) (c .if1 .left)),
-      m .long ∙ i .4,
+      below-more _ _ (i .3) (overfull-no (m .held) n _ (low x) (m .counted) (m .pair) (c .if1 .left)),
+      x .count-at .kept .1 .1 .1 .0 ∙ i .4,
     )
 
 same-length-2 : tie.Need-same-length-2 Inv-loop μ-loop
@@ -131,8 +114,7 @@ lowest-overfull-spec =
     μ-loop
     first-root-requires
     loop-holds
-    count-requires
-    store-requires
+    count-at-requires
     add-if1
     same-length
     returns

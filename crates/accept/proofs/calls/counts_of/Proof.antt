@@ -1,4 +1,4 @@
--- `accept::calls::count` meets its contract: a visit finds no part that is not counted, and no call that is too high.
+-- `accept::calls::counts_of` meets its contract: a visit finds no part that is not counted, and no call that is too high.
 -- Assumes nothing.
 use mathlib.Core.Path.{_≡_, subst}
 use denote.Ref.{now}
@@ -8,8 +8,8 @@ use Rattle.table.specs.Tables.{Table, table}
 use Rattle.accept.specs.Calls.{Visits}
 use Rattle.accept.specs.declared.Visit.{Visit}
 use Rattle.accept.specs.declared.Visit.the-variants.{High}
-use Rattle.accept.proofs.calls.count.Statement.{statement}
-use Rattle.accept.proofs.calls.count.Tie as tie
+use Rattle.accept.proofs.calls.counts_of.Statement.{statement}
+use Rattle.accept.proofs.calls.counts_of.Tie as tie
 use Rattle.accept.proofs.Fullness.{none-high}
 
 abbrev start : tie.After-visit → tie.Start
@@ -48,5 +48,5 @@ returns-3 c =
     let v = c .before .before in
     absurd (none-high (start v .pre .0) (start v .args .n) (found v High (c .enum-told2 .given .1)))
 
-pub count-spec : {M : Type 1} → statement M
-count-spec = tie.close (tie.spec visit-requires enum-known-found enum-told enum-told-2 returns returns-2 returns-3)
+pub counts-of-spec : {M : Type 1} → statement M
+counts-of-spec = tie.close (tie.spec visit-requires enum-known-found enum-told enum-told-2 returns returns-2 returns-3)
