@@ -18,7 +18,7 @@ use Rattle.table.specs.declared.Look.{Look}
 use Rattle.table.specs.Tables.{Table, pAt, qAt}
 use Rattle.table.specs.Nodes.{fieldsAt, isNode, fits, fitting, leftNode, rightNode, names}
 use Rattle.table.specs.Reach.{processNode, linkRoot}
-use Rattle.table.specs.Marks.{namedBit, leftBit, rightBit, processBit, linkBit, notProcessBit, notLinkBit, firstWord, marking, isMarked, changed, Shows, Shown, Mark, TwoMarks, Looked}
+use Rattle.table.specs.Marks.{leftBit, rightBit, processBit, linkBit, firstWord, marking, isMarked, changed, Shows, Shown, Mark, TwoMarks, Looked}
 use Rattle.table.proofs.Operands.{left-lower, right-lower}
 
 pub changed-off : (change : ℕ → ℕ) (words : List ℕ) (on : Bool) (x : ℕ) → on ≡ false → words ≡ changed change words on x
@@ -76,13 +76,10 @@ marking-test true true l r e f v = by (l && e) (r && f)
     by true y = or-true y
     by false y = refl
 
--- the bits of a word that nothing names yet
-module _ (left right process link notProcess notLink : Bool) where
+-- the bits of a word before anything is handed on
+module _ (left right process link : Bool) where
   abbrev first : ℕ
-  first = firstWord left right process link notProcess notLink
-
-  pub first-named : has first namedBit ≡ false
-  first-named = simp (has-plusIf, has-nothing)
+  first = firstWord left right process link
 
   pub first-left : has first leftBit ≡ left
   first-left = simp (has-plusIf, has-nothing) (or-false left)
@@ -96,21 +93,18 @@ module _ (left right process link notProcess notLink : Bool) where
   pub first-link : has first linkBit ≡ link
   first-link = simp (has-plusIf, has-nothing) (or-false link)
 
-  pub first-not-process : has first notProcessBit ≡ notProcess
-  first-not-process = simp (has-plusIf, has-nothing) (or-false notProcess)
-
-  pub first-not-link : has first notLinkBit ≡ notLink
-  first-not-link = simp (has-plusIf, has-nothing) (or-false notLink)
-
 module _ (t : Table) where
-  pub shown-next : (words : List ℕ) (i w : ℕ) (x y : Bool) → i < length words → Shown t words i
-      → ((j : ℕ) → j < 5 → has w j ≡ has (firstWord (leftNode t i) (rightNode t i) (processNode t i) (linkRoot t i) x y) j) → Shown t (set words i w) (i + 1)
-  shown-next words i w x y l s d =
+  pub shown-none : (words : List ℕ) → Shown t words 0
+  shown-none words = record { left = λ m h. absurd (omega arith); right = λ m h. absurd (omega arith); process = λ m h. absurd (omega arith); link = λ m h. absurd (omega arith) }
+
+  pub shown-next : (words : List ℕ) (i : ℕ) {w : ℕ} → i < length words → Shown t words i
+      → w ≡ firstWord (leftNode t i) (rightNode t i) (processNode t i) (linkRoot t i) → Shown t (set words i w) (i + 1)
+  shown-next words i l s d =
       record {
-        left = shows-next words _ i _ _ l (s .left) (d leftBit (omega arith) ∙ first-left L R P K x y);
-        right = shows-next words _ i _ _ l (s .right) (d rightBit (omega arith) ∙ first-right L R P K x y);
-        process = shows-next words _ i _ _ l (s .process) (d processBit (omega arith) ∙ first-process L R P K x y);
-        link = shows-next words _ i _ _ l (s .link) (d linkBit (omega arith) ∙ first-link L R P K x y);
+        left = shows-next words _ i _ _ l (s .left) (rw d (first-left L R P K));
+        right = shows-next words _ i _ _ l (s .right) (rw d (first-right L R P K));
+        process = shows-next words _ i _ _ l (s .process) (rw d (first-process L R P K));
+        link = shows-next words _ i _ _ l (s .link) (rw d (first-link L R P K));
       }
     where
       L : Bool

@@ -12,16 +12,15 @@ use lib.ListN.{length, set}
 use lib.Seq.{getD-set-same, getD-set-other}
 use borrow.Author.Count.{below-more}
 use borrow.Author.Tests.{eqb-true}
-use Rattle.basis.proofs.KeySets.{has-nothing, has-both, has-either}
+use Rattle.basis.proofs.KeySets.{has-plusIf, has-nothing, has-both, has-either}
 use Rattle.basis.proofs.Tests.{and-left, and-right, and-both, or-either, or-left, or-right, or-neither, is-false, not-both}
 use Rattle.table.specs.Tables.{Table, kindAt, pAt, qAt}
 use Rattle.table.specs.Nodes.{fitting, leftNode, rightNode, names}
 use Rattle.table.specs.Reach.{processNode, linkRoot, reaches, reachedFrom, wrongKey}
-use Rattle.basis.specs.KeySets.{has}
-use Rattle.table.specs.Marks.{namedBit, processBit, linkBit, notProcessBit, notLinkBit, firstWord, isMarked, wordIf, risen, doubted, wrongHere, Looked}
+use Rattle.basis.specs.KeySets.{has, plusIf}
+use Rattle.table.specs.Marks.{namedBit, notProcessBit, notLinkBit, ownBits, isMarked, wordIf, risen, doubted, wrongHere, Looked}
 use Rattle.table.specs.declared.Look.{Look}
 use Rattle.table.proofs.Operands.{left-lower, right-lower, names-lower, names-left, names-right}
-use Rattle.table.proofs.Marking.{first-process, first-link, first-not-process, first-not-link}
 use Rattle.table.proofs.Reaches.{ByLeft, ByRight, reaches-how, reached-which}
 
 module _ (t : Table) where
@@ -125,14 +124,9 @@ none-wrong t k f g =
     (reachedFrom t (processNode t) k) (reachedFrom t (linkRoot t) k) f g
 
 -- BOTH BITS, of a process and of a link. 96 has these two
-low-stays : (j : ℕ) → j < 5 → has 96 j ≡ false
+name-stays : has 96 namedBit ≡ false
 unfolding has
-low-stays zero h = refl
-low-stays (suc zero) h = refl
-low-stays (suc (suc zero)) h = refl
-low-stays (suc (suc (suc zero))) h = refl
-low-stays (suc (suc (suc (suc zero)))) h = refl
-low-stays (suc (suc (suc (suc (suc j))))) h = absurd (omega arith)
+name-stays = refl
 
 process-rises : has 96 notProcessBit ≡ true
 unfolding has
@@ -141,6 +135,20 @@ process-rises = refl
 link-rises : has 96 notLinkBit ≡ true
 unfolding has
 link-rises = refl
+
+-- the bits that a node has by itself
+module _ (process link : Bool) where
+  abbrev own : ℕ
+  own = plusIf (plusIf 0 notProcessBit process) notLinkBit link
+
+  own-named : has own namedBit ≡ false
+  own-named = simp (has-plusIf, has-nothing)
+
+  own-process : has own notProcessBit ≡ process
+  own-process = simp (has-plusIf, has-nothing) (or-false process)
+
+  own-link : has own notLinkBit ≡ link
+  own-link = simp (has-plusIf, has-nothing) (or-false link)
 
 has-wordIf : (words : List ℕ) (on : Bool) (x j : ℕ) → has (wordIf words on x) j ≡ (on && isMarked words j x)
 unfolding wordIf
@@ -165,38 +173,31 @@ module _ (t : Table) where
   abbrev pub raisedAt : List ℕ → ℕ → ℕ → Bool → Bool
   raisedAt words bit i here = here || ((leftNode t i && isMarked words bit (pAt t i)) || (rightNode t i && isMarked words bit (qAt t i)))
 
-  -- the word of node i: what is known of the node alone, and what rises
-  abbrev pub ownWord : ℕ → ℕ
-  ownWord i = firstWord (leftNode t i) (rightNode t i) (processNode t i) (linkRoot t i) (notProcess i) (notLink i)
+  -- the word of node i: its own bits, and what rises
+  abbrev pub ownAt : ℕ → ℕ
+  ownAt i = ownBits (kindAt t i) (qAt t i)
 
-  module _ (words : List ℕ) (i : ℕ) {w : ℕ} {l : Look} (k : Looked t i l) (d : w ≡ bitOr (ownWord i) (risen words l)) where
-    word-bits : (j : ℕ) → has w j ≡ (has (ownWord i) j || (has 96 j && ((leftNode t i && isMarked words j (pAt t i)) || (rightNode t i && isMarked words j (qAt t i)))))
+  module _ (words : List ℕ) (i : ℕ) {w : ℕ} {l : Look} (k : Looked t i l) (d : w ≡ bitOr (ownAt i) (risen words l)) where
+    word-bits : (j : ℕ) → has w j ≡ (has (ownAt i) j || (has 96 j && ((leftNode t i && isMarked words j (pAt t i)) || (rightNode t i && isMarked words j (qAt t i)))))
     word-bits j =
         ap (λ (v : ℕ). has v j) d
-        ∙ has-either (ownWord i) (risen words l) j
-        ∙ ap (λ (b : Bool). has (ownWord i) j || b)
+        ∙ has-either (ownAt i) (risen words l) j
+        ∙ ap (λ (b : Bool). has (ownAt i) j || b)
         (has-both 96 _ j
         ∙ ap (λ (b : Bool). has 96 j && b)
         (has-either (wordIf words (l .left) (l .p)) (wordIf words (l .right) (l .q)) j
         ∙ rw (has-wordIf words (l .left) (l .p) j, has-wordIf words (l .right) (l .q) j, k .left, k .p, k .right, k .q)))
 
-    -- the bits that do not rise, and those that do
-    pub word-low : (j : ℕ) → j < 5 → has w j ≡ has (ownWord i) j
-    word-low j h = word-bits j ∙ rw (low-stays j h) (or-false (has (ownWord i) j))
+    pub word-unnamed : has w namedBit ≡ false
+    word-unnamed = word-bits namedBit ∙ rw (name-stays, own-named (notProcess i) (notLink i))
 
-    word-high : (j : ℕ) → has 96 j ≡ true → has w j ≡ raisedAt words j i (has (ownWord i) j)
+    word-high : (j : ℕ) → has 96 j ≡ true → has w j ≡ raisedAt words j i (has (ownAt i) j)
     word-high j e = word-bits j ∙ rw e
 
   module _ (words after : List ℕ) {i w : ℕ} {doubt : Bool} {l : Look} (before : Informed words i doubt) (small : i < length words)
       (good : (k : ℕ) → k < i + 1 → fitting t k ≡ true) (look : Looked t i l)
       (kept : (j k : ℕ) → eqb namedBit j ≡ false → isMarked after j k ≡ isMarked (set words i w) j k)
-      (d : w ≡ bitOr (ownWord i) (risen words l)) where
-    abbrev X : Bool
-    X = notProcess i
-
-    abbrev Y : Bool
-    Y = notLink i
-
+      (d : w ≡ bitOr (ownAt i) (risen words l)) where
     same : (j k : ℕ) → eqb namedBit j ≡ false → k < i → isMarked after j k ≡ isMarked words j k
     same j k e h = kept j k e ∙ rw (getD-set-other words i k w 0 (omega arith))
 
@@ -208,23 +209,21 @@ module _ (t : Table) where
     lacks true b e f = e
     lacks false b e f = absurd (not-both f refl)
 
-    pub informed-more : Informed after (i + 1) (doubt || doubted w)
+    pub informed-more : Informed after (i + 1) (doubt || doubted (processNode t i) (linkRoot t i) w)
     informed-more =
-        let L = leftNode t i in
-        let R = rightNode t i in
         let P = processNode t i in
         let K = linkRoot t i in
         record {
           process = told-more t notProcessBit (processNode t) notProcess words after (before .process) good (λ k h. same notProcessBit k refl h)
-              (new notProcessBit refl ∙ word-high words i look d notProcessBit process-rises ∙ ap (raisedAt words notProcessBit i) (first-not-process L R P K X Y))
+              (new notProcessBit refl ∙ word-high words i look d notProcessBit process-rises ∙ ap (raisedAt words notProcessBit i) (own-process (notProcess i) (notLink i)))
               (λ e.
-              let a = or-neither doubt (doubted w) e in
-              (a .0, λ f. new notProcessBit refl ∙ lacks (has w processBit) (has w notProcessBit) (or-neither _ (has w linkBit && has w notLinkBit) (a .1) .0) (word-low words i look d processBit (omega arith) ∙ first-process L R P K X Y ∙ f)));
+              let a = or-neither doubt (doubted P K w) e in
+              (a .0, λ f. new notProcessBit refl ∙ lacks P (has w notProcessBit) (or-neither (P && has w notProcessBit) (K && has w notLinkBit) (a .1) .0) f));
           link = told-more t notLinkBit (linkRoot t) notLink words after (before .link) good (λ k h. same notLinkBit k refl h)
-              (new notLinkBit refl ∙ word-high words i look d notLinkBit link-rises ∙ ap (raisedAt words notLinkBit i) (first-not-link L R P K X Y))
+              (new notLinkBit refl ∙ word-high words i look d notLinkBit link-rises ∙ ap (raisedAt words notLinkBit i) (own-link (notProcess i) (notLink i)))
               (λ e.
-              let a = or-neither doubt (doubted w) e in
-              (a .0, λ f. new notLinkBit refl ∙ lacks (has w linkBit) (has w notLinkBit) (or-neither (has w processBit && has w notProcessBit) _ (a .1) .1) (word-low words i look d linkBit (omega arith) ∙ first-link L R P K X Y ∙ f)));
+              let a = or-neither doubt (doubted P K w) e in
+              (a .0, λ f. new notLinkBit refl ∙ lacks K (has w notLinkBit) (or-neither (P && has w notProcessBit) (K && has w notLinkBit) (a .1) .1) f));
         }
 
   pub informed-sure : (good : (k : ℕ) → k < t .sizes .nodes → fitting t k ≡ true) {words : List ℕ} {doubt : Bool} → Informed words (t .sizes .nodes) doubt → doubt ≡ false

@@ -17,7 +17,7 @@ use Rattle.table.specs.Reach.{processNode, linkRoot, reachedFrom, wrongK
 use Rattle.table.specs.Sound.{Shaped}
 
 -- the bits of a node's word: another node names it; its p, its q is a node; a process, a link reaches it; it reaches a
--- key that a process must not reach, and one that a link must not
+-- key that a process, that a link must not reach
 abbrev pub namedBit : ℕ
 namedBit = 0
 
@@ -39,13 +39,23 @@ notProcessBit = 5
 abbrev pub notLinkBit : ℕ
 notLinkBit = 6
 
--- the word of a node that nothing names yet, by what is known of the node alone
-abbrev pub firstWord : Bool → Bool → Bool → Bool → Bool → Bool → ℕ
-firstWord left right process link notProcess notLink =
-    plusIf (plusIf (plusIf (plusIf (plusIf (plusIf 0 leftBit left) rightBit right) processBit process) linkBit link) notProcessBit notProcess) notLinkBit notLink
+-- the word of a node by which processes and links start to be handed on
+abbrev pub firstWord : Bool → Bool → Bool → Bool → ℕ
+firstWord left right process link = plusIf (plusIf (plusIf (plusIf 0 leftBit left) rightBit right) processBit process) linkBit link
 
 abbrev pub isMarked : List ℕ → ℕ → ℕ → Bool
 isMarked words bit x = has (getD words x 0) bit
+
+-- a node of this kind and party is wrong, by what reaches it
+abbrev pub wrongHere : ℕ → ℕ → Bool → Bool → Bool
+wrongHere k party process link =
+    (leb kind.attribute k && leb k kind.environment)
+    && ((process && not (eqb party 0))
+    || (link && (eqb k kind.environment || eqb party 0)))
+
+-- the bits that a node of this kind and party has by itself: of keys alone
+abbrev pub ownBits : ℕ → ℕ → ℕ
+ownBits k party = plusIf (plusIf 0 notProcessBit (wrongHere k party true false)) notLinkBit (wrongHere k party false true)
 
 -- the word of x, if asked for
 unfoldable pub wordIf : List ℕ → Bool → ℕ → ℕ
@@ -55,9 +65,9 @@ wordIf words on x = cond on (getD words x 0) 0
 abbrev pub risen : List ℕ → Look → ℕ
 risen words l = bitAnd 96 (bitOr (wordIf words (l .left) (l .p)) (wordIf words (l .right) (l .q)))
 
--- by its word, a process node or the root of a link reaches what it must not
-abbrev pub doubted : ℕ → Bool
-doubted w = (has w processBit && has w notProcessBit) || (has w linkBit && has w notLinkBit)
+-- by its word, a node that is a process node, the root of a link, reaches what it must not
+abbrev pub doubted : Bool → Bool → ℕ → Bool
+doubted process link w = (process && has w notProcessBit) || (link && has w notLinkBit)
 
 -- the word of x is changed, if asked to
 unfoldable pub changed : (ℕ → ℕ) → List ℕ → Bool → ℕ → List ℕ
@@ -66,13 +76,6 @@ changed change words on x = cond on (set words x (change (getD words x 0))) word
 -- to that of a node which is named too, by one that a process, a link reaches
 abbrev pub marking : Bool → Bool → ℕ → ℕ
 marking process link w = plusIf (plusIf (plus w namedBit) processBit process) linkBit link
-
--- a node of this kind and party is wrong, by what reaches it
-abbrev pub wrongHere : ℕ → ℕ → Bool → Bool → Bool
-wrongHere k party process link =
-    (leb kind.attribute k && leb k kind.environment)
-    && ((process && not (eqb party 0))
-    || (link && (eqb k kind.environment || eqb party 0)))
 
 module _ (process link : Bool) where
   -- one node marked: whether it was named before, and the words after
@@ -103,10 +106,9 @@ pub record Shown (t : Table) (words : List ℕ) (n : ℕ) : Type 0 where
   pub process : Shows words processBit n (processNode t)
   pub link : Shows words linkBit n (linkRoot t)
 
--- what looking for a bad node finds, and leaves where there is none; and where it is not doubtful, no key is wrong
-pub record Bad (t : Table) (words : List ℕ) (r : Scan) : Type 0 where
+-- what looking for a bad node finds; where there is none and it is not doubtful, no key is wrong
+pub record Bad (t : Table) (r : Scan) : Type 0 where
   pub is : r .bad ≡ lowest (badNode t) (t .sizes .nodes)
-  pub leaves : t .sizes .nodes ≤ r .bad → Shown t words (t .sizes .nodes)
   pub sure : t .sizes .nodes ≤ r .bad → r .doubtful ≡ false → (k : ℕ) → k < t .sizes .nodes → wrongKey t k ≡ false
 
 -- the nodes from i up have handed on a bit: only reached nodes have it, all starts, and what the reached of those name

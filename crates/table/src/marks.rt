@@ -1,6 +1,6 @@
 // A word for each node among lent ones, by its bits.
 ghost use mathlib.Core.Path.{_≡_};
-ghost use mathlib.Core.Bool.{true, false};
+ghost use mathlib.Core.Bool.{true};
 ghost use mathlib.Core.List.{[]};
 ghost use Prim.Native.Nat.{_<_};
 ghost use lib.ListN.{length};
@@ -8,17 +8,18 @@ ghost use Rattle.table.specs.Tables.{table};
 ghost use Rattle.table.specs.Nodes.{isProcess};
 ghost use Rattle.table.specs.Reach.{linkRoot};
 ghost use Rattle.table.specs.Sound.{Limits};
-ghost use Rattle.table.specs.Marks.{firstWord, wrongHere, wordIf, risen, doubted, Mark, TwoMarks};
+ghost use Rattle.table.specs.Marks.{firstWord, ownBits, wordIf, risen, doubted, Mark, TwoMarks};
 use super::Look;
 use super::Sizes;
 use super::kinds::first_root;
 use super::kinds::is_process;
+use super::wrong::is_key;
 use super::wrong::wrong_here;
 use basis::has;
 use basis::plus_if;
 
-// The bits: another node names it; its p, its q is a node; a process, a link reaches it; it reaches a key that a process
-// must not reach, and one that a link must not.
+// The bits: another node names it; its p, its q is a node; a process, a link reaches it; it reaches a key that a
+// process, that a link must not reach.
 const NAMED: usize = 0;
 
 pub const LEFT: usize = 1;
@@ -44,6 +45,17 @@ fn word_if(words: &[u32], on: bool, x: usize) -> u32
     if on { words[x] } else { 0 }
 }
 
+// The bits that a node has by itself: keys have some.
+pub fn own_bits(kind: u8, party: usize) -> u32
+    ensures { λ r. ⌜ r ≡ ownBits kind party ⌝ }
+{
+    if !is_key(kind) {
+        return 0;
+    }
+    let bits = plus_if(0, NOT_PROCESS, wrong_here(kind, party, true, false));
+    plus_if(bits, NOT_LINK, wrong_here(kind, party, false, true))
+}
+
 // The bits that a node has from those that it names.
 pub fn rising(words: &[u32], look: Look) -> u32
     requires { ⌜ (look .left ≡ true → look .p < length (now words)) × (look .right ≡ true → look .q < length (now words)) ⌝ }
@@ -54,27 +66,31 @@ pub fn rising(words: &[u32], look: Look) -> u32
     RISING & (left | right)
 }
 
-// The word of a node that nothing names yet: whether p and q are nodes, whether it is a process node, a link's root, a
-// key that a process, a link must not reach.
-pub fn first_word(sizes: Sizes, kind: u8, node: usize, look: Look) -> u32
+// Whether a node is the root of a link.
+pub fn is_link_root(sizes: Sizes, node: usize) -> bool
     requires { ⌜ Limits sizes ⌝ }
-    ensures { λ r. ⌜ r ≡ firstWord (look .left) (look .right) (isProcess kind) (linkRoot (table sizes [] []) node) (wrongHere kind (look .q) true false) (wrongHere kind (look .q) false true) ⌝ }
+    ensures { λ r. ⌜ r ≡ linkRoot (table sizes [] []) node ⌝ }
 {
     let links = first_root(sizes) + sizes.definitions;
-    let end = links + sizes.stigmergy;
-    let not_process = wrong_here(kind, look.q, true, false);
-    let not_link = wrong_here(kind, look.q, false, true);
-    let fields = plus_if(plus_if(0, LEFT, look.left), RIGHT, look.right);
-    let starts = plus_if(fields, PROCESS, is_process(kind));
-    let roots = plus_if(starts, LINK, (links <= node) & (node < end));
-    plus_if(plus_if(roots, NOT_PROCESS, not_process), NOT_LINK, not_link)
+    (links <= node) & (node < links + sizes.stigmergy)
 }
 
 // Whether, by its word, a process node or the root of a link reaches what it must not.
-pub fn is_doubted(word: u32) -> bool
-    ensures { λ r. ⌜ r ≡ doubted word ⌝ }
+pub fn is_doubted(process: bool, link: bool, word: u32) -> bool
+    ensures { λ r. ⌜ r ≡ doubted process link word ⌝ }
 {
-    (has(word, PROCESS) & has(word, NOT_PROCESS)) | (has(word, LINK) & has(word, NOT_LINK))
+    (process & has(word, NOT_PROCESS)) | (link & has(word, NOT_LINK))
+}
+
+// The word of a node before anything is handed on: whether p and q are nodes, whether it is a process node, a link's
+// root.
+pub fn first_word(sizes: Sizes, kind: u8, node: usize, left: bool, right: bool) -> u32
+    requires { ⌜ Limits sizes ⌝ }
+    ensures { λ r. ⌜ r ≡ firstWord left right (isProcess kind) (linkRoot (table sizes [] []) node) ⌝ }
+{
+    let fields = plus_if(plus_if(0, LEFT, left), RIGHT, right);
+    let starts = plus_if(fields, PROCESS, is_process(kind));
+    plus_if(starts, LINK, is_link_root(sizes, node))
 }
 
 // Marks x, if asked to, as named by a node that a process, a link reaches, and says whether it was named before.

@@ -55,7 +55,7 @@ lowest-wrong-requires : tie.Need-lowest-wrong-requires
 lowest-wrong-requires c κs =
     let b = c .before .before .before .before .before .before .lowest-bad .ensures in
     let h = c .before .if1 .left in
-    (start (c .before) .pre .0, omega arith, fine (c .before), b .leaves h, b .sure h)
+    (start (c .before) .pre .0, omega arith, fine (c .before), b .sure h)
 
 same-length-2 : tie.Need-same-length-2
 same-length-2 c = c .before .before .before .before .lowest-wrong .kept .1 .1 .1 .0 ∙ c .before .before .before .before .before .before .before .before .before .before .before .lowest-bad .kept .1 .1 .1 .0

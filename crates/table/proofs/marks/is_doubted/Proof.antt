@@ -10,14 +10,8 @@ has-requires c κs = search needs
 has-requires-2 : tie.Need-has-requires-2
 has-requires-2 c κs = search needs
 
-has-requires-3 : tie.Need-has-requires-3
-has-requires-3 c κs = search needs
-
-has-requires-4 : tie.Need-has-requires-4
-has-requires-4 c κs = search needs
-
 returns : tie.Need-returns
-returns c = rw (c .before .before .before .has .ensures, c .before .before .has2 .ensures, c .before .has3 .ensures, c .has4 .ensures)
+returns c = rw (c .before .has .ensures, c .has2 .ensures)
 
 pub is-doubted-spec : {M : Type 1} → statement M
-is-doubted-spec = tie.close (tie.spec has-requires has-requires-2 has-requires-3 has-requires-4 returns)
+is-doubted-spec = tie.close (tie.spec has-requires has-requires-2 returns)
