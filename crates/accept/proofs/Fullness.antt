@@ -1,7 +1,7 @@
 -- Refusal 7 by the counts that are held, and the true counts where no node is over-full.
 -- Assumes nothing.
 use Prim.Native.Nat.{ℕ, _+_, _≤_, _<_}
-use mathlib.Core.Bool.{Bool, true, false, not}
+use mathlib.Core.Bool.{true, false, not}
 use mathlib.Core.Path.{_≡_, sym, ap, subst, _∙_}
 use mathlib.Core.Logic.{⊎-elim}
 use mathlib.Core.List.{List}
@@ -14,18 +14,20 @@ use Rattle.basis.proofs.Numbers.{lowest-none, lowest-at}
 use Rattle.table.specs.Tables.{Table, kindAt, firstRoot}
 use Rattle.table.specs.Nodes.{isProcess}
 use Rattle.table.proofs.Promises.{root-kind}
-use Rattle.term.specs.Processes.{Process, nodeProcess, few}
+use Rattle.term.specs.Processes.{Process, processAt, nodeProcess, few}
 use Rattle.term.specs.Choices.{actionCount, tickCount}
 use Rattle.term.specs.Acceptance.{overfull}
 use Rattle.term.specs.Accepted.{Checked}
 use Rattle.term.proofs.Counting.{few-count}
 use Rattle.term.proofs.Exposed.{node-calls}
 use Rattle.term.proofs.Acceptance.{no-process, nodes-few}
-use Rattle.accept.specs.Counts.{capped, counts, trueCounts, countsOf}
-use Rattle.accept.specs.Scratch.{pairAt, isCounted, Held, Counted}
-use Rattle.accept.specs.Calls.{Settles}
+use Rattle.accept.specs.Counts.{Capped, capped, counts, trueCounts, countsOf}
+use Rattle.accept.specs.Scratch.{pairAt, stored, isCounted, Held, Counted}
+use Rattle.accept.specs.Calls.{Visits, CountsAt}
+use Rattle.accept.specs.declared.Visit.the-variants.{Done, High}
 use Rattle.accept.specs.declared.Counts.{Counts}
-use Rattle.accept.proofs.Caps.{counts-idle}
+use Rattle.accept.proofs.Caps.{counts-idle, counts-small}
+use Rattle.accept.proofs.Cells.{node-room, stored-at, stored-others, stored-counted, kept-counted, held-more}
 
 abbrev sum : Counts → ℕ
 sum c = c .actions + c .ticks
@@ -40,11 +42,27 @@ few-held : (P : Process) → few P ≡ leb (sum (countsOf P)) 65535
 unfolding countsOf
 few-held P = few-count P ∙ held-sum (actionCount P) (tickCount P)
 
+pub count-small : (t : Table) (level n : ℕ) (s : List ℕ) {c : Counts} → Visits t level s n (Done c) → Capped c
+count-small t level n s v = rw (v .0) (counts-small (processAt t level n))
+
 module _ {t : Table} {s : List ℕ} (held : Held t (t .sizes .definitions) s) where
-  -- every node can be settled, and is where code has tried
-  pub settled : {n : ℕ} {before : List ℕ} {r : Bool} → Settles t (t .sizes .definitions) n before s r → isCounted s n ≡ true
+  -- no call is above all definitions
+  pub none-high : (n : ℕ) → Visits t (t .sizes .definitions) s n High → ⊥
   unfolding nodeProcess
-  settled {n} {r = r} x = ⊎-elim (x .counted) (λ (e : r ≡ false). absurd (not-both (node-calls t (held .sound) n) (x .high e))) (either r)
+  none-high n v = not-both (node-calls t (held .sound) n) v
+
+  -- a node whose counts a visit has found is counted now
+  pub count-more : {n : ℕ} {c : Counts} → n < firstRoot t → Visits t (t .sizes .definitions) s n (Done c) → CountsAt t n s (stored s n c) c
+  count-more {n} {c} h v =
+      let room = node-room held n h in
+      let small = count-small t (t .sizes .definitions) n s v in
+      let others = stored-others s n c in
+      record {
+        held = held-more held n c h (v .0) (v .1);
+        counted = stored-counted s n c room small;
+        pair = sym (stored-at s n c room);
+        kept = kept-counted others (λ x. stored-counted s n c room small);
+      }
 
   held-at : (n : ℕ) → n < firstRoot t → isCounted s n ≡ true → pairAt s n ≡ countsOf (nodeProcess t n)
   unfolding nodeProcess

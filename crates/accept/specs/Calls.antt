@@ -53,6 +53,13 @@ pub record CallsJudged (t : Table) (s : List ℕ) (r : ℕ) : Type 0 where
   pub is : r ≡ lowest (badCall t) (t .sizes .definitions)
   pub held : r ≡ t .sizes .definitions → Held t (t .sizes .definitions) s
 
+-- node n is counted: its counts, and the words before and after
+pub record CountsAt (t : Table) (n : ℕ) (before after : List ℕ) (c : Counts) : Type 0 where
+  pub held : Held t (t .sizes .definitions) after
+  pub kept : (k : ℕ) → isCounted before k ≡ true → isCounted after k ≡ true
+  pub counted : isCounted after n ≡ true
+  pub pair : c ≡ pairAt after n
+
 -- refusal 7, and the words that it leaves: the counts of all nodes, where none is over-full
 pub record NodesJudged (t : Table) (s : List ℕ) (r : ℕ) : Type 0 where
   pub is : r ≡ lowest (overfull t) (t .sizes .nodes)

@@ -70,11 +70,11 @@ fn judge(sizes: Sizes, kinds: &[u8], operands: &[u8], scratch: &mut [u32]) -> Ac
     requires { ⌜ Shaped (tableFrom sizes (now kinds) (now operands)) × (scratchWords sizes ≤ length (now scratch)) ⌝ }
     ensures { λ r. ⌜ Judged (tableFrom sizes (now (kinds .entry)) (now (operands .entry))) (contentChecks (tableFrom sizes (now (kinds .entry)) (now (operands .entry)))) (now (scratch .exit)) r ⌝ }
 {
-    let bad = lowest_bad(sizes, kinds, operands, scratch);
-    if bad < sizes.nodes {
-        return Acceptance::Refused(4, bad);
+    let scan = lowest_bad(sizes, kinds, operands, scratch);
+    if scan.bad < sizes.nodes {
+        return Acceptance::Refused(4, scan.bad);
     }
-    let wrong = lowest_wrong(sizes, kinds, operands, scratch);
+    let wrong = lowest_wrong(sizes, kinds, operands, scratch, scan.doubtful);
     if wrong < sizes.nodes {
         return Acceptance::Refused(5, wrong);
     }

@@ -39,10 +39,6 @@ module _ {W : Type 0} (stamp : W → ℕ) where
           let z : stamp w - suc c ≡ suc (stamp w - suc (suc c)) = omega arith in
           (omega arith, omega arith, rw z (r .2))
 
-  -- from 0: write n bears stamp n, and a write is write number stamp
-  pub stamp-of-write : (h : List W) (d : W) (n : ℕ) → Numbered stamp 0 h → 0 < n → n ≤ length h → stamp (writeAt d h n) ≡ n
-  stamp-of-write h d n m p l = numbered-at 0 h d (n - 1) m (omega arith) ∙ omega arith
-
   pub write-of-stamp : (h : List W) (d w : W) → Numbered stamp 0 h → List·Memᴰ w h → (stamp w ≤ length h) × (writeAt d h (stamp w) ≡ w)
   write-of-stamp h d w n m = let r = at-stamp 0 h d w n m in (omega arith, r .2)
 

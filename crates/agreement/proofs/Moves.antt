@@ -100,11 +100,6 @@ module _ {E : Type 0} (newer : E → E → Bool) where
       by true = (x, refl)
       by false = (a, refl)
 
-  -- what holds of every entry before and of what is written holds of every entry after
-  pub entries-moved : (P : E → Type 0) (link : ℕ → ℕ → Bool) (m : Move E) (v : View E) → ((a : ℕ) → P (v .entry a))
-      → ((e : E) → List·Memᴰ e (wrote m) → P e) → (a : ℕ) → P (moved newer link m v .entry a)
-  entries-moved P link m v before new a = ⊎-elim (λ q. rw (q .1) (before (q .0))) (new (moved newer link m v .entry a)) (entry-from link m v a)
-
   -- a move is fresh if what it writes is newer than every agent's entry
   pub newest-fresh : (m : Move E) (v : View E) → ((e : E) → List·Memᴰ e (wrote m) → (a : ℕ) → T (newer e (v .entry a))) → Fresh newer m v
   newest-fresh quiet v h = tt

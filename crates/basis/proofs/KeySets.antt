@@ -3,17 +3,17 @@
 use Prim.Native.Nat.{ℕ, zero, suc, _+_, _-_, _/_, _%_, _^_, _<_, _≤_}
 use native.Mathlib.Nat.{pow-succ', div-div-eq-div-mul}
 use native.Mathlib.Omega.{arith}
-use mathlib.Core.Bool.{Bool, true, false, cond, not, _&&_, _||_}
+use mathlib.Core.Bool.{Bool, true, false, cond, not, _&&_, _||_, and-true, and-false}
 use mathlib.Core.Path.{_≡_, refl, sym, ap, _∙_}
 use mathlib.Core.Logic.{⊎-elim}
-use lib.Pow.{pow-pos, pow-mono}
+use lib.Pow.{pow-pos}
 use lib.Bits.{bitAnd, bitOr, bitXor, and-shr, or-shr, xor-shr, and-mod, or-mod, xor-mod}
 use lib.Count.{trailingZeros, under}
 use lib.Dec.{eqb, ltb, eqb·zero-suc, eqb·suc-zero, eqb·suc-suc}
 use borrow.Author.Tests.{eqb-true, eqb-false, eq-eqb, ne-eqb, lt-ltb, le-ltb}
 use Rattle.basis.specs.Numbers.{forEach}
-use Rattle.basis.specs.KeySets.{has, plus, minus, plusAll}
-use Rattle.basis.proofs.Tests.{either, is-false, cond-cases, lt-or-le, same-or-other}
+use Rattle.basis.specs.KeySets.{has, plus, plusIf, minus, plusAll}
+use Rattle.basis.proofs.Tests.{either, cond-cases, lt-or-le, same-or-other}
 use Rattle.basis.proofs.Numbers.{forEach-keeps, forEach-more, forEach-ext}
 
 -- key 0 is the word's parity, and the others are those of its half
@@ -86,17 +86,16 @@ has-minus w k j = cond-cases (λ (v : ℕ). has v j ≡ (not (eqb k j) && has w 
     same true p e = rw (← eqb-true k j p, e)
     same false p e = refl
 
+pub has-plusIf : (w k : ℕ) (on : Bool) (j : ℕ) → has (plusIf w k on) j ≡ ((eqb k j && on) || has w j)
+unfolding plusIf
+has-plusIf w k true j = rw (and-true (eqb k j)) (has-plus w k j)
+has-plusIf w k false j = rw (and-false (eqb k j))
+
 pub has-plus-same : (w k : ℕ) → has (plus w k) k ≡ true
 has-plus-same w k = rw (has-plus w k k, eq-eqb k k refl)
 
 pub has-plus-other : (w k j : ℕ) → (k ≡ j → ⊥) → has (plus w k) j ≡ has w j
 has-plus-other w k j d = rw (has-plus w k j, ne-eqb k j d)
-
-pub has-minus-same : (w k : ℕ) → has (minus w k) k ≡ false
-has-minus-same w k = rw (has-minus w k k, eq-eqb k k refl)
-
-pub has-minus-other : (w k j : ℕ) → (k ≡ j → ⊥) → has (minus w k) j ≡ has w j
-has-minus-other w k j d = rw (has-minus w k j, ne-eqb k j d)
 
 -- keys below n stay below n
 pub plus-small : (n w k : ℕ) → k < n → w < 2 ^ n → plus w k < 2 ^ n
@@ -111,10 +110,6 @@ minus-small n w k h = cond-cases (λ (v : ℕ). v < 2 ^ n) (has w k) (λ e. omeg
 pub minus-less : (w k : ℕ) → has w k ≡ true → minus w k < w
 unfolding minus
 minus-less w k e = rw e (omega (arith, enough k w e, pow-pos k))
-
--- a word has no key past its bound
-pub has-past : (n w k : ℕ) → w < 2 ^ n → n ≤ k → has w k ≡ false
-has-past n w k h l = is-false (has w k) (λ e. omega (arith, enough k w e, pow-mono l))
 
 pub has-nothing : (k : ℕ) → has 0 k ≡ false
 has-nothing zero = has-zero 0

@@ -113,16 +113,6 @@ module _ (test : ℕ → Bool) where
 
 -- tests that agree on the numbers below n
 module _ (f g : ℕ → Bool) where
-  pub some-ext : (n : ℕ) → ((k : ℕ) → k < n → f k ≡ g k) → someBelow f n ≡ someBelow g n
-  unfolding someBelow
-  some-ext zero h = refl
-  some-ext (suc n) h = rw (h n (omega arith), some-ext n (λ k l. h k (omega arith)))
-
-  pub every-ext : (n : ℕ) → ((k : ℕ) → k < n → f k ≡ g k) → every f n ≡ every g n
-  unfolding every
-  every-ext zero h = refl
-  every-ext (suc n) h = rw (h n (omega arith), every-ext n (λ k l. h k (omega arith)))
-
   pub howMany-ext : (n : ℕ) → ((k : ℕ) → k < n → f k ≡ g k) → howMany f n ≡ howMany g n
   unfolding howMany
   howMany-ext zero h = refl

@@ -65,10 +65,6 @@ pub and-fails : (a b : Bool) → (a && b) ≡ false → (a ≡ false) ⊎ (b ≡
 and-fails true b e = inr e
 and-fails false b e = inl refl
 
-pub not-or : (a b : Bool) → not (a || b) ≡ (not a && not b)
-not-or true b = refl
-not-or false b = refl
-
 pub not-and : (a b : Bool) → not (a && b) ≡ (not a || not b)
 not-and true b = refl
 not-and false b = refl
@@ -78,9 +74,6 @@ module _ {A : Type 0} where
   pub cond-true : (a : Bool) (x y : A) → a ≡ true → cond a x y ≡ x
   cond-true a x y e = rw e
 
-  pub cond-false : (a : Bool) (x y : A) → a ≡ false → cond a x y ≡ y
-  cond-false a x y e = rw e
-
   pub cond-same : (a : Bool) (x : A) → cond a x x ≡ x
   cond-same true x = refl
   cond-same false x = refl
@@ -89,10 +82,6 @@ module _ {A : Type 0} where
   pub cond-cases : (P : A → Type 0) (a : Bool) {x y : A} → (a ≡ true → P x) → (a ≡ false → P y) → P (cond a x y)
   cond-cases P true f g = f refl
   cond-cases P false f g = g refl
-
-  pub cond-into : {B : Type 0} (f : A → B) (a : Bool) (x y : A) → f (cond a x y) ≡ cond a (f x) (f y)
-  cond-into f true x y = refl
-  cond-into f false x y = refl
 
 -- tests of two numbers, as cases
 pub lt-or-le : (a b : ℕ) → (a < b) ⊎ (b ≤ a)

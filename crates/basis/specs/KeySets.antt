@@ -14,6 +14,10 @@ plus w k = cond (has w k) w (w + 2 ^ k)
 unfoldable pub minus : ℕ → ℕ → ℕ
 minus w k = cond (has w k) (w - 2 ^ k) w
 
+-- the set with k, if asked to
+unfoldable pub plusIf : ℕ → ℕ → Bool → ℕ
+plusIf w k on = cond on (plus w k) w
+
 -- the set with each key below n that passes
 unfoldable pub plusAll : (ℕ → Bool) → ℕ → ℕ → ℕ
 plusAll test n w = forEach (λ k v. cond (test k) (plus v k) v) n w

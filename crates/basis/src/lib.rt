@@ -8,7 +8,7 @@ ghost use Prim.Native.Nat.{ℕ, _+_, _^_, _<_};
 ghost use lib.ListN.{length};
 ghost use Rattle.basis.specs.Bytes.{u32At};
 ghost use Rattle.basis.specs.Read.{U16};
-ghost use Rattle.basis.specs.KeySets.{has as hasKey, plus as plusKey, minus as minusKey};
+ghost use Rattle.basis.specs.KeySets.{has as hasKey, plus as plusKey, plusIf, minus as minusKey};
 
 // A byte as a number that more bytes can be added to.
 fn wide(b: u8) -> usize
@@ -59,6 +59,14 @@ pub fn plus(keys: u32, key: usize) -> u32
     } else {
         keys + power(key)
     }
+}
+
+// The set with a key, if asked to.
+pub fn plus_if(keys: u32, key: usize, on: bool) -> u32
+    requires { ⌜ key < 32 ⌝ }
+    ensures { λ r. ⌜ r ≡ plusIf keys key on ⌝ }
+{
+    if on { plus(keys, key) } else { keys }
 }
 
 // The set without a key.

@@ -1,12 +1,12 @@
 -- Sets of agents for whom a guard is well defined, and for whom it holds.
 -- Assumes nothing.
 use Prim.Native.Nat.{ℕ}
-use mathlib.Core.Bool.{Bool, true, false, cond, not, _&&_, _||_, and-false, and-true, or-false}
+use mathlib.Core.Bool.{Bool, true, false, not, _&&_, _||_, and-false, and-true, or-false}
 use mathlib.Core.Path.{_≡_, refl, _∙_}
 use lib.Dec.{eqb}
 use borrow.Author.Tests.{eqb-true}
-use Rattle.basis.specs.KeySets.{has, plus, minus}
-use Rattle.basis.proofs.KeySets.{has-plus, has-plus-same, has-minus, has-nothing}
+use Rattle.basis.specs.KeySets.{has, plus, plusIf, minus}
+use Rattle.basis.proofs.KeySets.{has-plusIf, has-plus-same, has-minus, has-nothing}
 use Rattle.value.specs.declared.Truth.{Truth}
 use Rattle.value.specs.Truths.{truth, undefined}
 use Rattle.evaluation.specs.declared.AgentSets.{AgentSets}
@@ -40,19 +40,15 @@ made g none true p q is first second = is ∙ rw (first, second)
 made g none false p q is first second = is ∙ rw (first, second) none
 
 -- one agent more
-with-one : (f : ℕ → Bool) (w u n : ℕ) → has w n ≡ true → ((y : ℕ) → has u y ≡ (has (minus w n) y && f y)) → (y : ℕ) → has (cond (f n) (plus u n) u) y ≡ (has w y && f y)
-with-one f w u n first others y = rw (added (f n), others y, has-minus w n y) (by (eqb n y) refl)
+with-one : (f : ℕ → Bool) (w u n : ℕ) → has w n ≡ true → ((y : ℕ) → has u y ≡ (has (minus w n) y && f y)) → (y : ℕ) → has (plusIf u n (f n)) y ≡ (has w y && f y)
+with-one f w u n first others y = rw (has-plusIf u n (f n) y, others y, has-minus w n y) (by (eqb n y) refl)
   where
-    added : (b : Bool) → has (cond b (plus u n) u) y ≡ ((eqb n y && b) || has u y)
-    added true = rw (and-true (eqb n y)) (has-plus u n y)
-    added false = rw (and-false (eqb n y))
-
     by : (b : Bool) → eqb n y ≡ b → ((b && f n) || ((not b && has w y) && f y)) ≡ (has w y && f y)
     by true e = or-false (f n) ∙ rw (← eqb-true n y e, first)
     by false e = refl
 
 pub found-more : {w others d h : ℕ} (n : ℕ) {t : Truth} {f : ℕ → Truth} {r : AgentSets} → has w n ≡ true → others ≡ minus w n → t ≡ f n
-    → d ≡ cond (t .defined) (plus (r .defined) n) (r .defined) → h ≡ cond (t .holds) (plus (r .holding) n) (r .holding)
+    → d ≡ plusIf (r .defined) n (t .defined) → h ≡ plusIf (r .holding) n (t .holds)
     → Found others f r → Found w f (sets d h)
 found-more {w} n {f = f} {r} first e is defined holding others =
     let rest : Found (minus w n) f r = rw e at others in

@@ -1,10 +1,10 @@
 // What a guard comes to, by recursion on the falling node number, for many receivers at once; and links.
 ghost use mathlib.Core.Path.{_≡_};
-ghost use mathlib.Core.Bool.{cond, _&&_};
+ghost use mathlib.Core.Bool.{_&&_};
 ghost use Prim.Native.Nat.{ℕ, _<_, _≤_};
 ghost use lib.ListN.{length};
-ghost use Rattle.basis.specs.KeySets.{has as hasAgent, plus as plusAgent};
-ghost use Rattle.table.specs.Tables.{table, agentLimit};
+ghost use Rattle.basis.specs.KeySets.{has as hasAgent};
+ghost use Rattle.table.specs.Tables.{table};
 ghost use Rattle.table.specs.Sound.{Shaped};
 ghost use Rattle.state.specs.Evaluation.{holds as holdsOf, linkHolds};
 ghost use Rattle.state.specs.Walks.{truthBelow};
@@ -12,24 +12,13 @@ ghost use Rattle.evaluation.specs.Situated.{Situated, Placed, InTables};
 ghost use Rattle.evaluation.specs.Sets.{comparison, Found, Connects};
 use super::AgentSets;
 use super::values::value_below;
+use basis::plus_if;
 use table::Sizes;
 
 const NOBODY: AgentSets = AgentSets {
     defined: 0,
     holding: 0,
 };
-
-// The set with an agent, or as it is.
-pub fn plus_if(on: bool, agents: u32, agent: usize) -> u32
-    requires { ⌜ agent < agentLimit ⌝ }
-    ensures { λ r. ⌜ r ≡ cond on (plusAgent agents agent) agents ⌝ }
-{
-    if on {
-        basis::plus(agents, agent)
-    } else {
-        agents
-    }
-}
 
 // A comparison for each agent of a set.
 fn compare_all(
@@ -56,8 +45,8 @@ fn compare_all(
     let b = value_below(kinds, operands, state, sender, agent, nodes, q);
     let t = value::compare_values(kinds[node], a, b);
     AgentSets {
-        defined: plus_if(t.defined, found.defined, agent),
-        holding: plus_if(t.holds, found.holding, agent),
+        defined: plus_if(found.defined, agent, t.defined),
+        holding: plus_if(found.holding, agent, t.holds),
     }
 }
 

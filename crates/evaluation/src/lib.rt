@@ -5,7 +5,6 @@ mod values; // values.rt: the value of an expression
 
 pub use guards::holds;
 pub use guards::links_hold;
-pub use guards::plus_if;
 pub use reading::keys_read;
 pub use values::value_of;
 

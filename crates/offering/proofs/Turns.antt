@@ -9,7 +9,7 @@ use native.Mathlib.Numerals.{add-one}
 use lib.Dec.{eqb}
 use borrow.Author.Tests.{eqb-true, lt-ltb, le-ltb}
 use Rattle.basis.specs.Numbers.{forEach, howMany}
-use Rattle.basis.specs.KeySets.{has, plus, plusAll}
+use Rattle.basis.specs.KeySets.{has, plusIf, plusAll}
 use Rattle.basis.proofs.Numbers.{forEach-more, howMany-more, howMany-bound}
 use Rattle.basis.proofs.KeySets.{has-nothing, has-plusAll, plusAll-more}
 use Rattle.table.specs.Tables.{Table}
@@ -27,7 +27,8 @@ use Rattle.offering.specs.Passing.{Touched, Passed, responseIn, response
 
 -- a set of agents below n that pass: one agent more, and who is in it
 module _ (test : ℕ → Bool) (n : ℕ) {w : ℕ} (e : w ≡ plusAll test n 0) where
-  pub set-more : {u : ℕ} → u ≡ cond (test n) (plus w n) w → u ≡ plusAll test (n + 1) 0
+  pub set-more : {u : ℕ} → u ≡ plusIf w n (test n) → u ≡ plusAll test (n + 1) 0
+  unfolding plusIf
   set-more f = f ∙ rw e (sym (plusAll-more test n 0))
 
   in-set : (y : ℕ) → y < n → has w y ≡ test y

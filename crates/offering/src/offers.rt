@@ -5,8 +5,8 @@ use crate::responses::no_tally;
 use crate::responses::respond;
 use crate::responses::tally_of;
 use crate::responses::write_response;
+use basis::plus_if;
 use evaluation::links_hold;
-use evaluation::plus_if;
 use state::entry_of;
 use state::newer;
 use steps::Tally;
@@ -36,8 +36,8 @@ fn receivers(
     let mut other = 0;
     while other < agents {
         let theirs = entry_of(state, other, key);
-        takers = plus_if(counts & newer(mine, theirs), takers, other);
-        holders = plus_if(counts & confirming & newer(theirs, mine), holders, other);
+        takers = plus_if(takers, other, counts & newer(mine, theirs));
+        holders = plus_if(holders, other, counts & confirming & newer(theirs, mine));
         other += 1;
     }
     Receivers { takers, holders }

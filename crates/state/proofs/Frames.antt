@@ -11,7 +11,7 @@ use lib.ListN.{length, getD, set, take, drop, length-set, length-take, length-dr
 use lib.Seq.{set-out, getD-set-same, getD-set-other, ext-getD}
 use borrow.Author.Tests.{eqb-false, ne-eqb, ltb-true, ltb-false}
 use Rattle.basis.specs.KeySets.{has, plus, minus}
-use Rattle.basis.proofs.KeySets.{has-plus, has-minus, plus-small, minus-small}
+use Rattle.basis.proofs.KeySets.{has-plus, has-minus}
 use Rattle.basis.proofs.Lists.{getD-set, getD-part}
 use Rattle.basis.proofs.Tests.{not-both, lt-or-le, same-or-other}
 use Rattle.value.specs.declared.Value.the-variants.{Absent, Present}
@@ -113,14 +113,6 @@ module _ (z : KeySet) (a k : ℕ) (s : List ℕ) where
   unfolding dropKey
   drop-length = simp length-set
 
-  pub add-small : k < 32 → Words s → Words (addKey (placeAt (Waits z a)) k s)
-  unfolding addKey
-  add-small l small = set-small s (placeAt (Waits z a)) _ small (plus-small 32 (wordAt s (Waits z a)) k l (small (placeAt (Waits z a))))
-
-  pub drop-small : Words s → Words (dropKey (placeAt (Waits z a)) k s)
-  unfolding dropKey
-  drop-small small = set-small s (placeAt (Waits z a)) _ small (minus-small 32 (wordAt s (Waits z a)) k (small (placeAt (Waits z a))))
-
   pub add-other : (q : Place) → Inside q → same q (Waits z a) ≡ false → SameAt (addKey (placeAt (Waits z a)) k s) s q
   unfolding addKey
   add-other q h e = set-other s (Waits z a) _ tt q h e
@@ -165,17 +157,3 @@ module _ (s u : List ℕ) where
 
   pub term-same : (a : ℕ) → length s ≡ length u → SameAt s u (Length a) → ((i : ℕ) → i < residualWords → SameAt s u (Residual a i)) → termIn s a ≡ termIn u a
   term-same a e f h = ap₂ (λ (n : ℕ) (ws : List ℕ). termOf (take n ws)) f (residual-same a e h)
-
--- so values and terms stay where the clock or a set of keys changes, and terms where a pair does
-module _ (s : List ℕ) (p : Place) (v : ℕ) (inside : Inside p) (loose : settled p ≡ false) where
-  pub set-valueIn : (store : Store) (k : ℕ) → valueIn (set s (placeAt p) v) store k ≡ valueIn s store k
-  set-valueIn store k =
-      value-same (set s (placeAt p) v) s store k (λ l. set-settled s p v inside loose (Mark store k) l refl) (λ l. set-settled s p v inside loose (Word store k) l refl)
-
-  pub set-termIn : (a : ℕ) → termIn (set s (placeAt p) v) a ≡ termIn s a
-  set-termIn a =
-      term-same (set s (placeAt p) v) s a (length-set s (placeAt p) v) (set-settled s p v inside loose (Length a) tt refl) (λ i l. set-settled s p v inside loose (Residual a i) l refl)
-
-pub put-termIn : (store : Store) (k v m : ℕ) (s : List ℕ) → k < keyLimit → (a : ℕ) → termIn (put store k v m s) a ≡ termIn s a
-put-termIn store k v m s key a =
-    term-same (put store k v m s) s a (put-length store k v m s) (put-other store k v m s key (Length a) tt refl refl) (λ i l. put-other store k v m s key (Residual a i) l refl refl)

@@ -1,7 +1,7 @@
 -- What is left after an act: the residual's length and words are those of the new term, 0 comes after, and nothing else changes.
 -- Assumes nothing.
 use Prim.Native.Nat.{ℕ, _+_, _-_, _^_, _<_, _≤_}
-use mathlib.Core.Bool.{true, false}
+use mathlib.Core.Bool.{false}
 use mathlib.Core.Path.{_≡_, refl, sym, ap, _∙_}
 use mathlib.Core.List.{List, _++_, append-assoc}
 use native.Mathlib.Omega.{arith}
@@ -13,13 +13,12 @@ use Rattle.basis.proofs.Numbers.{forEach-same, forEach-at, forEach-keeps, forEa
 use Rattle.basis.proofs.Lists.{padded-length, padded-at, forEach-paste}
 use Rattle.term.specs.Terms.{Term, words}
 use Rattle.term.proofs.Words.{Low}
-use Rattle.state.specs.declared.Store.{Store}
-use Rattle.state.specs.Layout.{residualWords, residualAt, lengthAt, lengthOf, residualOf, termIn, valueIn}
-use Rattle.state.specs.WellFormed.{allZero, Words}
+use Rattle.state.specs.Layout.{residualWords, residualAt, lengthAt, lengthOf, termIn}
+use Rattle.state.specs.WellFormed.{Words}
 use Rattle.state.specs.Standing.{HasBlocks}
-use Rattle.state.proofs.Places.{Place, Mark, Word, Length, Residual, other-agent, Inside, same, place-fits}
-use Rattle.state.proofs.Frames.{wordAt, SameAt, value-same, term-same, set-small, set-other, set-here}
-use Rattle.state.proofs.Residuals.{residual-front, residual-rest, term-read}
+use Rattle.state.proofs.Places.{Place, Length, Residual, Inside, same, place-fits}
+use Rattle.state.proofs.Frames.{wordAt, SameAt, set-small, set-other, set-here}
+use Rattle.state.proofs.Residuals.{term-read}
 use Rattle.steps.specs.Acts.{leave}
 
 module _ (x : ℕ) (ws s : List ℕ) where
@@ -62,29 +61,10 @@ module _ (x : ℕ) (ws s : List ℕ) where
         (λ j m d u. set-other u (Residual x j) (getD ws j 0) m (Residual x i) l (rw (ne-eqb i j (λ e. d (sym e))))) s
         ∙ set-here (copied i) (Residual x i) (getD ws i 0) l (omega (arith, copied-length i, room)) there
 
-    module _ (short : length ws ≤ residualWords) where
-      pub leave-front : take (length ws) (residualOf (leave x ws s) x) ≡ ws
-      leave-front = residual-front (leave x ws s) x (omega (arith, leave-length, room)) there ws short leave-word
-
-      pub leave-rest : allZero (drop (length ws) (residualOf (leave x ws s) x)) ≡ true
-      leave-rest = residual-rest (leave x ws s) x (omega (arith, leave-length, room)) there ws short leave-word
-
 -- the term that is left
 pub leave-term : (x : ℕ) (T : Term) (s : List ℕ) → HasBlocks s → x < 32 → Low T → length (words T) ≤ residualWords → termIn (leave x (words T) s) x ≡ T
 leave-term x T s room there low short =
     term-read (leave x (words T) s) x (omega (arith, leave-length x (words T) s, room)) there T low short (leave-size x (words T) s room there) (leave-word x (words T) s room there)
-
--- values stay, and so do the terms of other agents
-module _ (x : ℕ) (ws s : List ℕ) where
-  pub leave-valueIn : (store : Store) (k : ℕ) → valueIn (leave x ws s) store k ≡ valueIn s store k
-  leave-valueIn store k =
-      value-same (leave x ws s) s store k (λ l. leave-other x ws s (Mark store k) l refl (λ j m. refl)) (λ l. leave-other x ws s (Word store k) l refl (λ j m. refl))
-
-  pub leave-termIn : (a : ℕ) → (a ≡ x → ⊥) → termIn (leave x ws s) a ≡ termIn s a
-  leave-termIn a d =
-      term-same (leave x ws s) s a (leave-length x ws s)
-      (leave-other x ws s (Length a) tt (other-agent (Length a) (Length x) d) (λ j m. refl))
-      (λ i l. leave-other x ws s (Residual a i) l refl (λ j m. other-agent (Residual a i) (Residual x j) d))
 
 -- THE SAME AS A PART of the state that becomes the words, with 0 after them
 pub leave-part : (x : ℕ) (ws s : List ℕ) → HasBlocks s → x < 32 → length ws ≤ residualWords

@@ -1,7 +1,7 @@
 -- What stands where after an offer: each agent is as its own offer leaves it, and nothing else changes.
 -- Assumes nothing.
 use Prim.Native.Nat.{ℕ, _<_, _≤_}
-use mathlib.Core.Bool.{Bool, true, false, cond, not, _&&_, _||_, and-true, and-false}
+use mathlib.Core.Bool.{Bool, true, false, cond, _&&_, _||_, and-true, and-false}
 use mathlib.Core.Path.{_≡_, refl, sym, ap, ap₂, _∙_}
 use mathlib.Core.Logic.{⊎-elim}
 use mathlib.Core.List.{List}
@@ -10,13 +10,13 @@ use lib.Dec.{eqb}
 use lib.ListN.{length}
 use borrow.Author.Tests.{eq-eqb}
 use Rattle.basis.specs.KeySets.{has, plus, minus}
-use Rattle.basis.proofs.KeySets.{has-plus, has-minus}
+use Rattle.basis.proofs.KeySets.{has-plus}
 use Rattle.basis.proofs.Numbers.{forEach-same, forEach-at}
 use Rattle.basis.proofs.Tests.{same-or-other}
 use Rattle.table.specs.Tables.{Table}
 use Rattle.state.specs.declared.Store.the-variants.{Entries}
 use Rattle.state.specs.declared.Entry.{Entry}
-use Rattle.state.specs.Layout.{keyLimit, zcAt, wordOf, stampOf, zcOf, zpOf, dropKey}
+use Rattle.state.specs.Layout.{keyLimit, zcAt, wordOf, stampOf, zpOf, dropKey}
 use Rattle.state.specs.Entries.{entryOf, putEntry}
 use Rattle.state.specs.Standing.{HasBlocks}
 use Rattle.state.proofs.Places.{Place, Zc, Zp, Mark, Word, Waits, Inside, placeKind, placeAgent, same, else-agent}
@@ -191,12 +191,4 @@ module _ (t : Table) (was : List ℕ) (x k : ℕ) (counts confirming : Bool) whe
             by : (a b : Bool) → has (answer a b (Waits Zp y)) j ≡ (((a || b) && eqb k j) || has (zpOf was y) j)
             by true b = rw (eq-eqb y y refl) (has-plus (zpOf was y) k j)
             by false true = rw (eq-eqb y y refl) (has-plus (zpOf was y) k j)
-            by false false = refl
-
-        pub offered-zc : (j : ℕ) → has (zcOf (offered t was x k counts confirming agents) y) j ≡ (not (takes t was x k counts y && eqb k j) && has (zcOf was y) j)
-        offered-zc j = ap (λ (w : ℕ). has w j) (offered-answer (Waits Zc y) tt refl) ∙ by T N
-          where
-            by : (a b : Bool) → has (answer a b (Waits Zc y)) j ≡ (not (a && eqb k j) && has (zcOf was y) j)
-            by true b = rw (eq-eqb y y refl) (has-minus (zcOf was y) k j)
-            by false true = refl
             by false false = refl

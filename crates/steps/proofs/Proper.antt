@@ -105,6 +105,3 @@ module _ (bytes : List ℕ) (narrow : (i : ℕ) → getD bytes i 0 < 256) (was :
 
   pub step-checked : (kind x number : ℕ) → ProperFacts (tableOf bytes) (stepIn (tableOf bytes) was kind x number .state)
   step-checked = step-proper table (checks-accepted .table .sound) operands-narrow was checks-proper
-
-  pub step-passes : (kind x number : ℕ) → firstOf (stateChecks bytes (stepIn (tableOf bytes) was kind x number .state) scratch) ≡ passes
-  step-passes kind x number = proper-passes bytes (isWhole was) scratch checks-accepted (stepIn table was kind x number .state) (step-checked kind x number)

@@ -7,4 +7,5 @@ pub mod Promises
 pub mod Marking
 pub mod Naming
 pub mod Spreading
+pub mod Rising
 pub mod Examples

@@ -11,14 +11,14 @@ use lib.Seq.{getD-set-same, getD-set-other}
 use borrow.Author.Count.{below-more}
 use borrow.Author.Tests.{eqb-true, eqb-false}
 use Rattle.basis.specs.KeySets.{has}
-use Rattle.basis.proofs.KeySets.{has-plus, has-nothing}
+use Rattle.basis.proofs.KeySets.{has-plusIf, has-nothing}
 use Rattle.basis.proofs.Tests.{and-right}
 use Rattle.table.specs.declared.Fields.{Fields}
 use Rattle.table.specs.declared.Look.{Look}
 use Rattle.table.specs.Tables.{Table, pAt, qAt}
 use Rattle.table.specs.Nodes.{fieldsAt, isNode, fits, fitting, leftNode, rightNode, names}
 use Rattle.table.specs.Reach.{processNode, linkRoot}
-use Rattle.table.specs.Marks.{namedBit, plusIf, firstWord, marking, isMarked, changed, Shows, Shown, Mark, TwoMarks, Looked}
+use Rattle.table.specs.Marks.{leftBit, rightBit, processBit, linkBit, firstWord, marking, isMarked, changed, Shows, Shown, Mark, TwoMarks, Looked}
 use Rattle.table.proofs.Operands.{left-lower, right-lower}
 
 pub changed-off : (change : ℕ → ℕ) (words : List ℕ) (on : Bool) (x : ℕ) → on ≡ false → words ≡ changed change words on x
@@ -59,12 +59,6 @@ module _ (change : ℕ → ℕ) (j : ℕ) (d : Bool) (gives : (w : ℕ) → has 
       by true e = rw (← eqb-true x m e, and-true d, getD-set-same words x new 0 (l refl)) (gives (getD words x 0))
       by false e = rw (and-false d, getD-set-other words x m new 0 (λ (g : m ≡ x). eqb-false x m e (sym g)))
 
--- a word with a bit more
-pub has-plusIf : (w bit : ℕ) (on : Bool) (j : ℕ) → has (plusIf w bit on) j ≡ ((eqb bit j && on) || has w j)
-unfolding plusIf
-has-plusIf w bit true j = rw (and-true (eqb bit j)) (has-plus w bit j)
-has-plusIf w bit false j = rw (and-false (eqb bit j))
-
 -- one word more shows one node more
 pub shows-next : (words : List ℕ) (bit i w : ℕ) (test : ℕ → Bool) → i < length words → Shows words bit i test → has w bit ≡ test i
     → Shows (set words i w) bit (i + 1) test
@@ -82,19 +76,48 @@ marking-test true true l r e f v = by (l && e) (r && f)
     by true y = or-true y
     by false y = refl
 
-pub first-named : (l r p k : Bool) → has (firstWord l r p k) namedBit ≡ false
-first-named l r p k = simp (has-plusIf, has-nothing)
+-- the bits of a word before anything is handed on
+module _ (left right process link : Bool) where
+  abbrev first : ℕ
+  first = firstWord left right process link
+
+  pub first-left : has first leftBit ≡ left
+  first-left = simp (has-plusIf, has-nothing) (or-false left)
+
+  pub first-right : has first rightBit ≡ right
+  first-right = simp (has-plusIf, has-nothing) (or-false right)
+
+  pub first-process : has first processBit ≡ process
+  first-process = simp (has-plusIf, has-nothing) (or-false process)
+
+  pub first-link : has first linkBit ≡ link
+  first-link = simp (has-plusIf, has-nothing) (or-false link)
 
 module _ (t : Table) where
+  pub shown-none : (words : List ℕ) → Shown t words 0
+  shown-none words = record { left = λ m h. absurd (omega arith); right = λ m h. absurd (omega arith); process = λ m h. absurd (omega arith); link = λ m h. absurd (omega arith) }
+
   pub shown-next : (words : List ℕ) (i : ℕ) {w : ℕ} → i < length words → Shown t words i
       → w ≡ firstWord (leftNode t i) (rightNode t i) (processNode t i) (linkRoot t i) → Shown t (set words i w) (i + 1)
   shown-next words i l s d =
       record {
-        left = shows-next words _ i _ _ l (s .left) (rw d (simp (has-plusIf, has-nothing, or-false)));
-        right = shows-next words _ i _ _ l (s .right) (rw d (simp (has-plusIf, has-nothing, or-false)));
-        process = shows-next words _ i _ _ l (s .process) (rw d (simp (has-plusIf, has-nothing) (or-false (processNode t i))));
-        link = shows-next words _ i _ _ l (s .link) (rw d (simp (has-plusIf, has-nothing) (or-false (linkRoot t i))));
+        left = shows-next words _ i _ _ l (s .left) (rw d (first-left L R P K));
+        right = shows-next words _ i _ _ l (s .right) (rw d (first-right L R P K));
+        process = shows-next words _ i _ _ l (s .process) (rw d (first-process L R P K));
+        link = shows-next words _ i _ _ l (s .link) (rw d (first-link L R P K));
       }
+    where
+      L : Bool
+      L = leftNode t i
+
+      R : Bool
+      R = rightNode t i
+
+      P : Bool
+      P = processNode t i
+
+      K : Bool
+      K = linkRoot t i
 
   pub looked : {n : ℕ} {f : Fields} {p q : ℕ} {a b l r : Bool}
       → f ≡ fieldsAt t n → p ≡ pAt t n → q ≡ qAt t n → a ≡ fits t n (f .p) p → b ≡ fits t n (f .q) q → l ≡ isNode (f .p) → r ≡ isNode (f .q)

@@ -15,7 +15,6 @@ use Rattle.basis.proofs.Tests.{not-both, and-left, and-right, and-both, and-fai
 use Rattle.table.specs.declared.Field.{Field}
 use Rattle.table.specs.declared.Field.the-variants.{Never, Zero, Process, Guard}
 use Rattle.table.specs.declared.Fields.{Fields}
-use Rattle.table.specs.Checks.{passes, refuseAt}
 use Rattle.table.specs.Tables.{Table, sizesOf, withinLimits, tableOf, kindAt, pAt, qAt, firstRoot, firstLinkRoot, firstAgentRoot, bodyAt, linkAt, startAt}
 use Rattle.table.specs.Nodes.{processRows, guardRows, expressionRows, rowOf, fields, fieldsOf, fieldsHere, fieldsAt, rootNames, isProcess, isGuard, isExpression, inner, fitting, leftNode, rightNode, names, named, namesAgain, badNode}
 use Rattle.table.specs.Sound.{LowerProcess, LowerGuard, LowerExpression}

@@ -63,10 +63,10 @@ module _ (t : Table) (good : (k : ℕ) → k < t .sizes .nodes → fitting t k �
       ∙ or-right (eqb n m) ((L n && to (P n) m) || (R n && to (Q n) m)) (or-right (L n && to (P n) m) (R n && to (Q n) m) (and-both (R n) (to (Q n) m) r e))
 
   -- the ways to reach a node
-  abbrev ByLeft : ℕ → ℕ → Type 0
+  abbrev pub ByLeft : ℕ → ℕ → Type 0
   ByLeft n m = (L n ≡ true) × (to (P n) m ≡ true)
 
-  abbrev ByRight : ℕ → ℕ → Type 0
+  abbrev pub ByRight : ℕ → ℕ → Type 0
   ByRight n m = (R n ≡ true) × (to (Q n) m ≡ true)
 
   pub reaches-how : (n m : ℕ) → n < N → to n m ≡ true → (n ≡ m) ⊎ (ByLeft n m ⊎ ByRight n m)

@@ -2,7 +2,7 @@
 -- Assumes nothing.
 use Prim.Native.Nat.{ℕ, suc, _+_, _<_, _≤_}
 use mathlib.Core.Bool.{Bool, true, false, cond, _&&_, _||_}
-use mathlib.Core.Path.{_≡_, refl, sym, ap, _∙_}
+use mathlib.Core.Path.{_≡_, refl, sym, _∙_}
 use mathlib.Core.Logic.{⊎-elim}
 use mathlib.Core.List.{List}
 use native.Mathlib.Omega.{arith}
@@ -10,7 +10,7 @@ use native.Mathlib.Numerals.{add-one}
 use lib.ListN.{length}
 use Rattle.basis.specs.KeySets.{has}
 use Rattle.basis.specs.Numbers.{someBelow, lowest}
-use Rattle.basis.proofs.KeySets.{has-plus}
+use Rattle.basis.proofs.KeySets.{has-plus, has-plusIf}
 use Rattle.basis.proofs.Numbers.{some-not, lowest-none}
 use Rattle.basis.proofs.Tests.{same-test, and-left, and-right, and-both, or-either, or-left, or-right, same-or-other}
 use Rattle.table.specs.Tables.{Table, kindAt, pAt, qAt}
@@ -19,7 +19,7 @@ use Rattle.table.specs.Reach.{processNode, linkRoot, reachedFrom, wrongK
 use Rattle.table.specs.Marks.{leftBit, rightBit, processBit, linkBit, isMarked, marking, TwoMarks, Shows, Shown, Handed, Above, wrongHere}
 use Rattle.table.proofs.Operands.{names-lower}
 use Rattle.table.proofs.Reaches.{reached-start, reached-named, reached-how}
-use Rattle.table.proofs.Marking.{has-plusIf, twice-is}
+use Rattle.table.proofs.Marking.{twice-is}
 
 module _ (t : Table) (good : (k : ℕ) → k < t .sizes .nodes → fitting t k ≡ true) where
   abbrev N : ℕ

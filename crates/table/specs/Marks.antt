@@ -1,20 +1,23 @@
 -- Bits in lent words, a word for each node, as refusals 4 and 5 use them. And what is found of a node.
 use Prim.Native.Nat.{ℕ, _+_, _<_, _≤_}
 use mathlib.Core.Path.{_≡_}
-use mathlib.Core.Bool.{Bool, true, cond, not, _&&_, _||_}
+use mathlib.Core.Bool.{Bool, true, false, cond, not, _&&_, _||_}
 use mathlib.Core.List.{List}
+use lib.Bits.{bitAnd, bitOr}
 use lib.Dec.{leb, eqb}
 use lib.ListN.{length, getD, set}
-use Rattle.basis.specs.KeySets.{has, plus}
+use Rattle.basis.specs.KeySets.{has, plus, plusIf}
 use Rattle.basis.specs.Kinds as kind
 use Rattle.basis.specs.Numbers.{lowest}
 use Rattle.table.specs.declared.Look.{Look}
+use Rattle.table.specs.declared.Scan.{Scan}
 use Rattle.table.specs.Tables.{Table, pAt, qAt}
 use Rattle.table.specs.Nodes.{fitting, leftNode, rightNode, names, badNode}
 use Rattle.table.specs.Reach.{processNode, linkRoot, reachedFrom, wrongKey}
 use Rattle.table.specs.Sound.{Shaped}
 
--- the bits of a node's word: another node names it; its p, its q is a node; a process, a link reaches it
+-- the bits of a node's word: another node names it; its p, its q is a node; a process, a link reaches it; it reaches a
+-- key that a process, that a link must not reach
 abbrev pub namedBit : ℕ
 namedBit = 0
 
@@ -30,16 +33,41 @@ processBit = 3
 abbrev pub linkBit : ℕ
 linkBit = 4
 
--- a word with a bit, if asked to
-unfoldable pub plusIf : ℕ → ℕ → Bool → ℕ
-plusIf w bit on = cond on (plus w bit) w
+abbrev pub notProcessBit : ℕ
+notProcessBit = 5
 
--- the word of a node that nothing names yet
+abbrev pub notLinkBit : ℕ
+notLinkBit = 6
+
+-- the word of a node by which processes and links start to be handed on
 abbrev pub firstWord : Bool → Bool → Bool → Bool → ℕ
 firstWord left right process link = plusIf (plusIf (plusIf (plusIf 0 leftBit left) rightBit right) processBit process) linkBit link
 
 abbrev pub isMarked : List ℕ → ℕ → ℕ → Bool
 isMarked words bit x = has (getD words x 0) bit
+
+-- a node of this kind and party is wrong, by what reaches it
+abbrev pub wrongHere : ℕ → ℕ → Bool → Bool → Bool
+wrongHere k party process link =
+    (leb kind.attribute k && leb k kind.environment)
+    && ((process && not (eqb party 0))
+    || (link && (eqb k kind.environment || eqb party 0)))
+
+-- the bits that a node of this kind and party has by itself: of keys alone
+abbrev pub ownBits : ℕ → ℕ → ℕ
+ownBits k party = plusIf (plusIf 0 notProcessBit (wrongHere k party true false)) notLinkBit (wrongHere k party false true)
+
+-- the word of x, if asked for
+unfoldable pub wordIf : List ℕ → Bool → ℕ → ℕ
+wordIf words on x = cond on (getD words x 0) 0
+
+-- the bits that a node has from those that it names: 96 has the last two bits
+abbrev pub risen : List ℕ → Look → ℕ
+risen words l = bitAnd 96 (bitOr (wordIf words (l .left) (l .p)) (wordIf words (l .right) (l .q)))
+
+-- by its word, a node that is a process node, the root of a link, reaches what it must not
+abbrev pub doubted : Bool → Bool → ℕ → Bool
+doubted process link w = (process && has w notProcessBit) || (link && has w notLinkBit)
 
 -- the word of x is changed, if asked to
 unfoldable pub changed : (ℕ → ℕ) → List ℕ → Bool → ℕ → List ℕ
@@ -78,10 +106,10 @@ pub record Shown (t : Table) (words : List ℕ) (n : ℕ) : Type 0 where
   pub process : Shows words processBit n (processNode t)
   pub link : Shows words linkBit n (linkRoot t)
 
--- what looking for a bad node finds, and leaves where there is none
-pub record Bad (t : Table) (words : List ℕ) (r : ℕ) : Type 0 where
-  pub is : r ≡ lowest (badNode t) (t .sizes .nodes)
-  pub leaves : t .sizes .nodes ≤ r → Shown t words (t .sizes .nodes)
+-- what looking for a bad node finds; where there is none and it is not doubtful, no key is wrong
+pub record Bad (t : Table) (r : Scan) : Type 0 where
+  pub is : r .bad ≡ lowest (badNode t) (t .sizes .nodes)
+  pub sure : t .sizes .nodes ≤ r .bad → r .doubtful ≡ false → (k : ℕ) → k < t .sizes .nodes → wrongKey t k ≡ false
 
 -- the nodes from i up have handed on a bit: only reached nodes have it, all starts, and what the reached of those name
 pub record Handed (t : Table) (words : List ℕ) (bit : ℕ) (start : ℕ → Bool) (i : ℕ) : Type 0 where
@@ -95,13 +123,6 @@ pub record Above (t : Table) (words : List ℕ) (i : ℕ) : Type 0 where
   pub right : Shows words rightBit (t .sizes .nodes) (rightNode t)
   pub process : Handed t words processBit (processNode t) i
   pub link : Handed t words linkBit (linkRoot t) i
-
--- a node of this kind and party is wrong, by what reaches it
-abbrev pub wrongHere : ℕ → ℕ → Bool → Bool → Bool
-wrongHere k party process link =
-    (leb kind.attribute k && leb k kind.environment)
-    && ((process && not (eqb party 0))
-    || (link && (eqb k kind.environment || eqb party 0)))
 
 -- node i is next: what visiting it asks, and does
 pub record Descends (t : Table) (words : List ℕ) (i : ℕ) : Type 0 where

@@ -4,26 +4,35 @@ ghost use lib.ListN.{length};
 ghost use Rattle.table.specs.Tables.{table};
 ghost use Rattle.table.specs.Sound.{Shaped};
 ghost use Rattle.table.specs.Marks.{Bad};
+use super::Scan;
 use super::Sizes;
 use super::kinds::first_root;
-use super::marks::first_word;
+use super::kinds::is_process;
+use super::marks::is_doubted;
+use super::marks::is_link_root;
 use super::marks::mark_both;
+use super::marks::own_bits;
+use super::marks::rising;
 use super::nodes::look_at;
 
-// The lowest node with a bad kind or operand, and the number of nodes where there is none: then the words show which
-// fields are nodes, and which nodes are process nodes and roots of links.
-pub fn lowest_bad(sizes: Sizes, kinds: &[u8], operands: &[u8], scratch: &mut [u32]) -> usize
+// The lowest node with a bad kind or operand, and the number of nodes where there is none: then a key may be wrong only
+// where that is doubtful, since each node has been told what the nodes reach that it names.
+pub fn lowest_bad(sizes: Sizes, kinds: &[u8], operands: &[u8], scratch: &mut [u32]) -> Scan
     requires { ⌜ Shaped (table sizes (now kinds) (now operands)) × (sizes .nodes ≤ length (now scratch)) ⌝ }
-    ensures { λ r. ⌜ Bad (table sizes (now (kinds .entry)) (now (operands .entry))) (now (scratch .exit)) r ⌝ }
+    ensures { λ r. ⌜ Bad (table sizes (now (kinds .entry)) (now (operands .entry))) r ⌝ }
 {
     let first = first_root(sizes);
+    let mut doubtful = false;
     let mut i = 0;
     while i < sizes.nodes {
         let look = look_at(sizes, kinds, operands, i);
         if !look.fitting {
-            return i;
+            return Scan { bad: i, doubtful };
         }
-        scratch[i] = first_word(sizes, kinds[i], i, look.left, look.right);
+        let kind = kinds[i];
+        let word = own_bits(kind, look.q) | rising(scratch, look);
+        scratch[i] = word;
+        doubtful = doubtful | is_doubted(is_process(kind), is_link_root(sizes, i), word);
         let inner = i < first;
         if mark_both(
             scratch,
@@ -34,9 +43,10 @@ pub fn lowest_bad(sizes: Sizes, kinds: &[u8], operands: &[u8], scratch: &mut [u3
             false,
             false,
         ) {
-            return i;
+            return Scan { bad: i, doubtful };
         }
         i += 1;
     }
-    sizes.nodes
+    let bad = sizes.nodes;
+    Scan { bad, doubtful }
 }

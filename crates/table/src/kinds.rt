@@ -3,7 +3,7 @@ ghost use mathlib.Core.Path.{_≡_};
 ghost use mathlib.Core.List.{List};
 ghost use Prim.Native.Nat.{ℕ, _-_};
 ghost use Rattle.table.specs.Tables.{table, rootsOf};
-ghost use Rattle.table.specs.Nodes.{isProcess, isGuard, isExpression, processRows, guardRows, expressionRows, rowOf, fields, fieldsOf, rootNames, fieldsHere};
+ghost use Rattle.table.specs.Nodes.{isProcess, isGuard, processRows, guardRows, expressionRows, rowOf, fields, fieldsOf, rootNames, fieldsHere};
 ghost use Rattle.table.specs.Sound.{Limits};
 use super::Field;
 use super::Fields;
@@ -19,12 +19,6 @@ pub fn is_guard(kind: u8) -> bool
     ensures { λ r. ⌜ r ≡ isGuard kind ⌝ }
 {
     (basis::kinds::TRUE <= kind) & (kind <= basis::kinds::OR)
-}
-
-pub fn is_expression(kind: u8) -> bool
-    ensures { λ r. ⌜ r ≡ isExpression kind ⌝ }
-{
-    (basis::kinds::CONSTANT <= kind) & (kind <= basis::kinds::REMAINDER)
 }
 
 const NOTHING: Fields = Fields {

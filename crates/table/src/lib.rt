@@ -14,7 +14,6 @@ pub use header::KEYS;
 pub use header::measure;
 pub use kinds::fields_here;
 pub use kinds::first_root;
-pub use kinds::is_expression;
 pub use kinds::is_guard;
 pub use kinds::is_process;
 pub use nodes::is_node;
@@ -58,6 +57,12 @@ pub enum Field {
 pub struct Fields {
     pub p: Field,
     pub q: Field,
+}
+
+// What the first pass over the nodes finds: the lowest bad one, and whether some key may be wrong.
+pub struct Scan {
+    pub bad: usize,
+    pub doubtful: bool,
 }
 
 // What is found of a node: whether its fields fit, whether p and q are nodes, p and q.

@@ -1,8 +1,10 @@
 // Refusal 5: the nodes in descending order, which hand on to those that they name what reaches them.
 ghost use mathlib.Core.Path.{_≡_};
-ghost use mathlib.Core.Bool.{false, cond};
+ghost use mathlib.Core.Bool.{false, cond, _&&_};
 ghost use Prim.Native.Nat.{ℕ, _<_, _≤_};
+ghost use lib.Dec.{leb};
 ghost use lib.ListN.{length};
+ghost use Rattle.basis.specs.Kinds as keys;
 ghost use Rattle.basis.specs.Numbers.{lowest};
 ghost use Rattle.table.specs.Tables.{table};
 ghost use Rattle.table.specs.Nodes.{badNode};
@@ -14,17 +16,25 @@ use super::marks::LEFT;
 use super::marks::LINK;
 use super::marks::PROCESS;
 use super::marks::RIGHT;
+use super::marks::first_word;
 use super::marks::mark_both;
+use super::nodes::look_at;
 use super::reading::p_at;
 use super::reading::q_at;
 use basis::has;
 
+// Whether a kind is that of a key.
+pub fn is_key(kind: u8) -> bool
+    ensures { λ r. ⌜ r ≡ (leb keys.attribute kind && leb kind keys.environment) ⌝ }
+{
+    (basis::kinds::ATTRIBUTE <= kind) & (kind <= basis::kinds::ENVIRONMENT)
+}
+
 // Whether a node of this kind and party is wrong, by whether a process and whether a link reaches it.
-fn wrong_here(kind: u8, party: usize, process: bool, link: bool) -> bool
+pub fn wrong_here(kind: u8, party: usize, process: bool, link: bool) -> bool
     ensures { λ r. ⌜ r ≡ wrongHere kind party process link ⌝ }
 {
-    (basis::kinds::ATTRIBUTE <= kind)
-        & (kind <= basis::kinds::ENVIRONMENT)
+    is_key(kind)
         & ((process & (party != 0)) | (link & ((kind == basis::kinds::ENVIRONMENT) | (party == 0))))
 }
 
@@ -57,9 +67,22 @@ fn visit(
     choose(wrong_here(kinds[node], q, process, link), node, lowest)
 }
 
-// The lowest key node with a wrong party, or with an environment key that a link reaches, and the number of nodes where
-// there is none. No node of the table is bad, and the words are as `lowest_bad` leaves them.
-pub fn lowest_wrong(sizes: Sizes, kinds: &[u8], operands: &[u8], scratch: &mut [u32]) -> usize
+// The words show which fields are nodes, and where processes and links start.
+fn show_starts(sizes: Sizes, kinds: &[u8], operands: &[u8], scratch: &mut [u32])
+    requires { ⌜ Shaped (table sizes (now kinds) (now operands)) × (sizes .nodes ≤ length (now scratch)) ⌝ }
+    ensures { λ _. ⌜ Shown (table sizes (now (kinds .entry)) (now (operands .entry))) (now (scratch .exit)) (sizes .nodes) ⌝ }
+{
+    let mut i = 0;
+    while i < sizes.nodes {
+        let look = look_at(sizes, kinds, operands, i);
+        let word = first_word(sizes, kinds[i], i, look.left, look.right);
+        scratch[i] = word;
+        i += 1;
+    }
+}
+
+// The lowest wrong key node, and the number of nodes where there is none.
+fn descend(sizes: Sizes, kinds: &[u8], operands: &[u8], scratch: &mut [u32]) -> usize
     requires { ⌜ Shaped (table sizes (now kinds) (now operands))
         × (sizes .nodes ≤ length (now scratch))
         × ((k : ℕ) → k < sizes .nodes → badNode (table sizes (now kinds) (now operands)) k ≡ false)
@@ -73,4 +96,26 @@ pub fn lowest_wrong(sizes: Sizes, kinds: &[u8], operands: &[u8], scratch: &mut [
         lowest = visit(sizes, kinds, operands, scratch, i, lowest);
     }
     lowest
+}
+
+// The lowest key node with a wrong party, or with an environment key that a link reaches, and the number of nodes where
+// there is none. No node of the table is bad. Where it is not doubtful whether there is one, there is none.
+pub fn lowest_wrong(
+    sizes: Sizes,
+    kinds: &[u8],
+    operands: &[u8],
+    scratch: &mut [u32],
+    doubtful: bool,
+) -> usize
+    requires { ⌜ Shaped (table sizes (now kinds) (now operands))
+        × (sizes .nodes ≤ length (now scratch))
+        × ((k : ℕ) → k < sizes .nodes → badNode (table sizes (now kinds) (now operands)) k ≡ false)
+        × (doubtful ≡ false → (k : ℕ) → k < sizes .nodes → wrongKey (table sizes (now kinds) (now operands)) k ≡ false) ⌝ }
+    ensures { λ r. ⌜ r ≡ lowest (wrongKey (table sizes (now (kinds .entry)) (now (operands .entry)))) (sizes .nodes) ⌝ }
+{
+    if !doubtful {
+        return sizes.nodes;
+    }
+    show_starts(sizes, kinds, operands, scratch);
+    descend(sizes, kinds, operands, scratch)
 }

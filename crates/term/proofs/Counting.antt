@@ -3,22 +3,19 @@
 use Prim.Native.Nat.{ℕ, zero, suc, _+_, _*_, _<_, _≤_, zero-le}
 use mathlib.Core.Bool.{Bool, true, false, not, _&&_, _||_}
 use mathlib.Core.Logic.{_↔_}
-use mathlib.Core.Option.{none, some}
 use mathlib.Core.Path.{_≡_, refl, sym, ap, ap₂, _∙_, fun-ext}
 use mathlib.Core.List.{List, [], _∷_, _++_, map}
 use native.Mathlib.Nat.{zero-add, zero-mul, mul-zero}
 use native.Mathlib.Omega.{arith}
 use lib.Dec.{ltb, leb}
-use lib.ListN.{length, getD, getElem?, length-append, length-map}
+use lib.ListN.{length, getElem?, length-append, length-map}
 use borrow.Author.Tests.{lt-ltb, ltb-true, ltb-false}
-use Rattle.basis.proofs.Lists.{nth-in, nth-past}
 use Rattle.term.specs.declared.Label.{Label}
-use Rattle.term.specs.declared.Label.the-variants.{Ticking}
 use Rattle.term.specs.declared.Mode.{Mode}
 use Rattle.term.specs.declared.Mode.the-variants.{Any, Actions, Ticks}
-use Rattle.term.specs.Terms.{Term, Idle}
+use Rattle.term.specs.Terms.{Term}
 use Rattle.term.specs.Processes.{Process, idle, tick, act, choice, guarded, call, seq, par}
-use Rattle.term.specs.Processes.{Derivation, derivation, derivations, few, keep, isTick, isAction, labelTicks}
+use Rattle.term.specs.Processes.{Derivation, derivations, few, keep, isTick, isAction, labelTicks}
 use Rattle.term.specs.Processes.{under, before, besideRight, besideLeft, join, joins}
 use Rattle.term.specs.Choices.{tickCount, actionCount, wanted, derivationsIn, countIn, actionsOf, mapped, split, pairs, select}
 use Rattle.term.specs.Exposure.{canTick}
@@ -261,15 +258,6 @@ select-choices (par P p Q q) m =
 -- choice c is derivation c
 pub select-any : (P : Process) (c : ℕ) → select Any P c ≡ getElem? (derivations P) c
 select-any P c = rw (select-choices P Any, choices-any)
-
--- there is a choice for each number below the count, and no other
-pub select-some : (P : Process) (m : Mode) (c : ℕ) → c < countIn m P → (d : Derivation) × (select m P c ≡ some d)
-select-some P m c h =
-    let x : Derivation = derivation Ticking [] Idle in
-    (getD (derivationsIn m P) c x, rw (select-choices P m) (nth-in (derivationsIn m P) c x (rw (length-choices P m) h)))
-
-pub select-none : (P : Process) (m : Mode) (c : ℕ) → countIn m P ≤ c → select m P c ≡ none
-select-none P m c h = rw (select-choices P m) (nth-past (derivationsIn m P) c (rw (length-choices P m) h))
 
 -- A process can tick if it has a tick.
 

@@ -1,7 +1,7 @@
 -- The derivations of a term over a sound table's process nodes: what they leave is such a term again, their actions are at action
 -- nodes, and their guards at guard nodes.
 -- Assumes nothing.
-use Prim.Native.Nat.{ℕ, zero, suc, _<_, _≤_}
+use Prim.Native.Nat.{ℕ, zero, suc, _<_}
 use mathlib.Core.Bool.{Bool, true, false}
 use mathlib.Core.Path.{_≡_, refl}
 use mathlib.Core.List.{List, [], _∷_, _++_, map}
@@ -11,7 +11,7 @@ use Rattle.basis.specs.Below.{below}
 use Rattle.basis.proofs.Below.{below-induct}
 use Rattle.table.specs.Tables.{Table, kindAt, pAt, qAt, firstRoot, bodyAt}
 use Rattle.table.specs.Sound.{Sound}
-use Rattle.table.specs.Sound.{LowerProcess, LowerGuard}
+use Rattle.table.specs.Sound.{LowerProcess}
 use Rattle.table.proofs.Promises.{sequence-operands, guarded-operands, parallel-operands}
 use Rattle.term.specs.Terms.{Term, Seq, Par, Tick, Idle, Node}
 use Rattle.term.specs.Accepted.{Over}

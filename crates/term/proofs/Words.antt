@@ -4,7 +4,7 @@ use Prim.Native.Nat.{ℕ, zero, suc, _<_, _≤_}
 use mathlib.Core.Bool.{Bool, true, false, cond, _&&_, _||_}
 use mathlib.Core.Logic.{_↔_, ⊎-elim}
 use mathlib.Core.Path.{_≡_, refl, sym, ap, ap₂, _∙_}
-use mathlib.Core.List.{List, [], _∷_, _++_, append-assoc, append-nil, append-cancel-left, head-eq-of-cons-eq}
+use mathlib.Core.List.{List, [], _∷_, _++_, append-assoc, append-nil}
 use native.Mathlib.Omega.{arith}
 use lib.Dec.{eqb, ltb}
 use lib.ListN.{length, getD}
@@ -79,15 +79,6 @@ termsOf-words (Node n) ws l = fronted-node n (termsOf ws) l
 
 pub termOf-words : (T : Term) → Low T → termOf (words T) ≡ T
 termOf-words T l = ap (λ (ws : List ℕ). termOf ws) (sym (append-nil (words T))) ∙ ap (λ (ts : List Term). getD ts 0 Idle) (termsOf-words T [] l)
-
--- the term at the front of some words, and what stands after it
-pub words-front : (T U : Term) (vs ws : List ℕ) → Low T → Low U → words T ++ vs ≡ words U ++ ws → (T ≡ U) × (vs ≡ ws)
-words-front T U vs ws l m e =
-    let f : T ≡ U = head-eq-of-cons-eq (sym (termsOf-words T vs l) ∙ ap termsOf e ∙ termsOf-words U ws m) in
-    (f, append-cancel-left (words T) vs ws (e ∙ rw f))
-
-pub words-injective : (T U : Term) → Low T → Low U → words T ≡ words U → T ≡ U
-words-injective T U l m e = words-front T U [] [] l m (ap (λ (ws : List ℕ). ws ++ []) e) .0
 
 -- Whole terms.
 

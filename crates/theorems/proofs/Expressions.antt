@@ -220,9 +220,6 @@ module _ (t : Table) (s : List ℕ) (narrow : Narrow t s) (x y : ℕ) where
           (cond-both R (eqb (kindAt t k) 21) (agrees-conjunction know (l p) (m p) (h p) (l q) (m q) (h q))
           (cond-both R (eqb (kindAt t k) 22) (agrees-disjunction know (l p) (m p) (h p) (l q) (m q) (h q)) none))))
 
-  pub guard-defined : (n : ℕ) → (truthBelow t s x y (t .sizes .nodes) n .defined ≡ true) ↔ (know ⊢ guardOf t n)
-  guard-defined n = guard-agrees n .0
-
   pub guard-holds : (n : ℕ) → (holds t s x y n ≡ true) ↔ (know ⊨ guardOf t n)
   guard-holds n = guard-agrees n .1
 

@@ -20,10 +20,10 @@ tableAt a = table (a .args .sizes) (now (a .args .kinds)) (now (a .args .operand
 
 -- 4 has passed; and 5
 abbrev start : tie.Else1 → tie.Start
-start c = c .before .before .before .before .before .before .before .before .before
+start c = c .before .before .before .before .before .before .before .before .before .before
 
 fine : (c : tie.Else1) → (k : ℕ) → k < start c .args .sizes .nodes → badNode (tableAt (start c)) k ≡ false
-fine c = none-at 4 (start c .args .sizes .nodes) (badNode (tableAt (start c))) (c .before .before .before .before .lowest-bad .ensures .is) (c .if1 .left)
+fine c = none-at 4 (start c .args .sizes .nodes) (badNode (tableAt (start c))) (c .before .before .before .before .before .lowest-bad .ensures .is) (c .if1 .left)
 
 abbrev first : tie.Else2 → tie.Else1
 first c = c .before .before .before .before .before .before
@@ -38,7 +38,7 @@ sound c =
     }
 
 four : (c : tie.Else1) → ltb (lowest (badNode (tableAt (start c))) (start c .args .sizes .nodes)) (start c .args .sizes .nodes) ≡ false
-four c = passes-at 4 (start c .args .sizes .nodes) (badNode (tableAt (start c))) (c .before .before .before .before .lowest-bad .ensures .is) (c .if1 .left)
+four c = passes-at 4 (start c .args .sizes .nodes) (badNode (tableAt (start c))) (c .before .before .before .before .before .lowest-bad .ensures .is) (c .if1 .left)
 
 lowest-bad-requires : tie.Need-lowest-bad-requires
 lowest-bad-requires c κs =
@@ -46,16 +46,19 @@ lowest-bad-requires c κs =
     (a .pre .0, omega arith)
 
 same-length : tie.Need-same-length
-same-length c = c .before .before .before .before .lowest-bad .kept .1 .1 .1 .0
+same-length c = c .before .before .before .before .before .lowest-bad .kept .1 .1 .1 .0
 
 returns : tie.Need-returns
-returns c = refuses-at 4 _ (badNode (tableAt (c .before .before .before .before .before .before .before .before .before))) (c .before .before .before .before .lowest-bad .ensures .is) (c .if1 .taken)
+returns c = refuses-at 4 _ (badNode (tableAt (c .before .before .before .before .before .before .before .before .before .before))) (c .before .before .before .before .before .lowest-bad .ensures .is) (c .if1 .taken)
 
 lowest-wrong-requires : tie.Need-lowest-wrong-requires
-lowest-wrong-requires c κs = (start (c .before) .pre .0, omega arith, fine (c .before), c .before .before .before .before .before .lowest-bad .ensures .leaves (c .before .if1 .left))
+lowest-wrong-requires c κs =
+    let b = c .before .before .before .before .before .before .lowest-bad .ensures in
+    let h = c .before .if1 .left in
+    (start (c .before) .pre .0, omega arith, fine (c .before), b .sure h)
 
 same-length-2 : tie.Need-same-length-2
-same-length-2 c = c .before .before .before .before .lowest-wrong .kept .1 .1 .1 .0 ∙ c .before .before .before .before .before .before .before .before .before .before .lowest-bad .kept .1 .1 .1 .0
+same-length-2 c = c .before .before .before .before .lowest-wrong .kept .1 .1 .1 .0 ∙ c .before .before .before .before .before .before .before .before .before .before .before .lowest-bad .kept .1 .1 .1 .0
 
 returns-2 : tie.Need-returns-2
 returns-2 c =
@@ -66,7 +69,7 @@ judge-terms-requires : tie.Need-judge-terms-requires
 judge-terms-requires c κs = (sound (c .before), omega arith)
 
 same-length-3 : tie.Need-same-length-3
-same-length-3 c = c .before .before .judge-terms .kept .1 .1 .1 .0 ∙ c .before .before .before .before .before .before .before .before .lowest-wrong .kept .1 .1 .1 .0 ∙ c .before .before .before .before .before .before .before .before .before .before .before .before .before .before .lowest-bad .kept .1 .1 .1 .0
+same-length-3 c = c .before .before .judge-terms .kept .1 .1 .1 .0 ∙ c .before .before .before .before .before .before .before .before .lowest-wrong .kept .1 .1 .1 .0 ∙ c .before .before .before .before .before .before .before .before .before .before .before .before .before .before .before .lowest-bad .kept .1 .1 .1 .0
 
 returns-3 : tie.Need-returns-3
 returns-3 c =

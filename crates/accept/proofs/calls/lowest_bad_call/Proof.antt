@@ -3,6 +3,7 @@
 use Prim.Native.Nat.{ℕ, _+_, _-_, _<_}
 use mathlib.Core.Bool.{not}
 use mathlib.Core.Path.{_≡_, refl, sym, ap, subst, _∙_}
+use mathlib.Core.List.{List}
 use native.Mathlib.Omega.{arith}
 use denote.Ref.{now}
 use lib.ListN.{length}
@@ -19,10 +20,10 @@ use Rattle.accept.proofs.Cells.{held-start}
 use Rattle.accept.proofs.Levels.{held-next}
 
 abbrev Inv-loop : tie.InvT-loop
-Inv-loop sizes kinds operands scratch₀ roots d₀ scratch d = Held (table sizes kinds operands) d scratch × (length scratch ≡ length scratch₀)
+Inv-loop sizes kinds operands scratch₀ roots next₀ d₀ scratch next d = Held (table sizes kinds operands) d scratch × (length scratch ≡ length scratch₀)
 
 abbrev μ-loop : tie.MeasureT-loop
-μ-loop sizes kinds operands scratch₀ roots d₀ scratch d = sizes .definitions - d
+μ-loop sizes kinds operands scratch₀ roots next₀ d₀ scratch next d = sizes .definitions - d
 
 abbrev discarded : tie.At-loop Inv-loop μ-loop → tie.After-discard Inv-loop μ-loop
 discarded c = c .before .before .before
@@ -60,10 +61,24 @@ inner c = body-process (tableAt (loopAt c)) (start (loopAt c) .pre .0) (loopAt c
 
 -- the body is settled, or exposes a call that is not lower
 abbrev at : tie.After-settle Inv-loop μ-loop → tie.Then1 Inv-loop μ-loop
-at c = c .before .before .before
+at c = c .before .before .before .before .before .before .before
 
-settles : (c : tie.After-settle Inv-loop μ-loop) → Settles (tableAt (loopAt (at c))) (loopAt (at c) .loop .d) (bodyAt (tableAt (loopAt (at c))) (loopAt (at c) .loop .d)) (loopAt (at c) .loop .scratch) (c .settle .last .1 .1 .1 .0) (c .settle .result)
-settles c = subst (λ (n : ℕ). Settles (tableAt (loopAt (at c))) (loopAt (at c) .loop .d) n (loopAt (at c) .loop .scratch) (c .settle .last .1 .1 .1 .0) (c .settle .result)) (is-body (c .before .before)) (c .settle .ensures)
+-- the words after the nodes up to the body have been tried
+abbrev tried : tie.After-settle Inv-loop μ-loop → List ℕ
+tried c = c .before .before .before .before .count-up .last .1 .1 .1 .0
+
+settles : (c : tie.After-settle Inv-loop μ-loop) → Settles (tableAt (loopAt (at c))) (loopAt (at c) .loop .d) (bodyAt (tableAt (loopAt (at c))) (loopAt (at c) .loop .d)) (tried c) (c .settle .last .1 .1 .1 .0) (c .settle .result)
+settles c = subst (λ (n : ℕ). Settles (tableAt (loopAt (at c))) (loopAt (at c) .loop .d) n (tried c) (c .settle .last .1 .1 .1 .0) (c .settle .result)) (is-body (c .before .before .before .before .before .before)) (c .settle .ensures)
+
+long : (c : tie.After-settle Inv-loop μ-loop) → length (c .settle .last .1 .1 .1 .0) ≡ length (loopAt (at c) .loop .scratch)
+long c = c .settle .kept .1 .1 .1 .0 ∙ c .before .before .before .before .count-up .kept .1 .1 .1 .0
+
+-- the body as it was read is no root
+body-low : (c : tie.After-p-at Inv-loop μ-loop) → c .p-at .result < firstRoot (tableAt (loopAt (c .before)))
+body-low c =
+    let e = is-body c in
+    let w = inner (c .before) in
+    omega arith
 
 first-root-requires : tie.Need-first-root-requires Inv-loop μ-loop
 first-root-requires c κs = c .before .before .before .pre .0 .shaped .limits
@@ -86,17 +101,17 @@ add-p-at c = omega (arith, place c)
 p-at-requires : tie.Need-p-at-requires Inv-loop μ-loop
 p-at-requires c κs = omega (arith, place c, start (loopAt c) .pre .0 .shaped .operands)
 
+count-up-requires : tie.Need-count-up-requires Inv-loop μ-loop
+count-up-requires c κs = (loopAt (c .before .before) .loop .inv .0, body-low (c .before))
+
 settle-requires : tie.Need-settle-requires Inv-loop μ-loop
-settle-requires c κs =
-    let e = is-body (c .before) in
-    let w = inner (c .before .before) in
-    (loopAt (c .before .before) .loop .inv .0, omega arith)
+settle-requires c κs = (c .before .before .before .count-up .ensures, body-low (c .before .before .before .before .before))
 
 same-length : tie.Need-same-length Inv-loop μ-loop
 same-length c =
     let x = c .before .before .before in
     let l = loopAt (at x) in
-    x .settle .kept .1 .1 .1 .0 ∙ l .loop .inv .1 ∙ discarded l .discard .kept .0
+    long x ∙ l .loop .inv .1 ∙ discarded l .discard .kept .0
 
 returns : tie.Need-returns Inv-loop μ-loop
 returns c =
@@ -119,7 +134,7 @@ loop-again c =
     let x = c .before .before .before in
     let y = settles x in
     let e = y .counted (not-false (x .settle .result) (c .if2 .left)) in
-    (held-next (y .held) (turn (at x)) (ap not (y .held .nodes _ (inner (at x)) e .calls)) e, x .settle .kept .1 .1 .1 .0 ∙ loopAt (at x) .loop .inv .1)
+    (held-next (y .held) (turn (at x)) (ap not (y .held .nodes _ (inner (at x)) e .calls)) e, long x ∙ loopAt (at x) .loop .inv .1)
 
 same-length-2 : tie.Need-same-length-2 Inv-loop μ-loop
 same-length-2 c = c .before .before .loop .inv .1 ∙ discarded (c .before .before) .discard .kept .0
@@ -145,6 +160,7 @@ lowest-bad-call-spec =
     loop-holds
     add-p-at
     p-at-requires
+    count-up-requires
     settle-requires
     same-length
     returns

@@ -2,7 +2,7 @@
 -- Assumes nothing.
 use Prim.Native.Nat.{ℕ, _-_, _≤_, _<_}
 use mathlib.Core.Bool.{true, false}
-use mathlib.Core.Path.{_≡_, refl, _∙_}
+use mathlib.Core.Path.{_≡_, refl, sym, subst, _∙_}
 use native.Mathlib.Omega.{arith}
 use denote.Ref.{now}
 use lib.ListN.{length}
@@ -13,8 +13,8 @@ use Rattle.accept.specs.Counts.{Capped}
 use Rattle.accept.specs.Scratch.{isCounted, Held}
 use Rattle.accept.proofs.calls.lowest_overfull.Statement.{statement}
 use Rattle.accept.proofs.calls.lowest_overfull.Tie as tie
-use Rattle.accept.proofs.Cells.{node-room, held-small}
-use Rattle.accept.proofs.Fullness.{settled, overfull-yes, overfull-no, lowest-full, none-full}
+use Rattle.accept.proofs.Cells.{held-small}
+use Rattle.accept.proofs.Fullness.{overfull-yes, overfull-no, lowest-full, none-full}
 
 abbrev Inv-loop : tie.InvT-loop
 Inv-loop sizes kinds operands scratch₀ end n₀ scratch n =
@@ -30,8 +30,8 @@ start c = c .before .before .before .before .before
 abbrev tableAt : tie.At-loop Inv-loop μ-loop → Table
 tableAt c = table (start c .args .sizes) (now (start c .args .kinds)) (now (start c .args .operands))
 
--- a turn of the loop: the node is no root, and is settled
-abbrev loopAt : tie.After-settle Inv-loop μ-loop → tie.At-loop Inv-loop μ-loop
+-- a turn of the loop: the node is no root
+abbrev loopAt : tie.After-count-at Inv-loop μ-loop → tie.At-loop Inv-loop μ-loop
 loopAt c = c .before .before .before
 
 inner : (c : tie.In-loop Inv-loop μ-loop) → c .before .loop .n < firstRoot (tableAt (c .before))
@@ -40,8 +40,8 @@ inner c =
     let h = c .loop-test .taken in
     omega arith
 
-counted : (c : tie.After-settle Inv-loop μ-loop) → isCounted (c .settle .last .1 .1 .1 .0) (loopAt c .loop .n) ≡ true
-counted c = settled (c .settle .ensures .held) (c .settle .ensures)
+abbrev low : (c : tie.After-count-at Inv-loop μ-loop) → loopAt c .loop .n < firstRoot (tableAt (loopAt c))
+low c = inner (c .before .before)
 
 first-root-requires : tie.Need-first-root-requires Inv-loop μ-loop
 first-root-requires c κs = c .before .before .before .pre .sound .shaped .limits
@@ -49,35 +49,28 @@ first-root-requires c κs = c .before .before .before .pre .sound .shaped .limit
 loop-holds : tie.Need-loop-holds Inv-loop μ-loop
 loop-holds c = (omega arith, c .before .before .before .before .pre, (λ k h. absurd (omega arith)), (λ k h. absurd (omega arith)), refl)
 
-settle-requires : tie.Need-settle-requires Inv-loop μ-loop
-settle-requires c κs = (c .before .before .loop .inv .1, inner (c .before))
-
-pair-requires : tie.Need-pair-requires Inv-loop μ-loop
-pair-requires c κs =
-    let x = c .before .before .before in
-    node-room (x .settle .ensures .held) (loopAt x .loop .n) (inner (x .before .before))
+count-at-requires : tie.Need-count-at-requires Inv-loop μ-loop
+count-at-requires c κs = let i = c .before .before .loop .inv in (i .1, (inner (c .before), i .2))
 
 add-if1 : tie.Need-add-if1 Inv-loop μ-loop
 add-if1 c =
-    let x = c .before .before .before .before .before in
-    let w : Capped (c .before .pair .result) = rw (c .before .pair .ensures) (held-small (x .settle .ensures .held) (loopAt x .loop .n) (inner (x .before .before)) (counted x)) in
+    let x = c .before .before .before in
+    let m = x .count-at .ensures in
+    let w : Capped (x .count-at .result) = subst Capped (sym (m .pair)) (held-small (m .held) (loopAt x .loop .n) (low x) (m .counted)) in
     omega (arith, w .actions, w .ticks)
 
 same-length : tie.Need-same-length Inv-loop μ-loop
-same-length c =
-    let x = c .before .before .before .before .before .before in
-    x .settle .kept .1 .1 .1 .0 ∙ loopAt x .loop .inv .4
+same-length c = let x = c .before .before .before .before in x .count-at .kept .1 .1 .1 .0 ∙ loopAt x .loop .inv .4
 
 returns : tie.Need-returns Inv-loop μ-loop
 returns c =
-    let x = c .before .before .before .before .before .before in
+    let x = c .before .before .before .before in
+    let m = x .count-at .ensures in
     let n = loopAt x .loop .n in
-    let h = inner (x .before .before) in
-    let held = x .settle .ensures .held in
     record {
-      is = lowest-full held n h (overfull-yes held n _ h (counted x) (c .before .before .pair .ensures) (c .if1 .taken)) (loopAt x .loop .inv .3);
-      held = held;
-      all = λ e. absurd (omega arith);
+      is = lowest-full (m .held) n (low x) (overfull-yes (m .held) n _ (low x) (m .counted) (m .pair) (c .if1 .taken)) (loopAt x .loop .inv .3);
+      held = m .held;
+      all = λ e. absurd (omega (arith, low x));
     }
 
 add-n : tie.Need-add-n Inv-loop μ-loop
@@ -88,16 +81,15 @@ loop-less c = omega arith
 
 loop-again : tie.Need-loop-again Inv-loop μ-loop
 loop-again c =
-    let x = c .before .before .before .before .before .before in
+    let x = c .before .before .before .before in
+    let m = x .count-at .ensures in
     let n = loopAt x .loop .n in
-    let i = loopAt x .loop .inv in
-    let h = inner (x .before .before) in
-    let held = x .settle .ensures .held in (
+    let i = loopAt x .loop .inv in (
       omega arith,
-      held,
-      below-more _ _ (λ k l. x .settle .ensures .kept k (i .2 k l)) (counted x),
-      below-more _ _ (i .3) (overfull-no held n _ h (counted x) (c .before .before .pair .ensures) (c .if1 .left)),
-      x .settle .kept .1 .1 .1 .0 ∙ i .4,
+      m .held,
+      below-more _ _ (λ k l. m .kept k (i .2 k l)) (m .counted),
+      below-more _ _ (i .3) (overfull-no (m .held) n _ (low x) (m .counted) (m .pair) (c .if1 .left)),
+      x .count-at .kept .1 .1 .1 .0 ∙ i .4,
     )
 
 same-length-2 : tie.Need-same-length-2 Inv-loop μ-loop
@@ -122,8 +114,7 @@ lowest-overfull-spec =
     μ-loop
     first-root-requires
     loop-holds
-    settle-requires
-    pair-requires
+    count-at-requires
     add-if1
     same-length
     returns

@@ -17,7 +17,7 @@ use Rattle.table.proofs.p_at.Reads as p-at
 use Rattle.table.proofs.q_at.Reads as q-at
 use Rattle.evaluation.proofs.values.value_below.Reads as value-below
 use Rattle.value.proofs.compare_values.Reads as compare-values
-use Rattle.evaluation.proofs.guards.plus_if.Reads as plus-if
+use Rattle.basis.proofs.plus_if.Reads as plus-if
 use Rattle.evaluation.proofs.guards.+compare_all.{statement}
 use Rattle.evaluation.proofs.guards.+compare_all.Tie.{close}
 

@@ -1,6 +1,6 @@
 -- `evaluation::guards::links_hold` meets its contract.
 -- Assumes nothing.
-use mathlib.Core.Path.{sym, _∙_}
+use mathlib.Core.Path.{sym}
 use borrow.Author.Needs.{needs}
 use Rattle.evaluation.proofs.guards.links_hold.Statement.{statement}
 use Rattle.evaluation.proofs.guards.links_hold.Tie as tie

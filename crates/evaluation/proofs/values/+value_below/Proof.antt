@@ -1,7 +1,7 @@
 -- `evaluation::values::value_below` meets its contract: the kind picks the case. The measure is the limit: a call's limit is the node, which is below it.
 -- Assumes nothing.
 use Prim.Native.Nat.{ℕ, _<_}
-use mathlib.Core.Path.{sym, ap, _∙_}
+use mathlib.Core.Path.{sym, ap}
 use native.Mathlib.Omega.{arith}
 use borrow.Author.Needs.{needs}
 use borrow.Author.Tests.{ne-eqb}

@@ -7,7 +7,7 @@ use denote.Ref.{now}
 use Rattle.basis.specs.Bytes.{u16At}
 use Rattle.table.specs.Tables.{Table, table}
 use Rattle.steps.specs.Steps.{stepIn}
-use Rattle.steps.specs.Runs.{stepsOf, kindIn, agentIn, numberIn}
+use Rattle.steps.specs.Runs.{kindIn, agentIn, numberIn}
 use Rattle.machine.specs.Answers.{Steps}
 use borrow.Author.Needs.{needs}
 use Rattle.machine.proofs.running.step_at.Statement.{statement}

@@ -1,7 +1,6 @@
 -- `machine::stepping::out_of_range` meets its contract.
 -- Assumes nothing.
 use mathlib.Core.Path.{sym}
-use native.Mathlib.Omega.{arith}
 use Rattle.table.specs.Tables.{table}
 use Rattle.machine.proofs.stepping.out_of_range.Statement.{statement}
 use Rattle.machine.proofs.stepping.out_of_range.Tie as tie

@@ -2,10 +2,10 @@
 -- Assumes nothing.
 use Prim.Native.Nat.{ℕ, _+_, _≤_, _<_, _-_}
 use native.Mathlib.Omega.{arith}
-use mathlib.Core.Path.{_≡_, refl, sym, ap, _∙_}
-use mathlib.Core.Bool.{true, false}
-use mathlib.Core.List.{List}
+use mathlib.Core.Path.{_≡_, refl, sym, ap, ap₂, subst, _∙_}
+use mathlib.Core.Bool.{Bool, true, false, _||_}
 use denote.Ref.{now}
+use lib.Bits.{bitOr}
 use lib.Dec.{ltb}
 use lib.ListN.{length, length-set}
 use borrow.Author.Needs.{needs}
@@ -14,47 +14,58 @@ use borrow.Author.Tests.{not-true, not-false}
 use Rattle.basis.proofs.Numbers.{lowest-at, lowest-none}
 use Rattle.table.specs.Tables.{Table, table}
 use Rattle.table.specs.Nodes.{inner, fitting, badNode}
-use Rattle.table.specs.Marks.{Bad}
+use Rattle.table.specs.Marks.{doubted, Bad}
 use Rattle.table.proofs.Marking.{marks-length, marks-found, marks-lower}
-use Rattle.table.proofs.Naming.{bad-unfit, Turned, turned-none, bad-is, turned-more}
+use Rattle.table.proofs.Naming.{bad-unfit, Turned, turned-none, bad-is, twice, turned-more}
+use Rattle.table.proofs.Promises.{not-bad}
+use Rattle.table.proofs.Rising.{Informed, informed-none, ownAt, word-unnamed, informed-more, informed-sure}
 use Rattle.table.proofs.bad.lowest_bad.Statement.{statement}
 use Rattle.table.proofs.bad.lowest_bad.Tie as tie
 
 abbrev Inv-loop : tie.InvT-loop
-Inv-loop sizes kinds operands scratch₀ first i₀ scratch i =
+Inv-loop sizes kinds operands scratch₀ first doubtful₀ i₀ scratch doubtful i =
     (i ≤ sizes .nodes) × (length scratch ≡ length scratch₀) × Turned (table sizes kinds operands) scratch i
-    × ((k : ℕ) → k < i → badNode (table sizes kinds operands) k ≡ false)
+    × ((k : ℕ) → k < i → badNode (table sizes kinds operands) k ≡ false) × Informed (table sizes kinds operands) scratch i doubtful
 
 abbrev μ-loop : tie.MeasureT-loop
-μ-loop sizes kinds operands scratch₀ first i₀ scratch i = sizes .nodes - i
+μ-loop sizes kinds operands scratch₀ first doubtful₀ i₀ scratch doubtful i = sizes .nodes - i
 
 abbrev here : tie.At-loop Inv-loop μ-loop → Table
 here c = let a = c .before .before .before .before .before .args in table (a .sizes) (now (a .kinds)) (now (a .operands))
 
 abbrev head : tie.After-mark-both Inv-loop μ-loop → tie.At-loop Inv-loop μ-loop
-head c = c .before .before .before .before .before .before .before .before .before .before .before
+head c = c .before .before .before .before .before .before .before .before .before .before .before .before .before .before .before .before
 
-found-at : (t : Table) (words : List ℕ) (i : ℕ) → i < t .sizes .nodes → badNode t i ≡ true → ((k : ℕ) → k < i → badNode t k ≡ false) → Bad t words i
-found-at t words i h e f = record { is = sym (lowest-at (badNode t) (t .sizes .nodes) i h e f); leaves = λ g. absurd (omega arith) }
+found-at : (t : Table) (i : ℕ) (doubtful : Bool) → i < t .sizes .nodes → badNode t i ≡ true → ((k : ℕ) → k < i → badNode t k ≡ false)
+    → Bad t (record { bad = i; doubtful = doubtful })
+found-at t i doubtful h e f =
+    record { is = sym (lowest-at (badNode t) (t .sizes .nodes) i h e f); sure = λ g. absurd (omega arith) }
 
 -- the marks of a turn tell whether its node is bad, and the words show one node more
 turn : (c : tie.After-mark-both Inv-loop μ-loop)
     → (c .mark-both .result ≡ badNode (here (head c)) (head c .loop .i))
     × Turned (here (head c)) (c .mark-both .last .0) (head c .loop .i + 1)
     × (length (c .mark-both .last .0) ≡ length (head c .loop .scratch))
+    × Informed (here (head c)) (c .mark-both .last .0) (head c .loop .i + 1) (head c .loop .doubtful || c .before .before .before .before .is-doubted .result)
 turn c =
     let l = head c .loop in
     let i = l .i in
     let t = here (head c) in
-    let k = c .before .before .before .before .before .before .before .before .look-at in
+    let k = c .before .before .before .before .before .before .before .before .before .before .before .before .before .look-at in
     let e = k .ensures in
-    let good : fitting t i ≡ true = sym (e .fitting) ∙ not-false (k .result .fitting) (c .before .before .before .before .before .before .if2 .left) in
-    let w = rw (e .left, e .right) at (c .before .before .before .before .first-word .ensures) in
+    let good : fitting t i ≡ true = sym (e .fitting) ∙ not-false (k .result .fitting) (c .before .before .before .before .before .before .before .before .before .before .before .if2 .left) in
+    let f : c .before .before .before .before .before .before .before .before .before .own-bits .result ≡ ownAt t i = rw (e .q) at (c .before .before .before .before .before .before .before .before .before .own-bits .ensures) in
+    let d = ap₂ bitOr f (c .before .before .before .before .before .before .before .rising .ensures) in
+    let w = word-unnamed t (l .scratch) i e d in
+    let W = bitOr (c .before .before .before .before .before .before .before .before .before .own-bits .result) (c .before .before .before .before .before .before .before .rising .result) in
     let m = marks-found t e (inner t i) false false (ap (ltb i) (head c .before .first-root .ensures)) refl refl (c .mark-both .ensures) in
-    let small : i < length (l .scratch) = omega (arith, c .before .before .before .before .before .before .before .before .before .if1 .taken, head c .before .before .before .before .before .pre .1, l .inv .1) in (
-      bad-is t (l .inv .2) (l .inv .3) small good w m,
-      turned-more t (l .inv .2) (l .inv .3) small good w m,
+    let small : i < length (l .scratch) = omega (arith, c .before .before .before .before .before .before .before .before .before .before .before .before .before .before .if1 .taken, head c .before .before .before .before .before .pre .1, l .inv .1) in (
+      bad-is t W (l .inv .2) (l .inv .3) small good w m,
+      turned-more t W (l .inv .2) (l .inv .3) small good w m,
       marks-length m ∙ simp length-set,
+      subst (λ (b : Bool). Informed t (c .mark-both .last .0) (i + 1) (l .doubtful || b)) (sym (c .before .before .before .before .is-doubted .ensures ∙ ap₂ (λ (p k : Bool). doubted p k W) (c .before .before .before .before .before .before .is-process .ensures) (c .before .before .before .before .before .is-link-root .ensures)))
+      (informed-more t (l .scratch) (c .mark-both .last .0) (l .inv .4) small (below-more (λ (k : ℕ). fitting t k ≡ true) i (λ k h. not-bad t k (l .inv .3 k h) .0) good)
+      e (λ j k h. twice t W (l .inv .2) (l .inv .3) small good w m j k ∙ rw h) d),
     )
 
 first-root-requires : tie.Need-first-root-requires Inv-loop μ-loop
@@ -63,7 +74,8 @@ first-root-requires c κs = search needs
 loop-holds : tie.Need-loop-holds Inv-loop μ-loop
 loop-holds c =
     let a = c .before .before .before .before .args in
-    (omega arith, refl, turned-none (table (a .sizes) (now (a .kinds)) (now (a .operands))) (now (a .scratch)), λ k h. absurd (omega arith))
+    let t = table (a .sizes) (now (a .kinds)) (now (a .operands)) in
+    (omega arith, refl, turned-none t (now (a .scratch)), (λ k h. absurd (omega arith)), informed-none t (now (a .scratch)) false)
 
 look-at-requires : tie.Need-look-at-requires Inv-loop μ-loop
 look-at-requires c κs = search needs
@@ -78,13 +90,23 @@ returns c =
     let t = here a in
     let k = c .before .before .look-at in
     let unfit = sym (k .ensures .fitting) ∙ not-true (k .result .fitting) (c .if2 .taken) in
-    found-at t (l .scratch) (l .i) (omega arith) (bad-unfit t (l .i) unfit) (l .inv .3)
+    found-at t (l .i) (l .doubtful) (omega arith) (bad-unfit t (l .i) unfit) (l .inv .3)
 
-shared-slice-read-first-word : tie.Need-shared-slice-read-first-word Inv-loop μ-loop
-shared-slice-read-first-word c = search needs
+shared-slice-read-kind : tie.Need-shared-slice-read-kind Inv-loop μ-loop
+shared-slice-read-kind c = search needs
 
-first-word-requires : tie.Need-first-word-requires Inv-loop μ-loop
-first-word-requires c κs = search needs
+own-bits-requires : tie.Need-own-bits-requires Inv-loop μ-loop
+own-bits-requires c κs = search needs
+
+rising-requires : tie.Need-rising-requires Inv-loop μ-loop
+rising-requires c κs =
+    let a = c .before .before .before .before .before .before .before .before in
+    let k = c .before .before .before .before .before .look-at in
+    let w = marks-lower (here a) (k .ensures) true (not-false (k .result .fitting) (c .before .before .before .if2 .left)) in
+    let r = a .before .before .before .before .before .pre in
+    let h = c .before .before .before .before .before .before .if1 .taken in
+    let g = a .loop .inv .1 in
+    ((λ e. omega (arith, w .0 e)), λ e. omega (arith, w .1 e))
 
 mul-scratch : tie.Need-mul-scratch Inv-loop μ-loop
 mul-scratch c = search needs
@@ -92,13 +114,25 @@ mul-scratch c = search needs
 slice-write-scratch : tie.Need-slice-write-scratch Inv-loop μ-loop
 slice-write-scratch c = search needs
 
+is-process-requires : tie.Need-is-process-requires Inv-loop μ-loop
+is-process-requires c κs = search needs
+
+is-link-root-requires : tie.Need-is-link-root-requires Inv-loop μ-loop
+is-link-root-requires c κs = search needs
+
+is-doubted-requires : tie.Need-is-doubted-requires Inv-loop μ-loop
+is-doubted-requires c κs = search needs
+
 mark-both-requires : tie.Need-mark-both-requires Inv-loop μ-loop
 mark-both-requires c κs =
-    let a = c .before .before .before .before .before .before .before .before .before .before in
-    let k = c .before .before .before .before .before .before .before .look-at in
+    let a = c .before .before .before .before .before .before .before .before .before .before .before .before .before .before .before in
+    let k = c .before .before .before .before .before .before .before .before .before .before .before .before .look-at in
     let w = marks-lower (here a) (k .ensures) (ltb (a .loop .i) (a .before .first-root .result))
-    (not-false (k .result .fitting) (c .before .before .before .before .before .if2 .left)) in
-    let g = length-set (a .loop .scratch) (a .loop .i) (c .before .before .before .first-word .result) in
+    (not-false (k .result .fitting) (c .before .before .before .before .before .before .before .before .before .before .if2 .left)) in
+    let g = length-set (a .loop .scratch) (a .loop .i) (bitOr (c .before .before .before .before .before .before .before .before .own-bits .result) (c .before .before .before .before .before .before .rising .result)) in
+    let h = c .before .before .before .before .before .before .before .before .before .before .before .before .before .if1 .taken in
+    let r = a .before .before .before .before .before .pre .1 in
+    let s = a .loop .inv .1 in
     ((λ e. omega (arith, w .0 e)), λ e. omega (arith, w .1 e))
 
 same-length-2 : tie.Need-same-length-2 Inv-loop μ-loop
@@ -108,7 +142,7 @@ returns-2 : tie.Need-returns-2 Inv-loop μ-loop
 returns-2 c =
     let m = c .before .before .before in
     let l = head m .loop in
-    found-at (here (head m)) (m .mark-both .last .0) (l .i) (omega arith) (sym (turn m .0) ∙ c .if3 .taken) (l .inv .3)
+    found-at (here (head m)) (l .i) _ (omega (arith, m .before .before .before .before .before .before .before .before .before .before .before .before .before .before .if1 .taken)) (sym (turn m .0) ∙ c .if3 .taken) (l .inv .3)
 
 add-i : tie.Need-add-i Inv-loop μ-loop
 add-i c = search needs
@@ -121,10 +155,11 @@ loop-again c =
     let m = c .before .before .before in
     let l = head m .loop in
     let w = turn m in (
-      omega arith,
+      omega (arith, m .before .before .before .before .before .before .before .before .before .before .before .before .before .before .if1 .taken),
       w .2 ∙ l .inv .1,
       w .1,
       below-more (λ (k : ℕ). badNode (here (head m)) k ≡ false) (l .i) (l .inv .3) (sym (w .0) ∙ c .if3 .left),
+      w .3,
     )
 
 same-length-3 : tie.Need-same-length-3 Inv-loop μ-loop
@@ -135,9 +170,10 @@ returns-3 c =
     let a = c .before .before in
     let t = here a in
     let e : a .loop .i ≡ t .sizes .nodes = omega arith in
+    let fine : (k : ℕ) → k < t .sizes .nodes → badNode t k ≡ false = λ k h. a .loop .inv .3 k (omega arith) in
     record {
-      is = sym (lowest-none (badNode t) (t .sizes .nodes) (λ k h. a .loop .inv .3 k (omega arith)));
-      leaves = λ h. rw e at (a .loop .inv .2 .shown);
+      is = sym (lowest-none (badNode t) (t .sizes .nodes) fine);
+      sure = λ h. informed-sure t (λ k h. not-bad t k (fine k h) .0) (rw e at (a .loop .inv .4));
     }
 
 pub lowest-bad-spec : {M : Type 1} → statement M
@@ -151,10 +187,14 @@ lowest-bad-spec =
     look-at-requires
     same-length
     returns
-    shared-slice-read-first-word
-    first-word-requires
+    shared-slice-read-kind
+    own-bits-requires
+    rising-requires
     mul-scratch
     slice-write-scratch
+    is-process-requires
+    is-link-root-requires
+    is-doubted-requires
     mark-both-requires
     same-length-2
     returns-2

@@ -1,10 +1,9 @@
--- `table::marks::plus_if` meets its contract.
+-- `basis::plus_if` meets its contract.
 -- Assumes nothing.
-use mathlib.Core.Path.{_∙_}
 use borrow.Author.Needs.{needs}
-use Rattle.table.specs.Marks.{plusIf}
-use Rattle.table.proofs.marks.plus_if.Statement.{statement}
-use Rattle.table.proofs.marks.plus_if.Tie as tie
+use Rattle.basis.specs.KeySets.{plusIf}
+use Rattle.basis.proofs.plus_if.Statement.{statement}
+use Rattle.basis.proofs.plus_if.Tie as tie
 
 plus-requires : tie.Need-plus-requires
 plus-requires c κs = search needs

@@ -1,0 +1,83 @@
+-- `table::wrong::show_starts` meets its contract.
+-- Assumes nothing.
+use Prim.Native.Nat.{_≤_, _<_, _-_}
+use mathlib.Core.Path.{_≡_, refl}
+use native.Mathlib.Omega.{arith}
+use denote.Ref.{now}
+use lib.ListN.{length, length-set}
+use borrow.Author.Needs.{needs}
+use Rattle.table.specs.Tables.{table}
+use Rattle.table.specs.Marks.{Shown}
+use Rattle.table.proofs.Marking.{shown-none, shown-next}
+use Rattle.table.proofs.wrong.show_starts.Statement.{statement}
+use Rattle.table.proofs.wrong.show_starts.Tie as tie
+
+abbrev Inv-loop : tie.InvT-loop
+Inv-loop sizes kinds operands scratch₀ i₀ scratch i =
+    (i ≤ sizes .nodes) × (length scratch ≡ length scratch₀) × Shown (table sizes kinds operands) scratch i
+
+abbrev μ-loop : tie.MeasureT-loop
+μ-loop sizes kinds operands scratch₀ i₀ scratch i = sizes .nodes - i
+
+loop-holds : tie.Need-loop-holds Inv-loop μ-loop
+loop-holds c = (omega arith, refl, shown-none _ _)
+
+look-at-requires : tie.Need-look-at-requires Inv-loop μ-loop
+look-at-requires c κs = search needs
+
+shared-slice-read-first-word : tie.Need-shared-slice-read-first-word Inv-loop μ-loop
+shared-slice-read-first-word c = search needs
+
+first-word-requires : tie.Need-first-word-requires Inv-loop μ-loop
+first-word-requires c κs = search needs
+
+mul-scratch : tie.Need-mul-scratch Inv-loop μ-loop
+mul-scratch c = search needs
+
+slice-write-scratch : tie.Need-slice-write-scratch Inv-loop μ-loop
+slice-write-scratch c = search needs
+
+add-i : tie.Need-add-i Inv-loop μ-loop
+add-i c = search needs
+
+loop-less : tie.Need-loop-less Inv-loop μ-loop
+loop-less c = search needs
+
+loop-again : tie.Need-loop-again Inv-loop μ-loop
+loop-again c =
+    let l = c .before .before .before .before .before .loop in
+    let a = c .before .before .before .before .before .before .before .before .before in
+    let k = c .before .before .look-at .ensures in
+    let h = c .before .before .before .if1 .taken in
+    let room : l .i < length (l .scratch) = omega (arith, a .pre .1, l .inv .1) in (
+      omega arith,
+      simp length-set (l .inv .1),
+      shown-next (table (a .args .sizes) (now (a .args .kinds)) (now (a .args .operands))) (l .scratch) (l .i) room (l .inv .2) (rw (k .left, k .right) at (c .first-word .ensures)),
+    )
+
+same-length : tie.Need-same-length Inv-loop μ-loop
+same-length c = search needs
+
+returns : tie.Need-returns Inv-loop μ-loop
+returns c =
+    let l = c .before .before in
+    let e : l .loop .i ≡ l .before .before .before .before .args .sizes .nodes = omega arith in
+    rw e at (l .loop .inv .2)
+
+pub show-starts-spec : {M : Type 1} → statement M
+show-starts-spec =
+    tie.close
+    (tie.spec
+    Inv-loop
+    μ-loop
+    loop-holds
+    look-at-requires
+    shared-slice-read-first-word
+    first-word-requires
+    mul-scratch
+    slice-write-scratch
+    add-i
+    loop-less
+    loop-again
+    same-length
+    returns)
