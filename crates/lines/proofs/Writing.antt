@@ -6,6 +6,7 @@ use mathlib.Core.List.{List, [], _∷_, _++_, append-assoc}
 use native.Mathlib.Omega.{arith}
 use lib.ListN.{length, take, drop, length-append, length-drop}
 use lib.Seq.{take-at, drop-at, drop-drop, length-take-le, paste, paste-zero, take-length}
+use Rattle.lines.specs.Text.{spaced, line}
 use Rattle.lines.specs.Writing.{Room, Wrote}
 
 -- of an equal text
@@ -64,3 +65,17 @@ pub wrote-all : {at : ℕ} {was out : List ℕ} (text : List ℕ) {n : ℕ} → 
 wrote-all {at} {was} text {n} f h l e =
     let k : n ≡ length text = omega arith in
     record { room = f; ends = ap (λ (m : ℕ). at + m) k; is = e ∙ ap (λ (m : ℕ). paste was at text m) k ∙ ap (λ (s : List ℕ). take at was ++ s ++ drop (at + length text) was) (take-length text) }
+
+-- how long a line is: each part has a space before it, and there is a newline
+abbrev pub sizes : List (List ℕ) → ℕ
+sizes [] = 1
+sizes (part ∷ parts) = suc (length part) + sizes parts
+
+spaced-size : (parts : List (List ℕ)) → length (spaced parts) ≡ sizes parts
+unfolding spaced
+spaced-size [] = refl
+spaced-size (part ∷ parts) = ap suc (length-append part (spaced parts)) ∙ ap (λ (n : ℕ). suc (length part + n)) (spaced-size parts) ∙ omega arith
+
+pub line-size : (name : List ℕ) (parts : List (List ℕ)) → length (line name parts) ≡ length name + sizes parts
+unfolding line
+line-size name parts = length-append name (spaced parts) ∙ ap (λ (n : ℕ). length name + n) (spaced-size parts)

@@ -1,12 +1,9 @@
 // What labs_show prints, rendered into a lent buffer: a line for each total, value, entry and pending key.
 mod text; // text.rt: bytes, numbers, the end of a line
+mod rows; // rows.rt: a line of each kind
 
-
-
-
-
-
-
+pub use rows::refused_line;
+pub use rows::totals_line;
 
 // Bytes that suffice for all that is printed.
 const WORD_BYTES: usize = 1 + 10;

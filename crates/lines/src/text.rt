@@ -1,5 +1,5 @@
 // Bytes and numbers written into a lent buffer. Each function answers the place after what it wrote.
-ghost use mathlib.Core.List.{[], _∷_, _++_};
+ghost use mathlib.Core.List.{_++_};
 ghost use Rattle.lines.specs.Text.{ascii, decimal};
 ghost use Rattle.lines.specs.Lines.{value};
 ghost use Rattle.lines.specs.Writing.{Room, Wrote};
@@ -33,6 +33,15 @@ pub fn put_number(n: usize, out: &mut [u8], at: usize) -> usize
 {
     let next = put(b" ", out, at);
     put_decimal(n as u64, out, next)
+}
+
+// A name, and a number after a space.
+pub fn put_named(name: &[u8], n: usize, out: &mut [u8], at: usize) -> usize
+    requires { ⌜ Room (now name ++ (ascii " " ++ decimal n)) at (now out) ⌝ }
+    ensures { λ r. ⌜ Wrote (now (name .entry) ++ (ascii " " ++ decimal n)) at (now (out .entry)) (now (out .exit)) r ⌝ }
+{
+    let next = put(name, out, at);
+    put_number(n, out, next)
 }
 
 // The number that a word holds in two's complement, after a space.
