@@ -1,3 +1,4 @@
 pub mod Writing
+pub mod Each
 pub mod Decimal
 pub mod Examples

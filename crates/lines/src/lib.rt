@@ -1,7 +1,10 @@
 // What labs_show prints, rendered into a lent buffer: a line for each total, value, entry and pending key.
 mod text; // text.rt: bytes, numbers, the end of a line
 mod rows; // rows.rt: a line of each kind
+mod stores; // stores.rt: the lines of a store's values and of pending keys
+mod fleet; // fleet.rt: the lines of agents and of a state
 
+pub use fleet::state_lines;
 pub use rows::refused_line;
 pub use rows::totals_line;
 

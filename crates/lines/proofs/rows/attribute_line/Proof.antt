@@ -1,9 +1,8 @@
 -- `lines::rows::attribute_line` meets its contract.
 -- Assumes nothing.
-use mathlib.Core.List.{[], _∷_}
 use native.Mathlib.Omega.{arith}
-use Rattle.lines.specs.Text.{ascii, decimal, line, spaced}
-use Rattle.lines.specs.Lines.{attributeLine, value}
+use Rattle.lines.specs.Text.{line, spaced}
+use Rattle.lines.specs.Lines.{attributeLine}
 use Rattle.lines.proofs.Writing.{wrote-then, line-size}
 use borrow.Author.Needs.{needs}
 use Rattle.lines.proofs.rows.attribute_line.Statement.{statement}
@@ -14,19 +13,19 @@ slice-aggregate-put-named c = search needs
 
 put-named-requires : tie.Need-put-named-requires
 unfolding attributeLine
-put-named-requires c κs = let a = c .before .before .before .args in omega (arith, line-size (ascii "a") (decimal (a .agent) ∷ decimal (a .key) ∷ value (a .word) ∷ []))
+put-named-requires c κs = let h = simp line-size at (c .before .before .before .pre .fits) in omega arith
 
 put-number-requires : tie.Need-put-number-requires
 unfolding attributeLine
-put-number-requires c κs = let a = c .before .before .before .before .before .before .before .args in omega (arith, line-size (ascii "a") (decimal (a .agent) ∷ decimal (a .key) ∷ value (a .word) ∷ []))
+put-number-requires c κs = let h = simp line-size at (c .before .before .before .before .before .before .before .pre .fits) in omega arith
 
 put-value-requires : tie.Need-put-value-requires
 unfolding attributeLine
-put-value-requires c κs = let a = c .before .before .before .before .before .before .before .before .before .before .before .args in omega (arith, line-size (ascii "a") (decimal (a .agent) ∷ decimal (a .key) ∷ value (a .word) ∷ []))
+put-value-requires c κs = let h = simp line-size at (c .before .before .before .before .before .before .before .before .before .before .before .pre .fits) in omega arith
 
 end-line-requires : tie.Need-end-line-requires
 unfolding attributeLine
-end-line-requires c κs = let a = c .before .before .before .before .before .before .before .before .before .before .before .before .before .before .before .args in omega (arith, line-size (ascii "a") (decimal (a .agent) ∷ decimal (a .key) ∷ value (a .word) ∷ []))
+end-line-requires c κs = let h = simp line-size at (c .before .before .before .before .before .before .before .before .before .before .before .before .before .before .before .pre .fits) in omega arith
 
 same-length : tie.Need-same-length
 same-length c = search needs

@@ -1,8 +1,7 @@
 -- `lines::rows::clock_line` meets its contract.
 -- Assumes nothing.
-use mathlib.Core.List.{[], _∷_}
 use native.Mathlib.Omega.{arith}
-use Rattle.lines.specs.Text.{ascii, decimal, line, spaced}
+use Rattle.lines.specs.Text.{line, spaced}
 use Rattle.lines.specs.Lines.{clockLine}
 use Rattle.lines.proofs.Writing.{wrote-then, line-size}
 use borrow.Author.Needs.{needs}
@@ -14,11 +13,11 @@ slice-aggregate-put-named c = search needs
 
 put-named-requires : tie.Need-put-named-requires
 unfolding clockLine
-put-named-requires c κs = let a = c .before .before .before .args in omega (arith, line-size (ascii "clock") (decimal (a .clock) ∷ []))
+put-named-requires c κs = let h = simp line-size at (c .before .before .before .pre .fits) in omega arith
 
 end-line-requires : tie.Need-end-line-requires
 unfolding clockLine
-end-line-requires c κs = let a = c .before .before .before .before .before .before .before .args in omega (arith, line-size (ascii "clock") (decimal (a .clock) ∷ []))
+end-line-requires c κs = let h = simp line-size at (c .before .before .before .before .before .before .before .pre .fits) in omega arith
 
 same-length : tie.Need-same-length
 same-length c = search needs

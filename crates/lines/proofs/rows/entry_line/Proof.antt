@@ -1,9 +1,8 @@
 -- `lines::rows::entry_line` meets its contract.
 -- Assumes nothing.
-use mathlib.Core.List.{[], _∷_}
 use native.Mathlib.Omega.{arith}
-use Rattle.lines.specs.Text.{ascii, decimal, line, spaced}
-use Rattle.lines.specs.Lines.{entryLine, value}
+use Rattle.lines.specs.Text.{line, spaced}
+use Rattle.lines.specs.Lines.{entryLine}
 use Rattle.lines.proofs.Writing.{wrote-then, line-size}
 use borrow.Author.Needs.{needs}
 use Rattle.lines.proofs.rows.entry_line.Statement.{statement}
@@ -14,23 +13,23 @@ slice-aggregate-put-named c = search needs
 
 put-named-requires : tie.Need-put-named-requires
 unfolding entryLine
-put-named-requires c κs = let a = c .before .before .before .args in omega (arith, line-size (ascii "s") (decimal (a .agent) ∷ decimal (a .key) ∷ value (a .word) ∷ decimal (a .stamp) ∷ []))
+put-named-requires c κs = let h = simp line-size at (c .before .before .before .pre .fits) in omega arith
 
 put-number-requires : tie.Need-put-number-requires
 unfolding entryLine
-put-number-requires c κs = let a = c .before .before .before .before .before .before .before .args in omega (arith, line-size (ascii "s") (decimal (a .agent) ∷ decimal (a .key) ∷ value (a .word) ∷ decimal (a .stamp) ∷ []))
+put-number-requires c κs = let h = simp line-size at (c .before .before .before .before .before .before .before .pre .fits) in omega arith
 
 put-value-requires : tie.Need-put-value-requires
 unfolding entryLine
-put-value-requires c κs = let a = c .before .before .before .before .before .before .before .before .before .before .before .args in omega (arith, line-size (ascii "s") (decimal (a .agent) ∷ decimal (a .key) ∷ value (a .word) ∷ decimal (a .stamp) ∷ []))
+put-value-requires c κs = let h = simp line-size at (c .before .before .before .before .before .before .before .before .before .before .before .pre .fits) in omega arith
 
 put-number-requires-2 : tie.Need-put-number-requires-2
 unfolding entryLine
-put-number-requires-2 c κs = let a = c .before .before .before .before .before .before .before .before .before .before .before .before .before .before .before .args in omega (arith, line-size (ascii "s") (decimal (a .agent) ∷ decimal (a .key) ∷ value (a .word) ∷ decimal (a .stamp) ∷ []))
+put-number-requires-2 c κs = let h = simp line-size at (c .before .before .before .before .before .before .before .before .before .before .before .before .before .before .before .pre .fits) in omega arith
 
 end-line-requires : tie.Need-end-line-requires
 unfolding entryLine
-end-line-requires c κs = let a = c .before .before .before .before .before .before .before .before .before .before .before .before .before .before .before .before .before .before .before .args in omega (arith, line-size (ascii "s") (decimal (a .agent) ∷ decimal (a .key) ∷ value (a .word) ∷ decimal (a .stamp) ∷ []))
+end-line-requires c κs = let h = simp line-size at (c .before .before .before .before .before .before .before .before .before .before .before .before .before .before .before .before .before .before .before .pre .fits) in omega arith
 
 same-length : tie.Need-same-length
 same-length c = search needs

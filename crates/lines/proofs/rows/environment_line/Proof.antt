@@ -1,9 +1,8 @@
 -- `lines::rows::environment_line` meets its contract.
 -- Assumes nothing.
-use mathlib.Core.List.{[], _∷_}
 use native.Mathlib.Omega.{arith}
-use Rattle.lines.specs.Text.{ascii, decimal, line, spaced}
-use Rattle.lines.specs.Lines.{environmentLine, value}
+use Rattle.lines.specs.Text.{line, spaced}
+use Rattle.lines.specs.Lines.{environmentLine}
 use Rattle.lines.proofs.Writing.{wrote-then, line-size}
 use borrow.Author.Needs.{needs}
 use Rattle.lines.proofs.rows.environment_line.Statement.{statement}
@@ -14,15 +13,15 @@ slice-aggregate-put-named c = search needs
 
 put-named-requires : tie.Need-put-named-requires
 unfolding environmentLine
-put-named-requires c κs = let a = c .before .before .before .args in omega (arith, line-size (ascii "e") (decimal (a .key) ∷ value (a .word) ∷ []))
+put-named-requires c κs = let h = simp line-size at (c .before .before .before .pre .fits) in omega arith
 
 put-value-requires : tie.Need-put-value-requires
 unfolding environmentLine
-put-value-requires c κs = let a = c .before .before .before .before .before .before .before .args in omega (arith, line-size (ascii "e") (decimal (a .key) ∷ value (a .word) ∷ []))
+put-value-requires c κs = let h = simp line-size at (c .before .before .before .before .before .before .before .pre .fits) in omega arith
 
 end-line-requires : tie.Need-end-line-requires
 unfolding environmentLine
-end-line-requires c κs = let a = c .before .before .before .before .before .before .before .before .before .before .before .args in omega (arith, line-size (ascii "e") (decimal (a .key) ∷ value (a .word) ∷ []))
+end-line-requires c κs = let h = simp line-size at (c .before .before .before .before .before .before .before .before .before .before .before .pre .fits) in omega arith
 
 same-length : tie.Need-same-length
 same-length c = search needs

@@ -1,8 +1,7 @@
 -- `lines::rows::totals_line` meets its contract.
 -- Assumes nothing.
-use mathlib.Core.List.{[], _∷_}
 use native.Mathlib.Omega.{arith}
-use Rattle.lines.specs.Text.{ascii, decimal, line, spaced}
+use Rattle.lines.specs.Text.{line, spaced}
 use Rattle.lines.specs.Lines.{totalsLine}
 use Rattle.lines.proofs.Writing.{wrote-then, line-size}
 use borrow.Author.Needs.{needs}
@@ -14,25 +13,25 @@ slice-aggregate-put-named c = search needs
 
 put-named-requires : tie.Need-put-named-requires
 unfolding totalsLine
-put-named-requires c κs = let a = c .before .before .before .before .args in omega (arith, line-size (ascii "done") (decimal (a .totals .done) ∷ ascii "refused" ∷ decimal (a .totals .refused) ∷ ascii "taken" ∷ decimal (a .totals .tally .taken) ∷ []))
+put-named-requires c κs = let h = simp line-size at (c .before .before .before .before .pre .fits) in omega arith
 
 slice-aggregate-put-named-2 : tie.Need-slice-aggregate-put-named-2
 slice-aggregate-put-named-2 c = search needs
 
 put-named-requires-2 : tie.Need-put-named-requires-2
 unfolding totalsLine
-put-named-requires-2 c κs = let a = c .before .before .before .before .before .before .before .before .before .args in omega (arith, line-size (ascii "done") (decimal (a .totals .done) ∷ ascii "refused" ∷ decimal (a .totals .refused) ∷ ascii "taken" ∷ decimal (a .totals .tally .taken) ∷ []))
+put-named-requires-2 c κs = let h = simp line-size at (c .before .before .before .before .before .before .before .before .before .pre .fits) in omega arith
 
 slice-aggregate-put-named-3 : tie.Need-slice-aggregate-put-named-3
 slice-aggregate-put-named-3 c = search needs
 
 put-named-requires-3 : tie.Need-put-named-requires-3
 unfolding totalsLine
-put-named-requires-3 c κs = let a = c .before .before .before .before .before .before .before .before .before .before .before .before .before .before .args in omega (arith, line-size (ascii "done") (decimal (a .totals .done) ∷ ascii "refused" ∷ decimal (a .totals .refused) ∷ ascii "taken" ∷ decimal (a .totals .tally .taken) ∷ []))
+put-named-requires-3 c κs = let h = simp line-size at (c .before .before .before .before .before .before .before .before .before .before .before .before .before .before .pre .fits) in omega arith
 
 end-line-requires : tie.Need-end-line-requires
 unfolding totalsLine
-end-line-requires c κs = let a = c .before .before .before .before .before .before .before .before .before .before .before .before .before .before .before .before .before .before .args in omega (arith, line-size (ascii "done") (decimal (a .totals .done) ∷ ascii "refused" ∷ decimal (a .totals .refused) ∷ ascii "taken" ∷ decimal (a .totals .tally .taken) ∷ []))
+end-line-requires c κs = let h = simp line-size at (c .before .before .before .before .before .before .before .before .before .before .before .before .before .before .before .before .before .before .pre .fits) in omega arith
 
 same-length : tie.Need-same-length
 same-length c = search needs
