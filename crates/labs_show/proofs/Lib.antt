@@ -1,2 +1,3 @@
 pub mod Rehearsals
+pub mod Shown
 pub mod Enough

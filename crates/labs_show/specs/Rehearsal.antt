@@ -11,7 +11,7 @@ use Rattle.machine.specs.declared.Ran.{Ran}
 use Rattle.machine.specs.declared.Ran.the-variants.{Done}
 use Rattle.machine.specs.Answers.{Runs}
 use Rattle.labs_show.specs.Input.{tableEnd}
-use Rattle.labs_show.specs.Lines.{Fleet}
+use Rattle.lines.specs.Writing.{Fleet}
 
 -- a refused load is the whole answer, and changes nothing
 unfoldable pub rehearsed : List ℕ → List ℕ → List ℕ → ℕ → List ℕ → Rehearsal
