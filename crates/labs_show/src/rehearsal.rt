@@ -45,12 +45,7 @@ fn rehearse(
 }
 
 // The same for a table and a schedule that stand one after the other.
-fn rehearse_input(
-    input: &[u8],
-    state: &mut [u32],
-    scratch: &mut [u32],
-    answers: &mut [u8],
-) -> Ran
+fn rehearse_input(input: &[u8], state: &mut [u32], scratch: &mut [u32], answers: &mut [u8]) -> Ran
     ensures { λ r. ⌜ Rehearses (rehearsedInput (now (input .entry)) (now (state .entry)) (length (now (scratch .entry))) (now (answers .entry))) r (now (state .exit)) (now (answers .exit)) ⌝ }
 {
     let end = table_end(input);

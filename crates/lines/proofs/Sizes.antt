@@ -107,8 +107,7 @@ module _ (s : List ℕ) (words : (i : ℕ) → getD s i 0 < 2 ^ 32) where
   unfolding stateLines
   state-fits h =
       simp length-append
-      (omega
-      (
+      (omega (
         arith,
         clock-fits (clockOf s) (words clockAt),
         store-fits Environment (omega arith),

@@ -22,8 +22,7 @@ wrote-nothing {at} {was} h = record { room = record { fits = omega arith }; ends
 pub wrote-length : {text : List ℕ} {at : ℕ} {was out : List ℕ} {r : ℕ} → Wrote text at was out r → length out ≡ length was
 wrote-length {text} {at} {was} w =
     let f = w .room in
-    omega
-    (
+    omega (
       arith,
       ap length (w .is),
       length-append (take at was ++ text) (drop (at + length text) was),
@@ -31,6 +30,10 @@ wrote-length {text} {at} {was} w =
       length-take-le at was (omega arith),
       length-drop (at + length text) was,
     )
+
+-- what stands at the front
+pub wrote-front : {text was out : List ℕ} {r : ℕ} → Wrote text 0 was out r → take r out ≡ text
+wrote-front {text} {was} {out} {r} w = ap (take r) (w .is) ∙ take-at text (drop (0 + length text) was) r (omega (arith, w .ends))
 
 -- a text after another is both
 module _ {t u : List ℕ} {at : ℕ} {was mid out : List ℕ} {m r : ℕ} (v : Wrote t at was mid m) (w : Wrote u m mid out r) where

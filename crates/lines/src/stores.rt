@@ -62,14 +62,7 @@ pub fn store_lines(state: &[u32], store: Store, out: &mut [u8], at: usize) -> us
 }
 
 // The line of a key that a set has.
-fn member_line(
-    name: &[u8],
-    agent: usize,
-    keys: u32,
-    key: usize,
-    out: &mut [u8],
-    at: usize,
-) -> usize
+fn member_line(name: &[u8], agent: usize, keys: u32, key: usize, out: &mut [u8], at: usize) -> usize
     requires { ⌜ (key < keyLimit) × Room (memberLine (now name) agent keys key) at (now out) ⌝ }
     ensures { λ r. ⌜ Wrote (memberLine (now (name .entry)) agent keys key) at (now (out .entry)) (now (out .exit)) r ⌝ }
 {

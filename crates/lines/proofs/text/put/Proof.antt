@@ -35,7 +35,7 @@ module _ {bytes was : List ℕ} {at : ℕ} where
   more {out} {i} k h =
       let f = k .room in
       let e : set out (at + i) (getD bytes i 0) ≡ paste was at bytes (suc i) =
-          ap (λ (l : List ℕ). set l (at + i) (getD bytes i 0)) (k .is) ∙ paste-suc was at bytes i 0 (omega arith) h in
+      ap (λ (l : List ℕ). set l (at + i) (getD bytes i 0)) (k .is) ∙ paste-suc was at bytes i 0 (omega arith) h in
       rw (add-one i) (record { room = f; within = h; size = ap length e ∙ length-paste was at bytes (suc i) (omega arith) h; is = e })
 
 loop-holds : tie.Need-loop-holds Inv-loop μ-loop
