@@ -2,7 +2,7 @@
 mod rehearsal; // rehearsal.rt: where the table ends; load, then run; the lines of that
 mod stdin; // stdin.rt: standard input, read to its end
 
-use lines::SHOWN_BYTES;
+use lines::output_buffer;
 use rehearsal::show_rehearsal;
 use stdin::Input;
 use stdin::read_input;
@@ -23,13 +23,6 @@ fn input_buffer() -> [u8; INPUT_BYTES]
     ensures { λ r. ⌜ inputBytes ≡ length r ⌝ }
 {
     [0; INPUT_BYTES]
-}
-
-// Enough for whatever is printed.
-fn output_buffer() -> [u8; SHOWN_BYTES]
-    ensures { λ r. ⌜ shownBytes ≡ length r ⌝ }
-{
-    [0; SHOWN_BYTES]
 }
 
 // What is printed of an input, at the start of a buffer; answers how many bytes there are.
