@@ -1,6 +1,7 @@
 //! The proved library, called as C calls it, on cases that the second implementation generates.
 
 pub mod fleets;
+pub mod program;
 
 use reference::cases::{Call, Case, ANSWER_FILL};
 

@@ -20,13 +20,13 @@ high : (w : ℕ) → 2147483648 ≤ w → w < 4294967296 → ascii " " ++ value 
 high w l h = ap (λ (s : List ℕ). ascii " " ++ s) (value-high w l h)
 
 put-number-requires : tie.Need-put-number-requires
-put-number-requires c κs = room-same (low (c .before .before .before .args .word) (c .before .if1 .taken)) (c .before .before .before .pre)
+put-number-requires c κs = room-same (low (c .before .before .before .args .word) (omega arith)) (c .before .before .before .pre)
 
 slice-aggregate-put : tie.Need-slice-aggregate-put
 slice-aggregate-put c = search needs
 
 put-requires : tie.Need-put-requires
-put-requires c κs = let h = room-same (high (c .before .before .before .before .args .word) (c .before .before .if1 .left) (omega arith)) (c .before .before .before .before .pre) in omega arith
+put-requires c κs = let h = room-same (high (c .before .before .before .before .args .word) (omega arith) (omega arith)) (c .before .before .before .before .pre) in omega arith
 
 sub-size : tie.Need-sub-size
 sub-size c = search needs
@@ -38,19 +38,19 @@ cast-put-decimal : tie.Need-cast-put-decimal
 cast-put-decimal c = search needs
 
 put-decimal-requires : tie.Need-put-decimal-requires
-put-decimal-requires c κs = let h = room-same (high (c .before .before .before .before .before .before .before .before .args .word) (c .before .before .before .before .before .before .if1 .left) (omega arith)) (c .before .before .before .before .before .before .before .before .pre) in omega (arith, c .before .before .before .put .ensures .ends, c .before .before .before .put .kept)
+put-decimal-requires c κs = let h = room-same (high (c .before .before .before .before .before .before .before .before .args .word) (omega arith) (omega arith)) (c .before .before .before .before .before .before .before .before .pre) in omega (arith, c .before .before .before .put .ensures .ends, c .before .before .before .put .kept)
 
 same-length : tie.Need-same-length
 same-length c = search needs
 
 returns : tie.Need-returns
-returns c = wrote-same (sym (low (c .before .before .before .before .before .before .args .word) (c .before .before .before .before .if1 .taken))) (c .before .before .put-number .ensures)
+returns c = wrote-same (sym (low (c .before .before .before .before .before .before .args .word) (omega arith))) (c .before .before .put-number .ensures)
 
 same-length-2 : tie.Need-same-length-2
 same-length-2 c = search needs
 
 returns-2 : tie.Need-returns-2
-returns-2 c = wrote-same (sym (high (c .before .before .before .before .before .before .before .before .before .before .before .args .word) (c .before .before .before .before .before .before .before .before .before .if1 .left) (omega arith))) (wrote-then (c .before .before .before .before .before .before .put .ensures) (c .before .before .put-decimal .ensures))
+returns-2 c = wrote-same (sym (high (c .before .before .before .before .before .before .before .before .before .before .before .args .word) (omega arith) (omega arith))) (wrote-then (c .before .before .before .before .before .before .put .ensures) (c .before .before .put-decimal .ensures))
 
 pub put-value-spec : {M : Type 1} → statement M
 put-value-spec =
