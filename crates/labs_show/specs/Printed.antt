@@ -1,5 +1,5 @@
 -- What is printed of an input.
-use Prim.Native.Nat.{ℕ, _≤_}
+use Prim.Native.Nat.{ℕ, _*_, _≤_}
 use mathlib.Core.List.{List}
 use lib.ListN.{length, replicate}
 use Rattle.state.specs.Layout.{stateWords}
@@ -11,7 +11,7 @@ use Rattle.labs_show.specs.Rehearsal.{rehearsedInput}
 
 -- words of scratch: two for each of 4,096 nodes
 abbrev pub scratchLent : ℕ
-scratchLent = 8192
+scratchLent = 2 * 4096
 
 -- the lines of its rehearsal, in which state and answers are 0 at first
 unfoldable pub printed : List ℕ → List ℕ

@@ -1,4 +1,4 @@
--- A text in a lent buffer.
+-- What code asks and answers: a text in a lent buffer, and a state that can be printed.
 use Prim.Native.Nat.{ℕ, _+_, _≤_}
 use mathlib.Core.Path.{_≡_}
 use mathlib.Core.List.{List, _++_}

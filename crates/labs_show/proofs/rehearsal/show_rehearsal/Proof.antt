@@ -1,13 +1,27 @@
 -- `labs_show::rehearsal::show_rehearsal` meets its contract.
 -- Assumes nothing.
+use Prim.Native.Nat.{_+_, _≤_}
 use mathlib.Core.Path.{sym}
 use native.Mathlib.Omega.{arith}
-use Rattle.lines.proofs.Sizes.{Counts, done-fits, refusal-fits}
+use lib.ListN.{length}
+use Rattle.lines.specs.Lines.{totalsLine, stateLines}
+use Rattle.lines.specs.Sizes.{shownBytes}
+use Rattle.lines.specs.Writing.{Fleet}
+use Rattle.lines.proofs.Sizes.{done-fits, refusal-fits}
 use Rattle.lines.proofs.Writing.{wrote-same, wrote-then}
 use Rattle.labs_show.proofs.Shown.{shown-done, shown-refused}
 use borrow.Author.Needs.{needs}
 use Rattle.labs_show.proofs.rehearsal.show_rehearsal.Statement.{statement}
 use Rattle.labs_show.proofs.rehearsal.show_rehearsal.Tie as tie
+
+-- a done run's state can be printed, and there is room for all of it
+printable : (c : tie.After-known-told) → Fleet (c .before .before .before .before .before .before .before .before .before .rehearse-input .last .1 .0)
+printable c = c .before .before .before .before .before .before .before .before .before .rehearse-input .ensures .fleet _ (c .before .ran .given .1)
+
+fits : (c : tie.After-known-told) → length (totalsLine (c .before .ran .given .0 .0)) + length (stateLines (c .before .before .before .before .before .before .before .before .before .rehearse-input .last .1 .0)) ≤ shownBytes
+fits c =
+    let k = c .known-told .given in
+    done-fits _ (λ i. c .before .before .before .before .before .before .before .slice-known5 .given i .fits) _ (record { done = omega (arith, k); refused = omega (arith, k); taken = omega (arith, k) }) (printable c .agents)
 
 rehearse-input-requires : tie.Need-rehearse-input-requires
 rehearse-input-requires c κs = search needs
@@ -16,10 +30,10 @@ enum-known-ran : tie.Need-enum-known-ran
 enum-known-ran c = search needs
 
 totals-line-requires : tie.Need-totals-line-requires
-totals-line-requires c κs = let b = done-fits (c .before .before .before .before .before .before .before .before .before .before .rehearse-input .last .1 .0) (λ i. c .before .before .before .before .before .before .before .before .slice-known5 .given i .fits) (c .before .before .ran .given .0 .0) (let k = c .before .known-told .given in record { done = omega (arith, k); refused = omega (arith, k); taken = omega (arith, k) }) (c .before .before .before .before .before .before .before .before .before .before .rehearse-input .ensures .fleet _ (c .before .before .ran .given .1) .agents) in omega (arith, c .before .before .before .before .before .before .before .before .before .before .before .before .before .before .before .before .before .before .before .pre)
+totals-line-requires c κs = let b = fits (c .before) in omega (arith, c .before .before .before .before .before .before .before .before .before .before .before .before .before .before .before .before .before .before .before .pre)
 
 state-lines-requires : tie.Need-state-lines-requires
-state-lines-requires c κs = let b = done-fits (c .before .before .before .before .before .before .before .before .before .before .before .before .before .before .before .rehearse-input .last .1 .0) (λ i. c .before .before .before .before .before .before .before .before .before .before .before .before .before .slice-known5 .given i .fits) (c .before .before .before .before .before .before .before .ran .given .0 .0) (let k = c .before .before .before .before .before .before .known-told .given in record { done = omega (arith, k); refused = omega (arith, k); taken = omega (arith, k) }) (c .before .before .before .before .before .before .before .before .before .before .before .before .before .before .before .rehearse-input .ensures .fleet _ (c .before .before .before .before .before .before .before .ran .given .1) .agents) in (c .before .before .before .before .before .before .before .before .before .before .before .before .before .before .before .rehearse-input .ensures .fleet _ (c .before .before .before .before .before .before .before .ran .given .1), omega (arith, c .before .before .before .before .before .before .before .before .before .before .before .before .before .before .before .before .before .before .before .before .before .before .before .before .pre))
+state-lines-requires c κs = let b = fits (c .before .before .before .before .before .before) in (printable (c .before .before .before .before .before .before), omega (arith, c .before .before .before .before .before .before .before .before .before .before .before .before .before .before .before .before .before .before .before .before .before .before .before .before .pre))
 
 enum-known-ran-2 : tie.Need-enum-known-ran-2
 enum-known-ran-2 c = search needs
