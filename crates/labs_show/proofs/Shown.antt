@@ -3,7 +3,6 @@
 use Prim.Native.Nat.{ℕ}
 use mathlib.Core.Path.{_≡_, sym, ap, _∙_}
 use mathlib.Core.List.{List, _++_}
-use Rattle.table.specs.Checks.{passes, refuses}
 use Rattle.steps.specs.Runs.{Rehearsal}
 use Rattle.machine.specs.declared.Totals.{Totals}
 use Rattle.machine.specs.declared.Ran.{Ran}

@@ -1,4 +1,5 @@
-// Rehearses the fleet on standard input, a table and then a schedule, and prints the run's totals and the state that it leaves, or the refusal.
+// Rehearses the fleet on standard input, a table and then a schedule, and prints the run's totals and the state that it
+// leaves, or the refusal.
 mod rehearsal; // rehearsal.rt: where the table ends; load, then run; the lines of that
 mod stdin; // stdin.rt: standard input, read to its end
 
@@ -16,9 +17,10 @@ ghost use Rattle.labs_show.specs.Printed.{printed};
 
 const INPUT_BYTES: usize = 61455;
 
-// One byte more than the longest input that can be done: a table of 4,096 nodes and a schedule of 8,192 steps, 12 + 5 * 4,096 + 2 + 5 * 8,192 bytes.
-// What follows need not be read, since it changes nothing (proofs/Enough). Where N is over 4,096 the table is refused with 2 whatever its length is; else the
-// table is read whole, and the schedule, of which over 2 + 5 * 8,192 bytes are read, is refused with 19, as all of it would be.
+// One byte more than the longest input that can be done: a table of 4,096 nodes and a schedule of 8,192 steps,
+// 12 + 5 * 4,096 + 2 + 5 * 8,192 bytes. What follows need not be read, since it changes nothing (proofs/Enough). Where N
+// is over 4,096 the table is refused with 2 whatever its length is; else the table is read whole, and the schedule, of
+// which over 2 + 5 * 8,192 bytes are read, is refused with 19, as all of it would be.
 fn input_buffer() -> [u8; INPUT_BYTES]
     ensures { λ r. ⌜ inputBytes ≡ length r ⌝ }
 {
@@ -36,6 +38,7 @@ fn show(input: &[u8], out: &mut [u8]) -> usize
     show_rehearsal(input, &mut state, &mut scratch, &mut answers, out)
 }
 
+// Writes it to standard output.
 fn print(input: &[u8]) {
     let mut out = output_buffer();
     let n = show(input, &mut out);

@@ -4,7 +4,6 @@ use Prim.Native.Nat.{ℕ, _-_, _+_, _<_, _≤_}
 use mathlib.Core.Path.{_≡_, sym, ap}
 use mathlib.Core.List.{List, _++_}
 use native.Mathlib.Omega.{arith}
-use lib.ListN.{length}
 use Rattle.lines.specs.Text.{ascii, decimal}
 use Rattle.lines.specs.Lines.{value}
 use Rattle.lines.proofs.Decimal.{value-low, value-high}
