@@ -2,6 +2,7 @@
 -- Assumes nothing.
 use Prim.Native.Nat.{ℕ, zero, suc, _+_, _-_, _*_, _^_, _<_, _≤_}
 use mathlib.Core.Logic.{⊎-elim}
+use mathlib.Core.Path.{_≡_, refl}
 use mathlib.Core.List.{List, [], _∷_}
 use native.Mathlib.Nat.{suc-mul}
 use native.Mathlib.Omega.{arith}
@@ -11,14 +12,17 @@ use Rattle.basis.specs.KeySets.{has}
 use Rattle.basis.proofs.Tests.{lt-or-le, cond-cases}
 use Rattle.value.specs.declared.Value.{Value}
 use Rattle.value.specs.declared.Value.the-variants.{Absent, Present}
+use Rattle.table.specs.Checks.{Check, passes, refuses}
 use Rattle.state.specs.declared.Store.{Store}
 use Rattle.state.specs.declared.Store.the-variants.{Environment, Attributes, Entries}
 use Rattle.state.specs.Layout.{agentLimit, keyLimit, clockAt, agentsAt, markAt, valueAt, markOf, valueIn, zcOf, zpOf}
 use Rattle.state.specs.Entries.{clockOf}
 use Rattle.state.specs.Standing.{storeAgent}
+use Rattle.steps.specs.Runs.{Rehearsal}
 use Rattle.machine.specs.declared.Totals.{Totals}
+use Rattle.machine.specs.Answers.{totalsOf}
 use Rattle.lines.specs.Text.{decimal, eachBelow}
-use Rattle.lines.specs.Lines.{value, totalsLine, refusedLine, clockLine, environmentLine, attributeLine, entryLine, pendingLine, valueLine, keyLine, storeLines, memberLine, pendingLines, agentLines, stateLines}
+use Rattle.lines.specs.Lines.{value, totalsLine, refusedLine, clockLine, environmentLine, attributeLine, entryLine, pendingLine, valueLine, keyLine, storeLines, memberLine, pendingLines, agentLines, stateLines, shown}
 use Rattle.lines.specs.Sizes.{totalsBytes, clockBytes, environmentBytes, attributeBytes, entryBytes, pendingBytes, agentBytes, shownBytes}
 use Rattle.lines.proofs.Decimal.{decimal-few, value-low, value-high}
 use Rattle.lines.proofs.Writing.{line-size}
@@ -117,3 +121,21 @@ module _ (s : List ℕ) (words : (i : ℕ) → getD s i 0 < 2 ^ 32) where
   -- what is printed of a done run
   pub done-fits : (t : Totals) → Counts t → getD s agentsAt 0 ≤ agentLimit → length (totalsLine t) + length (stateLines s) ≤ shownBytes
   done-fits t c h = omega (arith, totals-fit t c, state-fits h)
+
+-- WHAT IS PRINTED of a rehearsal: a refusal, and totals, of 64 bits; words of 32 bits, and at most 32 agents
+pub record Bounded (o : Rehearsal) : Type 0 where
+  pub refusal : (number place : ℕ) → o .check ≡ refuses number place → (number < 2 ^ 64) × (place < 2 ^ 64)
+  pub counts : Counts (totalsOf (o .progress))
+  pub words : (i : ℕ) → getD (o .progress .state) i 0 < 2 ^ 32
+  pub agents : getD (o .progress .state) agentsAt 0 ≤ agentLimit
+
+pub shown-fits : (o : Rehearsal) → Bounded o → length (shown o) ≤ shownBytes
+unfolding shown
+shown-fits o b = by (o .check) refl
+  where
+    by : (c : Check) → o .check ≡ c → length (shown o) ≤ shownBytes
+    by passes e =
+        rw (shown, e)
+        (omega
+        (arith, length-append (totalsLine (totalsOf (o .progress))) (stateLines (o .progress .state)), done-fits (o .progress .state) (b .words) (totalsOf (o .progress)) (b .counts) (b .agents)))
+    by (refuses number place) e = rw (shown, e) (refusal-fits number place (b .refusal number place e .0) (b .refusal number place e .1))
