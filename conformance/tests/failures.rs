@@ -62,8 +62,14 @@ fn a_pipe_that_is_empty_for_a_while_is_not_at_its_end() {
 
 #[test]
 fn what_was_read_before_a_failure_prints_nothing() {
-    says(&format!(r#"{PIPE} head -c 40 >&3; exec timeout 60 "$0" <&3"#), READ);
-    says(&format!(r#"{PIPE} cat >&3; exec timeout 60 "$0" <&3"#), READ);
+    says(
+        &format!(r#"{PIPE} head -c 40 >&3; exec timeout 60 "$0" <&3"#),
+        READ,
+    );
+    says(
+        &format!(r#"{PIPE} cat >&3; exec timeout 60 "$0" <&3"#),
+        READ,
+    );
 }
 
 #[test]
