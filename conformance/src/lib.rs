@@ -3,6 +3,7 @@
 pub mod fleets;
 pub mod numbers;
 pub mod page;
+pub mod program;
 #[path = "../../include/rehearsal.rs"]
 pub mod rehearsal;
 

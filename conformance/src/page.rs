@@ -1,9 +1,7 @@
 //! Documents of the repository, read for what tests hold: tables, fenced blocks, commands.
 
 use std::fs;
-use std::io::{stderr, Write};
 use std::path::{Path, PathBuf};
-use std::sync::Once;
 
 /// The repository's folder.
 pub fn root() -> PathBuf {
@@ -66,18 +64,4 @@ pub fn bytes(hex: &str) -> Vec<u8> {
         u8::from_str_radix(word, 16).expect("hex digits")
     };
     hex.split_whitespace().map(byte).collect()
-}
-
-/// The program labs_show, if it has been built; else that is said once, past the capture of tests, so that it is seen.
-pub fn labs_show() -> Option<PathBuf> {
-    static SAID: Once = Once::new();
-    let path = root().join("target/bin/labs_show");
-    if !path.exists() {
-        let mut seen = stderr();
-        SAID.call_once(|| {
-            writeln!(seen, "skipped: target/bin/labs_show is not built").unwrap();
-        });
-        return None;
-    }
-    Some(path)
 }

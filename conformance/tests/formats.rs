@@ -6,7 +6,8 @@ use std::os::unix::fs::symlink;
 use std::path::Path;
 use std::process::{Command, Stdio};
 
-use conformance::page::{block, bytes, commands, labs_show, root, rows, text};
+use conformance::page::{block, bytes, commands, root, rows, text};
+use conformance::program::labs_show;
 use conformance::{call, expected, numbers, Given};
 use reference::cases::{Call, Case};
 use reference::draft::Draft;

@@ -1,9 +1,10 @@
 //! labs_show prints what the second implementation prints.
 
-use std::io::{stderr, Write};
-use std::path::{Path, PathBuf};
+use std::io::Write;
+use std::path::Path;
 use std::process::{Command, Stdio};
 
+use conformance::program::labs_show;
 use reference::cases::Call;
 use reference::generate::fleets::{accepted, Scale};
 use reference::generate::schedules::mostly_enabled;
@@ -12,12 +13,6 @@ use reference::rng::Rng;
 use reference::show::show;
 use reference::state::World;
 use reference::{on_deep_stack, schedule};
-
-/// The program, if it has been built.
-fn program() -> Option<PathBuf> {
-    let path = Path::new(env!("CARGO_MANIFEST_DIR")).join("../target/bin/labs_show");
-    path.exists().then_some(path)
-}
 
 /// What the program prints; its status is 0.
 fn printed(program: &Path, input: &[u8]) -> Vec<u8> {
@@ -79,11 +74,7 @@ fn inputs() -> Vec<Vec<u8>> {
 
 #[test]
 fn labs_show_prints_what_the_reference_prints() {
-    let Some(program) = program() else {
-        // Past the capture of tests, so that it is seen.
-        writeln!(stderr(), "skipped: target/bin/labs_show is not built").unwrap();
-        return;
-    };
+    let Some(program) = labs_show() else { return };
     on_deep_stack(move || {
         for (index, input) in inputs().iter().enumerate() {
             let (proved, expected) = (printed(&program, input), show(input));

@@ -8,7 +8,8 @@ use std::os::unix::fs::{symlink, PermissionsExt};
 use std::path::{Path, PathBuf};
 use std::process::{Command, Output, Stdio};
 
-use conformance::page::{block, bytes, commands, labs_show, root, text};
+use conformance::page::{block, bytes, commands, root, text};
+use conformance::program::labs_show;
 use reference::generate::edges;
 use reference::generate::fleets::{accepted, Scale};
 use reference::generate::schedules::mostly_enabled;

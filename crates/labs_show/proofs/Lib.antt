@@ -1,2 +1,4 @@
 pub mod Rehearsals
+pub mod Shown
 pub mod Enough
+pub mod Printed

@@ -24,7 +24,7 @@ use Rattle.machine.specs.declared.Loaded.the-variants.{Done as LoadDone, Refuse
 use Rattle.machine.specs.declared.Ran.{Ran}
 use Rattle.machine.specs.declared.Ran.the-variants.{Refused as RunRefused}
 use Rattle.machine.specs.Answers.{loadCheck, runCheck, Loads, Runs}
-use Rattle.labs_show.specs.Lines.{Fleet}
+use Rattle.lines.specs.Writing.{Fleet}
 use Rattle.labs_show.specs.Rehearsal.{rehearsed, Rehearses}
 
 run-passes : (table was : List ℕ) (scratch : ℕ) (schedule answers : List ℕ) → runOf table was scratch schedule answers .check ≡ passes

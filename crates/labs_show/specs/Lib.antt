@@ -1,3 +1,3 @@
 pub mod Input
 pub mod Rehearsal
-pub mod Lines
+pub mod Printed

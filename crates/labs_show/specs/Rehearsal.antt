@@ -11,7 +11,7 @@ use Rattle.machine.specs.declared.Ran.{Ran}
 use Rattle.machine.specs.declared.Ran.the-variants.{Done}
 use Rattle.machine.specs.Answers.{Runs}
 use Rattle.labs_show.specs.Input.{tableEnd}
-use Rattle.labs_show.specs.Lines.{Fleet}
+use Rattle.lines.specs.Writing.{Fleet}
 
 -- a refused load is the whole answer, and changes nothing
 unfoldable pub rehearsed : List ℕ → List ℕ → List ℕ → ℕ → List ℕ → Rehearsal
@@ -25,7 +25,7 @@ rehearsed table schedule was scratch answers =
 abbrev pub rehearsedInput : List ℕ → List ℕ → ℕ → List ℕ → Rehearsal
 rehearsedInput input = rehearsed (take (tableEnd input) input) (drop (tableEnd input) input)
 
--- the answer, the state and the answer bytes are those of a rehearsal; where it is done, the state is one that can be printed
+-- the answer, the state and the answer bytes are those of a rehearsal; where it is done, the state can be printed
 pub record Rehearses (o : Rehearsal) (r : Ran) (after bytes : List ℕ) : Type 0 where
   pub runs : Runs o r after bytes
   pub fleet : (counts : Totals) → r ≡ Done counts → Fleet after

@@ -1,7 +1,14 @@
-// The input's table and schedule; load, then run.
+// The input's table and schedule; load, then run; and what is printed of that.
+use lines::refused_line;
+use lines::state_lines;
+use lines::totals_line;
 use machine::Loaded;
 use machine::Ran;
+ghost use Prim.Native.Nat.{_≤_};
 ghost use lib.ListN.{length};
+ghost use Rattle.lines.specs.Lines.{shown};
+ghost use Rattle.lines.specs.Sizes.{shownBytes};
+ghost use Rattle.lines.specs.Writing.{Wrote};
 ghost use Rattle.labs_show.specs.Input.{TableEnd};
 ghost use Rattle.labs_show.specs.Rehearsal.{Rehearses, rehearsed, rehearsedInput};
 
@@ -38,14 +45,30 @@ fn rehearse(
 }
 
 // The same for a table and a schedule that stand one after the other.
-pub fn rehearse_input(
-    input: &[u8],
-    state: &mut [u32],
-    scratch: &mut [u32],
-    answers: &mut [u8],
-) -> Ran
+fn rehearse_input(input: &[u8], state: &mut [u32], scratch: &mut [u32], answers: &mut [u8]) -> Ran
     ensures { λ r. ⌜ Rehearses (rehearsedInput (now (input .entry)) (now (state .entry)) (length (now (scratch .entry))) (now (answers .entry))) r (now (state .exit)) (now (answers .exit)) ⌝ }
 {
     let end = table_end(input);
     rehearse(&input[..end], &input[end..], state, scratch, answers)
+}
+
+// Its lines, at the start of a buffer; answers how many bytes there are.
+pub fn show_rehearsal(
+    input: &[u8],
+    state: &mut [u32],
+    scratch: &mut [u32],
+    answers: &mut [u8],
+    out: &mut [u8],
+) -> usize
+    requires { ⌜ shownBytes ≤ length (now out) ⌝ }
+    ensures { λ r. ⌜ Wrote (shown (rehearsedInput (now (input .entry)) (now (state .entry)) (length (now (scratch .entry))) (now (answers .entry)))) 0 (now (out .entry)) (now (out .exit)) r ⌝ }
+{
+    let ran = rehearse_input(input, state, scratch, answers);
+    match ran {
+        Ran::Done(totals) => {
+            let next = totals_line(totals, out, 0);
+            state_lines(state, out, next)
+        }
+        Ran::Refused(number, place) => refused_line(number, place, out, 0),
+    }
 }

@@ -1,0 +1,47 @@
+-- `lines::rows::attribute_line` meets its contract.
+-- Assumes nothing.
+use native.Mathlib.Omega.{arith}
+use Rattle.lines.specs.Text.{line, spaced}
+use Rattle.lines.specs.Lines.{attributeLine}
+use Rattle.lines.proofs.Writing.{wrote-then, line-size}
+use borrow.Author.Needs.{needs}
+use Rattle.lines.proofs.rows.attribute_line.Statement.{statement}
+use Rattle.lines.proofs.rows.attribute_line.Tie as tie
+
+slice-aggregate-put-named : tie.Need-slice-aggregate-put-named
+slice-aggregate-put-named c = search needs
+
+put-named-requires : tie.Need-put-named-requires
+unfolding attributeLine
+put-named-requires c κs = let h = simp line-size at (c .before .before .before .pre .fits) in omega arith
+
+put-number-requires : tie.Need-put-number-requires
+unfolding attributeLine
+put-number-requires c κs = let h = simp line-size at (c .before .before .before .before .before .before .before .pre .fits) in omega arith
+
+put-value-requires : tie.Need-put-value-requires
+unfolding attributeLine
+put-value-requires c κs = let h = simp line-size at (c .before .before .before .before .before .before .before .before .before .before .before .pre .fits) in omega arith
+
+end-line-requires : tie.Need-end-line-requires
+unfolding attributeLine
+end-line-requires c κs = let h = simp line-size at (c .before .before .before .before .before .before .before .before .before .before .before .before .before .before .before .pre .fits) in omega arith
+
+same-length : tie.Need-same-length
+same-length c = search needs
+
+returns : tie.Need-returns
+unfolding attributeLine line spaced
+returns c = wrote-then (c .before .before .before .before .before .before .before .before .before .before .before .before .before .before .put-named .ensures) (wrote-then (c .before .before .before .before .before .before .before .before .before .before .put-number .ensures) (wrote-then (c .before .before .before .before .before .before .put-value .ensures) (c .before .before .end-line .ensures)))
+
+pub attribute-line-spec : {M : Type 1} → statement M
+attribute-line-spec =
+    tie.close
+    (tie.spec
+    slice-aggregate-put-named
+    put-named-requires
+    put-number-requires
+    put-value-requires
+    end-line-requires
+    same-length
+    returns)

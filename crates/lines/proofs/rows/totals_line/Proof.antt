@@ -1,0 +1,55 @@
+-- `lines::rows::totals_line` meets its contract.
+-- Assumes nothing.
+use native.Mathlib.Omega.{arith}
+use Rattle.lines.specs.Text.{line, spaced}
+use Rattle.lines.specs.Lines.{totalsLine}
+use Rattle.lines.proofs.Writing.{wrote-then, line-size}
+use borrow.Author.Needs.{needs}
+use Rattle.lines.proofs.rows.totals_line.Statement.{statement}
+use Rattle.lines.proofs.rows.totals_line.Tie as tie
+
+slice-aggregate-put-named : tie.Need-slice-aggregate-put-named
+slice-aggregate-put-named c = search needs
+
+put-named-requires : tie.Need-put-named-requires
+unfolding totalsLine
+put-named-requires c κs = let h = simp line-size at (c .before .before .before .before .pre .fits) in omega arith
+
+slice-aggregate-put-named-2 : tie.Need-slice-aggregate-put-named-2
+slice-aggregate-put-named-2 c = search needs
+
+put-named-requires-2 : tie.Need-put-named-requires-2
+unfolding totalsLine
+put-named-requires-2 c κs = let h = simp line-size at (c .before .before .before .before .before .before .before .before .before .pre .fits) in omega arith
+
+slice-aggregate-put-named-3 : tie.Need-slice-aggregate-put-named-3
+slice-aggregate-put-named-3 c = search needs
+
+put-named-requires-3 : tie.Need-put-named-requires-3
+unfolding totalsLine
+put-named-requires-3 c κs = let h = simp line-size at (c .before .before .before .before .before .before .before .before .before .before .before .before .before .before .pre .fits) in omega arith
+
+end-line-requires : tie.Need-end-line-requires
+unfolding totalsLine
+end-line-requires c κs = let h = simp line-size at (c .before .before .before .before .before .before .before .before .before .before .before .before .before .before .before .before .before .before .pre .fits) in omega arith
+
+same-length : tie.Need-same-length
+same-length c = search needs
+
+returns : tie.Need-returns
+unfolding totalsLine line spaced
+returns c = wrote-then (c .before .before .before .before .before .before .before .before .before .before .before .before .before .before .before .before .put-named .ensures) (wrote-then (c .before .before .before .before .before .before .before .before .before .before .before .put-named2 .ensures) (wrote-then (c .before .before .before .before .before .before .put-named3 .ensures) (c .before .before .end-line .ensures)))
+
+pub totals-line-spec : {M : Type 1} → statement M
+totals-line-spec =
+    tie.close
+    (tie.spec
+    slice-aggregate-put-named
+    put-named-requires
+    slice-aggregate-put-named-2
+    put-named-requires-2
+    slice-aggregate-put-named-3
+    put-named-requires-3
+    end-line-requires
+    same-length
+    returns)

@@ -1,0 +1,86 @@
+-- `lines::stores::value_line` meets its contract.
+-- Assumes nothing.
+use Prim.Native.Nat.{ℕ}
+use mathlib.Core.Path.{_≡_, sym, ap, subst, _∙_}
+use mathlib.Core.List.{List}
+use denote.Ref.{now}
+use Rattle.state.specs.declared.Store.{Store}
+use Rattle.state.specs.declared.Entry.{Entry}
+use Rattle.state.specs.Layout.{stampOf}
+use Rattle.state.specs.Entries.{entryOf}
+use Rattle.state.specs.Standing.{Pair}
+use Rattle.lines.specs.Lines.{entryLine, valueLine}
+use Rattle.lines.proofs.Writing.{room-same, wrote-same}
+use borrow.Author.Needs.{needs}
+use Rattle.lines.proofs.stores.value_line.Statement.{statement}
+use Rattle.lines.proofs.stores.value_line.Tie as tie
+
+module _ (s : List ℕ) (key word : ℕ) where
+  of : {store x : Store} → store ≡ x → valueLine s store key word ≡ valueLine s x key word
+  of e = ap (λ (y : Store). valueLine s y key word) e
+
+  stamped : (a : ℕ) {e : Entry} → e ≡ entryOf s a key → entryLine a key word (stampOf s a key) ≡ entryLine a key word (e .stamp)
+  stamped a f = ap (λ (x : Entry). entryLine a key word (x .stamp)) (sym f)
+
+enum-told : tie.Need-enum-told
+enum-told c = search needs
+
+environment-line-requires : tie.Need-environment-line-requires
+unfolding valueLine
+environment-line-requires c κs = let a = c .before .before .before .before .before .args in room-same (of (now (a .state)) (a .key) (a .word) (c .before .enum-told .given .1)) (c .before .before .before .before .before .pre .2)
+
+enum-known-store : tie.Need-enum-known-store
+enum-known-store c = search needs
+
+attribute-line-requires : tie.Need-attribute-line-requires
+unfolding valueLine
+attribute-line-requires c κs = let a = c .before .before .before .before .before .before .args in room-same (of (now (a .state)) (a .key) (a .word) (c .before .before .store .given .1)) (c .before .before .before .before .before .before .pre .2)
+
+enum-known-store-2 : tie.Need-enum-known-store-2
+enum-known-store-2 c = search needs
+
+entry-of-requires : tie.Need-entry-of-requires
+entry-of-requires c κs = (c .before .before .before .before .before .pre .0, subst (λ (s : Store). Pair s (c .before .before .before .before .before .args .key)) (c .before .store2 .given .1) (c .before .before .before .before .before .pre .1))
+
+entry-line-requires : tie.Need-entry-line-requires
+unfolding valueLine
+entry-line-requires c κs = let a = c .before .before .before .before .before .before .before .args in room-same (of (now (a .state)) (a .key) (a .word) (c .before .before .before .store2 .given .1) ∙ stamped (now (a .state)) (a .key) (a .word) _ (c .before .entry-of .ensures)) (c .before .before .before .before .before .before .before .pre .2)
+
+same-length : tie.Need-same-length
+same-length c = search needs
+
+returns : tie.Need-returns
+unfolding valueLine
+returns c = let a = c .before .before .before .before .before .before .before .before .args in wrote-same (sym (of (now (a .state)) (a .key) (a .word) (c .before .before .before .before .enum-told .given .1))) (c .before .before .environment-line .ensures)
+
+same-length-2 : tie.Need-same-length-2
+same-length-2 c = search needs
+
+returns-2 : tie.Need-returns-2
+unfolding valueLine
+returns-2 c = let a = c .before .before .before .before .before .before .before .before .before .args in wrote-same (sym (of (now (a .state)) (a .key) (a .word) (c .before .before .before .before .before .store .given .1))) (c .before .before .attribute-line .ensures)
+
+same-length-3 : tie.Need-same-length-3
+same-length-3 c = search needs
+
+returns-3 : tie.Need-returns-3
+unfolding valueLine
+returns-3 c = let a = c .before .before .before .before .before .before .before .before .before .before .args in wrote-same (sym (of (now (a .state)) (a .key) (a .word) (c .before .before .before .before .before .before .store2 .given .1) ∙ stamped (now (a .state)) (a .key) (a .word) _ (c .before .before .before .before .entry-of .ensures))) (c .before .before .entry-line .ensures)
+
+pub value-line-spec : {M : Type 1} → statement M
+value-line-spec =
+    tie.close
+    (tie.spec
+    enum-told
+    environment-line-requires
+    enum-known-store
+    attribute-line-requires
+    enum-known-store-2
+    entry-of-requires
+    entry-line-requires
+    same-length
+    returns
+    same-length-2
+    returns-2
+    same-length-3
+    returns-3)

@@ -1,0 +1,41 @@
+-- `lines::text::put_decimal` meets its contract.
+-- Assumes nothing.
+use mathlib.Core.Path.{sym, _∙_}
+use borrow.Author.Needs.{needs}
+use Rattle.lines.proofs.Writing.{room-same, wrote-same}
+use Rattle.lines.proofs.Decimal.{decimal-is}
+use Rattle.lines.proofs.text.put_decimal.Statement.{statement}
+use Rattle.lines.proofs.text.put_decimal.Tie as tie
+
+decimal-requires : tie.Need-decimal-requires
+decimal-requires c κs = search needs
+
+array-share-prefix-digits : tie.Need-array-share-prefix-digits
+array-share-prefix-digits c = search needs
+
+slice-aggregate-put : tie.Need-slice-aggregate-put
+slice-aggregate-put c = search needs
+
+put-requires : tie.Need-put-requires
+put-requires c κs =
+    let d = c .before .before .decimal in
+    room-same (sym (d .ensures .1 .1 ∙ decimal-is (c .before .before .before .before .before .args .n) (d .result) (d .ensures .1 .0))) (c .before .before .before .before .before .pre)
+
+same-length : tie.Need-same-length
+same-length c = search needs
+
+returns : tie.Need-returns
+returns c =
+    let d = c .before .before .before .before .before .decimal in
+    wrote-same (d .ensures .1 .1 ∙ decimal-is (c .before .before .before .before .before .before .before .before .args .n) (d .result) (d .ensures .1 .0)) (c .before .before .put .ensures)
+
+pub put-decimal-spec : {M : Type 1} → statement M
+put-decimal-spec =
+    tie.close
+    (tie.spec
+    decimal-requires
+    array-share-prefix-digits
+    slice-aggregate-put
+    put-requires
+    same-length
+    returns)
