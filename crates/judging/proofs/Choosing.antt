@@ -17,7 +17,7 @@ use Rattle.term.specs.Accepted.{Labelled}
 use Rattle.term.proofs.Inside.{Inside}
 use Rattle.choice.specs.declared.Effect.{Effect}
 use Rattle.choice.specs.Marking.{Marked}
-use Rattle.choice.specs.Outcomes.{Tells}
+use Rattle.choice.specs.Outcomes.{Tells, Walked}
 use Rattle.choice.specs.Turns.{Prepared}
 use Rattle.residual.specs.declared.Choices.{Choices}
 use Rattle.residual.specs.Wholes.{Whole, Taking, Offered, residualTerm}
@@ -123,26 +123,25 @@ module _ {t : Table} {scratch was : List ℕ} {x : ℕ} {ws : List ℕ} (given :
     inside : Inside t (chosen t was x c)
     inside = chosen-inside t was x (given .ready .checked .sound) (formed .over) c (takes .choice)
 
-    module _ {ms out : List ℕ} (unmarked : Unmarked t ms) (marked : Marked t (derivationAt (process t (residualTerm ws)) c .guards) ms out) where
+    module _ {ms out : List ℕ} (unmarked : Unmarked t ms) {limit : ℕ} {o : Effect} (walked : Walked t (derivationAt (process t (residualTerm ws)) c) limit ms o out) where
       pub agent-guards : GuardsGiven t was x out
-      agent-guards = record { situated = situated; room = marked .marks .room }
+      agent-guards = record { situated = situated; room = walked .marked .marks .room }
+
+      pub agent-doing : Doing t was x (o .label)
+      agent-doing =
+          record {
+            situated = situated;
+            labelled = subst (Labelled t) (sym (walked .tells .label ∙ ap (λ (d : Derivation). d .label) taken-is)) (inside .label);
+          }
 
       guards : GuardsMarked t (chosen t was x c .guards) out
-      guards = collected t (chosen t was x c .guards) ms out (inside .guards) unmarked (subst (λ (d : Derivation). Marked t (d .guards) ms out) taken-is marked)
+      guards = collected t (chosen t was x c .guards) ms out (inside .guards) unmarked (subst (λ (d : Derivation). Marked t (d .guards) ms out) taken-is (walked .marked))
 
       module _ (held : Bool) (asked : (gs : List ℕ) → GuardsMarked t gs out → held ≡ allHold t was x gs) where
         pub agent-14 : held ≡ false → Judges t was x c out (Refused 14)
         agent-14 e = judges-14 t was x c (given .confirmed) (given .propagated) (takes .few) (takes .choice) (sym (asked (chosen t was x c .guards) guards) ∙ e) out
 
-        pub agent-last : held ≡ true → {limit : ℕ} (o : Effect) → Tells (derivationAt (process t (residualTerm ws)) c) limit o
-            → (r : Judgement) → Ended t was x (o .label) (o .size) r → Judges t was x c out r
-        agent-last e {limit} o tells =
+        pub agent-last : held ≡ true → (r : Judgement) → Ended t was x (o .label) (o .size) r → Judges t was x c out r
+        agent-last e =
             judges-last t was x c (given .confirmed) (given .propagated) (takes .few) (takes .choice) (sym (asked (chosen t was x c .guards) guards) ∙ e) out guards o
-            (subst (λ (d : Derivation). Tells d limit o) taken-is tells)
-
-    pub agent-doing : {limit : ℕ} (o : Effect) → Tells (derivationAt (process t (residualTerm ws)) c) limit o → Doing t was x (o .label)
-    agent-doing o tells =
-        record {
-          situated = situated;
-          labelled = subst (Labelled t) (sym (tells .label ∙ ap (λ (d : Derivation). d .label) taken-is)) (inside .label);
-        }
+            (subst (λ (d : Derivation). Tells d limit o) taken-is (walked .tells))

@@ -4,7 +4,6 @@ use crate::guards::all_hold;
 use crate::outcomes::judge_outcome;
 use residual::choosing::collect;
 use residual::choosing::count_choices;
-use residual::choosing::outcome;
 use state::length_at;
 use state::residual_at;
 use state::zc_at;
@@ -41,11 +40,10 @@ fn judge_choice(
     if all.count <= c {
         return Judgement::Refused(13);
     }
-    collect(sizes, kinds, operands, scratch, marks, words, c);
+    let o = collect(sizes, kinds, operands, scratch, marks, words, c);
     if !all_hold(sizes, kinds, operands, state, marks, agent) {
         return Judgement::Refused(14);
     }
-    let o = outcome(sizes, kinds, operands, scratch, words, c);
     judge_outcome(sizes, kinds, operands, state, agent, o)
 }
 

@@ -54,21 +54,19 @@ returns-3 c =
     let h = c .before .all-hold in
     agent-14 (a .pre .0) (a .args .c) (taking (c .before .before .before .before .before .before .before)) (a .pre .1) (c .before .before .before .before .before .collect .ensures) (h .result) (h .ensures) (not-true (h .result) (c .if3 .taken))
 
-outcome-requires : tie.Need-outcome-requires
-outcome-requires c κs = let a = c .before .before .before .before .before .before .before .before .before .before .before .before .before .before .before .before .before .before in (a .pre .0 .ready, (whole-residual (a .pre .0), taking (c .before .before .before .before .before .before .before)))
-
 judge-outcome-requires : tie.Need-judge-outcome-requires
-judge-outcome-requires c κs = let a = c .before .before .before .before .before .before .before .before .before .before .before .before .before .before .before .before .before .before .before in agent-doing (a .pre .0) (a .args .c) (taking (c .before .before .before .before .before .before .before .before)) (c .outcome .result) (c .outcome .ensures)
+judge-outcome-requires c κs =
+    let a = c .before .before .before .before .before .before .before .before .before .before .before .before .before .before .before .before .before .before in
+    agent-doing (a .pre .0) (a .args .c) (taking (c .before .before .before .before .before .before .before)) (a .pre .1) (c .before .before .before .before .before .collect .ensures)
 
 same-length-2 : tie.Need-same-length-2
 same-length-2 c = search needs
 
 returns-4 : tie.Need-returns-4
 returns-4 c =
-    let a = c .before .before .before .before .before .before .before .before .before .before .before .before .before .before .before .before .before .before .before .before in
-    let h = c .before .before .before .all-hold in
-    let o = c .before .outcome in
-    agent-last (a .pre .0) (a .args .c) (taking (c .before .before .before .before .before .before .before .before .before)) (a .pre .1) (c .before .before .before .before .before .before .before .collect .ensures) (h .result) (h .ensures) (not-false (h .result) (c .before .before .if3 .left)) (o .result) (o .ensures) (c .judge-outcome .result) (c .judge-outcome .ensures)
+    let a = c .before .before .before .before .before .before .before .before .before .before .before .before .before .before .before .before .before .before .before in
+    let h = c .before .before .all-hold in
+    agent-last (a .pre .0) (a .args .c) (taking (c .before .before .before .before .before .before .before .before)) (a .pre .1) (c .before .before .before .before .before .before .collect .ensures) (h .result) (h .ensures) (not-false (h .result) (c .before .if3 .left)) (c .judge-outcome .result) (c .judge-outcome .ensures)
 
 pub judge-choice-spec : {M : Type 1} → statement M
 judge-choice-spec =
@@ -81,7 +79,6 @@ judge-choice-spec =
     all-hold-requires
     same-length
     returns-3
-    outcome-requires
     judge-outcome-requires
     same-length-2
     returns-4)
