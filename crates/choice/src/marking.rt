@@ -144,7 +144,12 @@ pub fn mark_node(
                     Side::After { tick } => mark_tick(sizes, kinds, operands, scratch, marks, tick),
                 }
                 size += kept_words(kept);
-                at = next;
+                let mode = next.mode;
+                at = Goal {
+                    node: next.node,
+                    mode,
+                    choice: next.choice,
+                };
             }
         }
     }
