@@ -144,6 +144,7 @@ pub fn mark_node(
                     Side::After { tick } => mark_tick(sizes, kinds, operands, scratch, marks, tick),
                 }
                 size += kept_words(kept);
+                // field by field: a copy of the whole waits until each part is stored
                 let mode = next.mode;
                 at = Goal {
                     node: next.node,

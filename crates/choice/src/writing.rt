@@ -74,6 +74,7 @@ pub fn write_node(
             Turn::End { word, .. } => return put_last(words, rest, word),
             Turn::On { next, kept, .. } => {
                 rest = put_kept(words, rest, kept);
+                // field by field: a copy of the whole waits until each part is stored
                 let mode = next.mode;
                 at = Goal {
                     node: next.node,

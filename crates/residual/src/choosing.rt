@@ -63,10 +63,9 @@ pub fn collect(
         let step = step_at(roots, scratch, words, target);
         match step {
             Step::Ticked => {
-                return Effect {
-                    label: Label::Ticking,
-                    size: 1 + more,
-                };
+                let label = Label::Ticking;
+                let size = 1 + more;
+                return Effect { label, size };
             }
             Step::Leaf { goal } => {
                 let o = mark_node(sizes, kinds, operands, scratch, marks, goal);

@@ -97,8 +97,8 @@ step-at-requires c κs =
 enum-told : tie.Need-enum-told Inv-loop μ-loop
 enum-told c = c .match .keys1
 
-add-t19 : tie.Need-add-t19 Inv-loop μ-loop
-add-t19 c = let z = c .before .before in omega (arith, inv z .bound, room z)
+add-size : tie.Need-add-size Inv-loop μ-loop
+add-size c = let z = c .before .before in omega (arith, inv z .bound, room z)
 
 same-length : tie.Need-same-length Inv-loop μ-loop
 same-length c = inv (c .before .before) .marked .same
@@ -180,7 +180,7 @@ collect-spec =
     loop-holds
     step-at-requires
     enum-told
-    add-t19
+    add-size
     same-length
     returns
     enum-known-step
