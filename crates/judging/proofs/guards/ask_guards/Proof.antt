@@ -63,7 +63,8 @@ returns-2 c gs m =
 
 keys-read-requires : tie.Need-keys-read-requires Inv-loop μ-loop
 keys-read-requires c κs =
-    (c .before .before .before .before .before .before .before .before .before .before .pre .situated .shaped, c .before .before .before .before .before .loop .inv .1 .small (omega arith))
+    let a = c .before .before .before .before .before .before .before .before .before .before in
+    (a .pre .situated .shaped, omega (arith, c .before .before .before .before .before .loop .inv .1 .small (omega arith)))
 
 add-n : tie.Need-add-n Inv-loop μ-loop
 add-n c = search needs
