@@ -1,4 +1,4 @@
-// The keys that Zc gains: those that the guards and the action's expression read, of which only those count that have an entry.
+// The keys that Zc gains: those that the guards and the action's expression read and that have an entry.
 use basis::has;
 use basis::plus;
 use evaluation::keys_read;

@@ -26,7 +26,7 @@ fn set_zc(state: &mut [u32], agent: usize, keys: u32)
     state[at] = keys;
 }
 
-// Choice c of an agent is done, as it was judged: what it does, the word that it sets, and the keys that its guards read are given.
+// Choice c of an agent is done, as it was judged: what it does, the word that it sets, the keys that its guards read.
 pub fn perform(
     sizes: Sizes,
     kinds: &[u8],

@@ -24,8 +24,8 @@ kept-most Nothing = omega arith
 kept-most (Right w n) = omega arith
 kept-most (Left n) = omega arith
 
--- a walk from goal f has come to goal g, and its marks from ms to vs: what is done is the same, so many words are left, with the last
--- one, and the guards passed are marked
+-- a walk from goal f has come to goal g, and its marks from ms to vs: what is done is the same, so many words are
+-- left, with the last one, and the guards passed are marked
 pub record Toward (t : Table) (f : Goal) (ms : List ℕ) (g : Goal) (size : ℕ) (vs : List ℕ) : Type 0 where
   pub reached : Reached t g
   pub label : chosenAt t f .label ≡ chosenAt t g .label

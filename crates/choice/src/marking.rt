@@ -78,7 +78,8 @@ fn only_tick(mode: Mode, c: Counts) -> bool
     }
 }
 
-// Marks the guards of a tick that joins, and of those that join it. A node whose only tick has been walked is marked, and not walked again.
+// Marks the guards of a tick that joins, with those of each tick that joins it. A node whose only tick has been
+// walked is marked, and not walked again.
 pub fn mark_tick(
     sizes: Sizes,
     kinds: &[u8],
@@ -117,7 +118,8 @@ pub fn mark_tick(
     }
 }
 
-// Marks the guards step by step, with those of each tick that joins, and tells what is done and how many words are left.
+// Marks the guards step by step, with those of each tick that joins, and tells what is done and how many words are
+// left.
 pub fn mark_node(
     sizes: Sizes,
     kinds: &[u8],

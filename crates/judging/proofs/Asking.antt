@@ -67,7 +67,7 @@ module _ (p : ℕ → Bool) (f : List ℕ → Bool) (none : f [] ≡ false) (mor
       ⊎-elim (λ (d : p g ≡ true). (g, or-left (eqb g g) (isIn g gs) (eq-eqb g g refl), d))
       (λ (d : f gs ≡ true). let w = one-of gs d in (w .0, or-right (eqb (w .0) g) (isIn (w .0) gs) (w .1), w .2)) (or-either (p g) (f gs) (sym (more g gs) ∙ e))
 
-  pub some-marked : {t : Table} {gs ms : List ℕ} → GuardsMarked t gs ms → (n : ℕ) → t .sizes .nodes ≤ n → someBelow (λ (b : ℕ). markedGuard (t .kinds) ms b && p b) n ≡ f gs
+  some-marked : {t : Table} {gs ms : List ℕ} → GuardsMarked t gs ms → (n : ℕ) → t .sizes .nodes ≤ n → someBelow (λ (b : ℕ). markedGuard (t .kinds) ms b && p b) n ≡ f gs
   some-marked {t} {gs} {ms} marks n h =
       same-test (someBelow both n) (f gs)
       (λ e.

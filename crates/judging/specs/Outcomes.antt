@@ -20,7 +20,7 @@ abbrev pub wordFor : Table → List ℕ → ℕ → Label → ℕ
 wordFor t was x Ticking = 0
 wordFor t was x (Acting n) = wordIn (valueFor t was x n)
 
--- what is found of an act of agent x, whose guards read these keys: what its checks come to in each case, and what it does
+-- what is found of an act of agent x whose guards read these keys: what its checks come to, and what it does
 abbrev pub Found : Table → List ℕ → ℕ → Label → ℕ → Check → Judgement → Type 0
 Found t was x label keys check (Refused number) = check ≡ refuses number 0
 Found t was x label keys check (Allowed does word read) = (check ≡ passes) × (does ≡ label) × (word ≡ wordFor t was x label) × (read ≡ keys)

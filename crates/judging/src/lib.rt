@@ -6,7 +6,8 @@ mod outcomes; // outcomes.rt: 15 to 17
 pub use acts::judge;
 use term::Label;
 
-// What is found of an act: the refusal, or what it does, the word that it sets (0 for a tick) and the stigmergy keys that its guards read.
+// What is found of an act: the refusal, or what it does, the word that it sets (0 for a tick) and the stigmergy keys
+// that its guards read.
 pub enum Judgement {
     Refused(u8),
     Allowed { label: Label, value: u32, keys: u32 },

@@ -2,7 +2,7 @@
 -- Assumes nothing.
 use Prim.Native.Nat.{ℕ, _+_, _-_, _≤_}
 use mathlib.Core.Path.{_≡_, sym, ap, _∙_}
-use mathlib.Core.List.{List, [], _++_, append-assoc, append-nil}
+use mathlib.Core.List.{List, _++_, append-assoc, append-nil}
 use native.Mathlib.Omega.{arith}
 use lib.ListN.{length}
 use Rattle.table.specs.Tables.{Table}
@@ -19,8 +19,8 @@ use Rattle.residual.specs.declared.Target.{Target}
 use Rattle.residual.specs.Steps.{going, Part, Acting, Joining, Stands}
 use Rattle.residual.proofs.Standing.{part-size, part-stands}
 
--- the walk to derivation d has come to a target, and its marks from ms to vs: d does what that does, leaves so many words more, and the
--- guards passed are marked
+-- the walk to derivation d has come to a target, and its marks from ms to vs: d does what that does, leaves so many
+-- words more, and the guards passed are marked
 pub record Toward (t : Table) (ws : List ℕ) (d : Derivation) (ms : List ℕ) (g : Target) (more : ℕ) (vs : List ℕ) : Type 0 where
   pub term : Term
   pub stands : Stands t term g ws

@@ -56,7 +56,7 @@ module _ (t : Table) (s : List ℕ) (ready : Prepared t s) (at : ℕ) (ws : List
       }
 
   module _ (c : ℕ) (k : Taking t (residualTerm (drop at ws)) c) where
-    pub stands-whole : Stands t (residualTerm (drop at ws)) (wholeOf at c) ws
+    stands-whole : Stands t (residualTerm (drop at ws)) (wholeOf at c) ws
     stands-whole =
         record {
           choosable = record { over = read .0; few = k .few; choice = subst (λ (n : ℕ). c < n) (length-derivations (process t T)) (k .choice) };
@@ -64,7 +64,7 @@ module _ (t : Table) (s : List ℕ) (ready : Prepared t s) (at : ℕ) (ws : List
         }
 
     -- a walk begins at it
-    pub chosen : derivationAt (process t (residualTerm (drop at ws))) c ≡ going t (residualTerm (drop at ws)) (wholeOf at c)
+    chosen : derivationAt (process t (residualTerm (drop at ws))) c ≡ going t (residualTerm (drop at ws)) (wholeOf at c)
     chosen = sym (chosen-any (process t T) c)
 
     pub toward-whole : (ms : List ℕ) → WalkMarks t ms → Toward t ws (derivationAt (process t (residualTerm (drop at ws))) c) ms (wholeOf at c) 0 ms

@@ -1,4 +1,4 @@
-// What is asked of a residual: its choices, the guards of a choice and what it does, and what it leaves in the residual's place.
+// What is asked of a residual: its choices, a choice's guards and what it does, and what it leaves in its place.
 use crate::Choices;
 use crate::Cursor;
 use crate::Step;

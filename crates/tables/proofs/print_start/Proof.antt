@@ -3,7 +3,6 @@
 use mathlib.Core.Path.{sym, _∙_}
 use native.Mathlib.Omega.{arith}
 use denote.Ref.{now}
-use lib.ListN.{replicate}
 use borrow.Author.Tests.{not-false}
 use Rattle.table.specs.Tables.{table}
 use Rattle.choice.proofs.Collecting.{marks-zeros}

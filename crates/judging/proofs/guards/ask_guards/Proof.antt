@@ -1,4 +1,5 @@
--- `judging::guards::ask_guards` meets its contract. The loop's invariant: no marked guard before n fails, and the keys are those that they read.
+-- `judging::guards::ask_guards` meets its contract. The loop's invariant: no marked guard before n fails, and the keys
+-- are those that they read.
 -- Assumes nothing.
 use Prim.Native.Nat.{ℕ, _-_, _<_}
 use mathlib.Core.Bool.{Bool, false, not}
