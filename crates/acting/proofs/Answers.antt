@@ -22,8 +22,8 @@ module _ (t : Table) (was : List ℕ) (x c : ℕ) where
   abbrev done : List ℕ
   done = acted t was x (chosen t was x c)
 
-  pub refused-acts : {marks : List ℕ} {number : ℕ} → Judges t was x c marks (Refused number) → Acts t was x c (ActRefused number) was
-  refused-acts j = record { check = sym (j .is); state = sym (ap (λ (o : Outcome). o .state) (outcome-refused was noTally done check (j .is))) }
+  pub refused-acts : {number : ℕ} → Judges t was x c (Refused number) → Acts t was x c (ActRefused number) was
+  refused-acts j = record { check = sym j; state = sym (ap (λ (o : Outcome). o .state) (outcome-refused was noTally done check j)) }
 
-  pub allowed-acts : {marks : List ℕ} {label : Label} {v : ℕ} → Judges t was x c marks (Allowed label v) → (s : List ℕ) → s ≡ done → Acts t was x c ActDone s
-  allowed-acts j s f = record { check = sym (j .is .0); state = f ∙ sym (ap (λ (o : Outcome). o .state) (outcome-done was noTally done check (j .is .0))) }
+  pub allowed-acts : {label : Label} {v keys : ℕ} → Judges t was x c (Allowed label v keys) → (s : List ℕ) → s ≡ done → Acts t was x c ActDone s
+  allowed-acts j s f = record { check = sym (j .0); state = f ∙ sym (ap (λ (o : Outcome). o .state) (outcome-done was noTally done check (j .0))) }

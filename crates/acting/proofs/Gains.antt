@@ -1,28 +1,23 @@
 -- The keys that an act's guards and expression read, and those of them that Zc gains.
 -- Assumes nothing.
-use Prim.Native.Nat.{ℕ, _+_, _^_, _<_, _≤_}
+use Prim.Native.Nat.{ℕ, _+_, _^_, _<_}
 use mathlib.Core.Bool.{Bool, cond, _&&_, _||_}
-use mathlib.Core.Path.{_≡_, refl, sym, ap, ap₂, _∙_}
+use mathlib.Core.Path.{_≡_, sym, ap, ap₂, _∙_}
 use mathlib.Core.List.{List}
 use native.Mathlib.Omega.{arith}
 use lib.Dec.{ltb}
 use Rattle.term.specs.declared.Label.{Label}
 use Rattle.term.specs.declared.Label.the-variants.{Ticking, Acting}
-use Rattle.basis.specs.Numbers.{someBelow}
 use Rattle.basis.specs.KeySets.{has, plus, plusAll}
 use Rattle.basis.proofs.KeySets.{has-nothing, plusAll-more, plusAll-ext}
 use Rattle.table.specs.Tables.{Table, qAt}
-use Rattle.choice.specs.Marking.{markedGuard, Next}
-use Rattle.choice.proofs.Searching.{some-skip, some-next}
 use Rattle.state.specs.declared.Entry.{Entry}
 use Rattle.state.specs.Entries.{entryOf}
 use Rattle.state.specs.Layout.{keyLimit, stampOf}
 use Rattle.state.specs.Evaluation.{reads}
 use Rattle.evaluation.specs.Reading.{Adds}
-use Rattle.evaluation.proofs.Adding.{adds-none, adds-same, adds-both, all-adds}
+use Rattle.evaluation.proofs.Adding.{adds-none, adds-same, all-adds}
 use Rattle.steps.specs.Acts.{guardsRead, labelReads, toConfirm}
-use Rattle.judging.specs.Judging.{GuardsMarked}
-use Rattle.judging.proofs.Asking.{some-marked}
 use Rattle.acting.specs.Gaining.{hasEntry, Gains}
 
 -- one key more of those that have an entry
@@ -30,21 +25,6 @@ pub entry-more : (s : List ℕ) (x keys key found : ℕ) (entry : Entry) (h b : 
     → (h && ltb 0 (entry .stamp)) ≡ b → next ≡ cond b (plus found key) found → next ≡ plusAll (hasEntry s x keys) (key + 1) 0
 entry-more s x keys key found entry h b next e f g i j =
     j ∙ rw (← i, e, f, g) (sym (plusAll-more (hasEntry s x keys) key 0))
-
--- WHAT THE MARKED GUARDS READ
-module _ (t : Table) where
-  -- a marked guard below n reads key k
-  abbrev pub markedReads : List ℕ → ℕ → ℕ → Bool
-  markedReads marks n k = someBelow (λ (b : ℕ). markedGuard (t .kinds) marks b && reads t b k) n
-
-  module _ (marks : List ℕ) {limit n m keys : ℕ} (next : Next (markedGuard (t .kinds) marks) limit n m) (so : Adds (markedReads marks n) 0 keys) where
-    -- one guard more
-    pub reads-more : m < limit → {r : ℕ} → r ≡ plusAll (reads t m) keyLimit keys → Adds (markedReads marks (m + 1)) 0 r
-    reads-more h e = adds-same (λ k. some-next next (λ (b : ℕ). reads t b k) h) (adds-both so (all-adds (so .small (omega arith)) e))
-
-    -- no guard more
-    pub reads-all : t .sizes .nodes ≤ m → (gs : List ℕ) → GuardsMarked t gs marks → Adds (guardsRead t gs) 0 keys
-    reads-all h gs c = adds-same (λ k. sym (some-marked (λ b. reads t b k) (λ gs. guardsRead t gs k) refl (λ g gs. refl) c m h) ∙ some-skip next (λ (b : ℕ). reads t b k)) so
 
 -- WHAT AN ACTION'S EXPRESSION READS
 module _ (t : Table) (label : Label) where
@@ -56,13 +36,13 @@ module _ (t : Table) (label : Label) where
       adds-same (λ k. ap (λ (d : Label). labelReads t d k) e ∙ sym (ap (λ (m : ℕ). reads t m k) f)) (all-adds low a)
 
 -- WHAT ZC GAINS
-pub gains : (t : Table) (was : List ℕ) (x : ℕ) (marks : List ℕ) (label : Label) (v r : ℕ)
-    → ((gs : List ℕ) → GuardsMarked t gs marks → Adds (guardsRead t gs) 0 v) → Adds (labelReads t label) v r
-    → Gains t was x marks label (plusAll (hasEntry was x r) keyLimit 0)
-gains t was x marks label v r a b d e c =
-    plusAll-ext (hasEntry was x r) (toConfirm t was x d) keyLimit 0 (λ k l. ap (λ f. f && ltb 0 (stampOf was x k)) (read k l))
+pub gains : (t : Table) (was : List ℕ) (x : ℕ) (label : Label) (asked r : ℕ) → Adds (labelReads t label) asked r → Gains t was x label asked (plusAll (hasEntry was x r) keyLimit 0)
+gains t was x label asked r a d e c = plusAll-ext (hasEntry was x r) (toConfirm t was x d) keyLimit 0 (λ k l. ap (λ f. f && ltb 0 (stampOf was x k)) (read k l))
   where
+    guards : Adds (guardsRead t (d .guards)) 0 asked
+    guards = all-adds (omega arith) c
+
     read : (k : ℕ) → k < keyLimit → has r k ≡ (guardsRead t (d .guards) k || labelReads t (d .label) k)
     read k l =
-        b .keys k l
-        ∙ ap₂ (λ p q. p || q) (a (d .guards) c .keys k l ∙ ap (λ f. f || guardsRead t (d .guards) k) (has-nothing k)) (ap (λ m. labelReads t m k) e)
+        a .keys k l
+        ∙ ap₂ (λ p q. p || q) (guards .keys k l ∙ ap (λ f. f || guardsRead t (d .guards) k) (has-nothing k)) (ap (λ m. labelReads t m k) e)

@@ -9,6 +9,7 @@ use lib.ListN.{length, set, length-set}
 use borrow.Author.Tests.{eq-eqb}
 use Rattle.basis.specs.KeySets.{plusAll}
 use Rattle.basis.specs.Kinds as kind
+use Rattle.basis.proofs.KeySets.{plusAll-small}
 use Rattle.table.specs.Tables.{Table, kindAt, pAt, firstRoot}
 use Rattle.term.specs.declared.Label.{Label}
 use Rattle.term.specs.declared.Label.the-variants.{Ticking, Acting}
@@ -25,7 +26,7 @@ use Rattle.state.specs.Standing.{HasBlocks}
 use Rattle.state.specs.WellFormed.{Proper}
 use Rattle.state.proofs.Formed.{ResidualFormed, proper-facts, residual-test}
 use Rattle.state.proofs.Keep.{residual-kept}
-use Rattle.steps.specs.Acts.{writesEntry, chosen, toConfirm, storeOf, setKey, leave, acted}
+use Rattle.steps.specs.Acts.{writesEntry, chosen, guardsRead, toConfirm, storeOf, setKey, leave, acted}
 use Rattle.steps.proofs.Steps.{Able, act-able}
 use Rattle.steps.proofs.Acts.{chosen-inside, action-key, set-tick, set-key-other, set-length}
 use Rattle.judging.specs.declared.Judgement.the-variants.{Allowed}
@@ -60,30 +61,36 @@ module _ (t : Table) (scratch : List ℕ) (ready : Prepared t scratch) (was : Li
   label-other Ticking h q s = ap (λ (u : List ℕ). wordAt u q) (set-tick t was x)
   label-other (Acting n) h q s = set-key-other t was x n (action-key t was x (ready .checked .sound) n h) q (s .inside) (s .clock) (s .waits) (s .mark (storeOf t x n) (pAt t n)) (s .word (storeOf t x n) (pAt t n))
 
-  module _ (c : ℕ) (marks : List ℕ) (label : Label) (v : ℕ) (j : Judges t was x c marks (Allowed label v)) where
+  module _ (c : ℕ) (label : Label) (v keys : ℕ) (j : Judges t was x c (Allowed label v keys)) where
     abbrev D : Derivation
     D = chosen t was x c
 
     able : Able t was x c
-    able = act-able t was x c .0 (j .is .0)
+    able = act-able t was x c .0 (j .0)
 
     inside : InsideTable t D
     inside = chosen-inside t was x (ready .checked .sound) (formed .over) c (able .there)
 
     labelled : Labelled t label
-    labelled = subst (Labelled t) (sym (j .is .1)) (inside .label)
+    labelled = subst (Labelled t) (sym (j .1)) (inside .label)
 
     within : (e : Label) → Labelled t e → LabelKey t e
     within Ticking h = tt
     within (Acting n) h = omega arith
 
-    pub allowed-gaining : Gaining t was x marks label
+    pub allowed-gaining : Gaining t was x label keys
     allowed-gaining =
-        record { shaped = ready .checked .sound .shaped; blocks = blocks; agent = low; marked = (D .guards, j .guards (j .is .0)); within = within label labelled }
+        record {
+          shaped = ready .checked .sound .shaped;
+          blocks = blocks;
+          agent = low;
+          within = within label labelled;
+          small = rw (j .3) (plusAll-small (guardsRead t (D .guards)) keyLimit keyLimit 0 (omega arith) (omega arith));
+        }
 
     pub allowed-setting : (n : ℕ) → label ≡ Acting n → Setting t was x n v
     allowed-setting n e =
-        let l : Acting n ≡ D .label = sym e ∙ j .is .1 in
+        let l : Acting n ≡ D .label = sym e ∙ j .1 in
         let a : ActionNode t n = subst (Labelled t) (sym l) (inside .label) in
         record {
           shaped = ready .checked .sound .shaped;
@@ -92,7 +99,7 @@ module _ (t : Table) (scratch : List ℕ) (ready : Prepared t scratch) (was : Li
           action = a;
           key = action-key t was x (ready .checked .sound) n a;
           room = λ k. able .room (ap (writesEntry t) (sym l) ∙ eq-eqb (kindAt t n) kind.setStigmergy k);
-          value = j .is .2 ∙ ap (wordFor t was x) (sym l);
+          value = j .2 ∙ ap (wordFor t was x) (sym l);
         }
 
     -- AFTER THE KEY AND ZC
@@ -132,12 +139,12 @@ module _ (t : Table) (scratch : List ℕ) (ready : Prepared t scratch) (was : Li
       zc-empty = key-still (Waits Zc x) (record { inside = tt; clock = refl; waits = refl; mark = λ store k. refl; word = λ store k. refl }) ∙ able .confirmed
 
       is-key-set : keySet ≡ setKey t was x (D .label)
-      is-key-set = set-key ∙ ap (setKey t was x) (j .is .1)
+      is-key-set = set-key ∙ ap (setKey t was x) (j .1)
 
       -- the residual comes last
-      pub allowed-acted : Gains t was x marks label g → (out : List ℕ) → out ≡ leave x (words (chosen t s x c .leaving)) s → out ≡ acted t was x (chosen t was x c)
+      pub allowed-acted : Gains t was x label keys g → (out : List ℕ) → out ≡ leave x (words (chosen t s x c .leaving)) s → out ≡ acted t was x (chosen t was x c)
       unfolding acted
       allowed-acted gains out o =
-          let e : g ≡ plusAll (toConfirm t was x D) keyLimit (zcOf keySet x) = gains D (j .is .1) (j .guards (j .is .0)) ∙ ap (plusAll (toConfirm t was x D) keyLimit) (sym zc-empty) in
+          let e : g ≡ plusAll (toConfirm t was x D) keyLimit (zcOf keySet x) = gains D (j .1) (j .3) ∙ ap (plusAll (toConfirm t was x D) keyLimit) (sym zc-empty) in
           o ∙ ap₂ (λ (e : Derivation) (u : List ℕ). leave x (words (e .leaving)) u) same-chosen
           (set-zc ∙ ap (set keySet (zcAt x)) e ∙ ap (λ (u : List ℕ). set u (zcAt x) (plusAll (toConfirm t was x D) keyLimit (zcOf u x))) is-key-set)

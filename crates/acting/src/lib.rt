@@ -35,22 +35,21 @@ pub fn act(
     requires { ⌜ agent < sizes .agents ⌝ }
     ensures { λ r. ⌜ Acts (table sizes (now (kinds .entry)) (now (operands .entry))) (now (state .entry)) agent c r (now (state .exit)) ⌝ }
 {
-    let mut marks = [0u32; 128];
-    let found = judge(sizes, kinds, operands, scratch, state, &mut marks, agent, c);
+    let found = judge(sizes, kinds, operands, scratch, state, agent, c);
     match found {
         Judgement::Refused(number) => Acted::Refused(number),
-        Judgement::Allowed { label, value } => {
+        Judgement::Allowed { label, value, keys } => {
             perform(
                 sizes,
                 kinds,
                 operands,
                 scratch,
-                &marks,
                 state,
                 agent,
                 c,
                 label,
                 value,
+                keys,
             );
             Acted::Done
         }

@@ -26,26 +26,26 @@ fn set_zc(state: &mut [u32], agent: usize, keys: u32)
     state[at] = keys;
 }
 
-// Choice c of an agent is done, as it was judged: what it does, the word that it sets, and its guards' marks are given.
+// Choice c of an agent is done, as it was judged: what it does, the word that it sets, the keys that its guards read.
 pub fn perform(
     sizes: Sizes,
     kinds: &[u8],
     operands: &[u8],
     scratch: &[u32],
-    marks: &[u32],
     state: &mut [u32],
     agent: usize,
     c: u64,
     label: Label,
     value: u32,
+    keys: u32,
 )
     requires { ⌜ Prepared (table sizes (now kinds) (now operands)) (now scratch) ⌝ }
     requires { ⌜ Proper (table sizes (now kinds) (now operands)) (now state) ⌝ }
     requires { ⌜ agent < sizes .agents ⌝ }
-    requires { ⌜ Judges (table sizes (now kinds) (now operands)) (now state) agent c (now marks) (Allowed label value) ⌝ }
+    requires { ⌜ Judges (table sizes (now kinds) (now operands)) (now state) agent c (Allowed label value keys) ⌝ }
     ensures { λ _. ⌜ now (state .exit) ≡ acted (table sizes (now (kinds .entry)) (now (operands .entry))) (now (state .entry)) agent (chosen (table sizes (now (kinds .entry)) (now (operands .entry))) (now (state .entry)) agent c) ⌝ }
 {
-    let gains = gained(sizes, kinds, operands, marks, state, agent, label);
+    let gains = gained(sizes, kinds, operands, state, agent, label, keys);
     set_label(sizes, kinds, operands, state, agent, label, value);
     set_zc(state, agent, gains);
     leave(sizes, kinds, operands, scratch, state, agent, c);

@@ -7,7 +7,7 @@ use mathlib.Core.Path.{_≡_, refl, sym, ap, subst, _∙_}
 use mathlib.Core.List.{List, [], _∷_, _++_}
 use native.Mathlib.Omega.{arith}
 use lib.Dec.{eqb, leb}
-use lib.ListN.{length, getD, replicate, length-set}
+use lib.ListN.{length, getD, replicate, length-set, length-replicate}
 use borrow.Author.Tests.{leb-true, eqb-true, ne-eqb, eq-eqb}
 use Rattle.basis.specs.KeySets.{has}
 use Rattle.basis.proofs.KeySets.{has-plus, has-nothing}
@@ -24,8 +24,9 @@ use Rattle.term.proofs.Acceptance.{no-process}
 use Rattle.accept.specs.declared.Counts.{Counts}
 use Rattle.accept.specs.Counts.{trueCounts}
 use Rattle.choice.specs.declared.Goal.{Goal}
+use Rattle.choice.specs.declared.Side.{Side}
 use Rattle.choice.specs.Chosen.{chosenIn}
-use Rattle.choice.specs.Turns.{Reached}
+use Rattle.choice.specs.Turns.{Reached, sideGuards}
 use Rattle.choice.specs.Marking.{onlyTick, hasMark, WithMark, isIn, WalkMarks, Marked}
 use Rattle.choice.proofs.Chosen.{no-idle}
 
@@ -157,9 +158,13 @@ module _ (t : Table) (ms : List ℕ) (marks : WalkMarks t ms) where
 pub marked-same : {t : Table} {gs hs ms out : List ℕ} → gs ≡ hs → Marked t hs ms out → Marked t gs ms out
 marked-same {t} {gs} {hs} {ms} {out} e m = subst (λ (l : List ℕ). Marked t l ms out) (sym e) m
 
--- where nothing is marked
-pub marks-zero : (t : Table) (ms : List ℕ) → t .sizes .nodes ≤ 32 * length ms → ((n : ℕ) → hasMark ms n ≡ false) → WalkMarks t ms
-marks-zero t ms h z = record { room = h; walked = λ n p w. absurd (not-both w (z n)) }
+-- what is collected besides, by the case of a side
+pub marked-side : {t : Table} {r s : Side} {ms vs out : List ℕ} → r ≡ s → out ≡ vs → Marked t (sideGuards t s) ms vs → Marked t (sideGuards t r) ms out
+marked-side {t} {r} {s} {ms} {vs} {out} e f m = subst (λ (x : Side). Marked t (sideGuards t x) ms out) (sym e) (subst (Marked t (sideGuards t s) ms) (sym f) m)
 
+-- zeros mark nothing
 pub zeros-none : (n i : ℕ) → hasMark (replicate n 0) i ≡ false
 zeros-none n i = rw (getD-row {A = ℕ} n (i / 32) 0) (has-nothing (i % 32))
+
+pub marks-zeros : (t : Table) (n : ℕ) → t .sizes .nodes ≤ 32 * n → WalkMarks t (replicate n 0)
+marks-zeros t n h = record { room = rw (length-replicate {A = ℕ} n 0) h; walked = λ k p w. absurd (not-both w (zeros-none n k)) }

@@ -1,6 +1,6 @@
 pub mod Chosen
 pub mod Picks
 pub mod Turns
-pub mod Outcomes
 pub mod Writing
 pub mod Marking
+pub mod Outcomes

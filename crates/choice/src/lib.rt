@@ -2,8 +2,8 @@
 pub mod picks; // picks.rt: which part of a sequence or a parallel a choice is of
 pub mod turns; // turns.rt: one step from a node towards its choice
 pub mod writing; // writing.rt: what a node's choice leaves, written between two places
-pub mod marking; // marking.rt: the guards of a node's choice, as marks
-pub mod outcomes; // outcomes.rt: what a node's choice does, and how many words it leaves
+pub mod outcomes; // outcomes.rt: what a derivation does, and how many words it leaves
+pub mod marking; // marking.rt: the walk to a node's choice: its guards, as marks, and what it does
 
 use term::Label;
 use term::Mode;

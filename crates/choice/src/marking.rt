@@ -1,7 +1,9 @@
 // The guards of a node's choice, as marks: one bit for each node, 32 in a word.
+use crate::Effect;
 use crate::Goal;
 use crate::Side;
 use crate::Turn;
+use crate::outcomes::kept_words;
 use crate::turns::turn_at;
 use accept::Counts;
 use accept::pair;
@@ -15,6 +17,7 @@ ghost use Prim.Native.Nat.{_-_, _*_, _%_, _<_, _≤_};
 ghost use lib.ListN.{length};
 ghost use Rattle.table.specs.Tables.{table};
 ghost use Rattle.choice.specs.Turns.{chosenAt, Prepared, Reached};
+ghost use Rattle.choice.specs.Outcomes.{most, Walked};
 ghost use Rattle.choice.specs.Marking.{onlyTick, hasMark, WithMark, markedGuard, zerosAfter, Next, WalkMarks, Marked};
 
 fn mark(marks: &mut [u32], n: usize)
@@ -75,9 +78,9 @@ fn only_tick(mode: Mode, c: Counts) -> bool
     }
 }
 
-// Marks the guards step by step; where a tick joins, those of the tick too. A node whose only tick has been walked is marked, and not
-// walked again.
-pub fn mark_node(
+// Marks the guards of a tick that joins, with those of each tick that joins it. A node whose only tick has been
+// walked is marked, and not walked again.
+pub fn mark_tick(
     sizes: Sizes,
     kinds: &[u8],
     operands: &[u8],
@@ -105,12 +108,52 @@ pub fn mark_node(
             match side {
                 Side::Alone => {}
                 Side::Under { guard } => mark(marks, guard),
-                Side::After { tick } => mark_node(sizes, kinds, operands, scratch, marks, tick),
+                Side::After { tick } => mark_tick(sizes, kinds, operands, scratch, marks, tick),
             }
-            mark_node(sizes, kinds, operands, scratch, marks, next);
+            mark_tick(sizes, kinds, operands, scratch, marks, next);
         }
     }
     if once {
         mark(marks, n);
+    }
+}
+
+// Marks the guards step by step, with those of each tick that joins, and tells what is done and how many words are
+// left.
+pub fn mark_node(
+    sizes: Sizes,
+    kinds: &[u8],
+    operands: &[u8],
+    scratch: &[u32],
+    marks: &mut [u32],
+    goal: Goal,
+) -> Effect
+    requires { ⌜ Prepared (table sizes (now kinds) (now operands)) (now scratch) ⌝ }
+    requires { ⌜ Reached (table sizes (now kinds) (now operands)) goal ⌝ }
+    requires { ⌜ WalkMarks (table sizes (now kinds) (now operands)) (now marks) ⌝ }
+    ensures { λ r. ⌜ Walked (table sizes (now (kinds .entry)) (now (operands .entry))) (chosenAt (table sizes (now (kinds .entry)) (now (operands .entry))) goal) (most (sizes .definitions) (sizes .nodes)) (now (marks .entry)) r (now (marks .exit)) ⌝ }
+{
+    let mut at = goal;
+    let mut size: usize = 1;
+    loop {
+        let turn = turn_at(sizes, kinds, operands, scratch, at);
+        match turn {
+            Turn::End { label, .. } => return Effect { label, size },
+            Turn::On { next, side, kept } => {
+                match side {
+                    Side::Alone => {}
+                    Side::Under { guard } => mark(marks, guard),
+                    Side::After { tick } => mark_tick(sizes, kinds, operands, scratch, marks, tick),
+                }
+                size += kept_words(kept);
+                // field by field: a copy of the whole waits until each part is stored
+                let mode = next.mode;
+                at = Goal {
+                    node: next.node,
+                    mode,
+                    choice: next.choice,
+                };
+            }
+        }
     }
 }

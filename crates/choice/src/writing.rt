@@ -74,7 +74,13 @@ pub fn write_node(
             Turn::End { word, .. } => return put_last(words, rest, word),
             Turn::On { next, kept, .. } => {
                 rest = put_kept(words, rest, kept);
-                at = next;
+                // field by field: a copy of the whole waits until each part is stored
+                let mode = next.mode;
+                at = Goal {
+                    node: next.node,
+                    mode,
+                    choice: next.choice,
+                };
             }
         }
     }

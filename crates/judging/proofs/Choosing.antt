@@ -6,7 +6,7 @@ use mathlib.Core.Path.{_≡_, refl, sym, ap, ap₂, subst, _∙_}
 use mathlib.Core.List.{List}
 use native.Mathlib.Omega.{arith}
 use lib.Dec.{eqb}
-use lib.ListN.{length, getD, take, drop}
+use lib.ListN.{getD, take, drop, replicate}
 use lib.Seq.{take-take}
 use borrow.Author.Tests.{eqb-true, not-false}
 use Rattle.basis.proofs.Tests.{and-left, and-right, not-and}
@@ -17,7 +17,7 @@ use Rattle.term.specs.Accepted.{Labelled}
 use Rattle.term.proofs.Inside.{Inside}
 use Rattle.choice.specs.declared.Effect.{Effect}
 use Rattle.choice.specs.Marking.{Marked}
-use Rattle.choice.specs.Outcomes.{Tells}
+use Rattle.choice.specs.Outcomes.{Tells, Walked}
 use Rattle.choice.specs.Turns.{Prepared}
 use Rattle.residual.specs.declared.Choices.{Choices}
 use Rattle.residual.specs.Wholes.{Whole, Taking, Offered, residualTerm}
@@ -26,16 +26,18 @@ use Rattle.state.specs.Standing.{HasBlocks}
 use Rattle.state.specs.WellFormed.{Proper}
 use Rattle.state.proofs.Formed.{ResidualFormed, proper-facts, residual-test}
 use Rattle.evaluation.specs.Situated.{Situated}
-use Rattle.steps.specs.Acts.{chosen, allHold}
+use Rattle.steps.specs.Acts.{chosen}
 use Rattle.steps.proofs.Acts.{chosen-inside}
 use Rattle.judging.specs.declared.Judgement.{Judgement}
 use Rattle.judging.specs.declared.Judgement.the-variants.{Refused}
-use Rattle.judging.specs.Judging.{Unmarked, GuardsMarked, Judges}
-use Rattle.judging.specs.Guards.{GuardsGiven}
+use Rattle.judging.specs.declared.Asked.{Asked}
+use Rattle.judging.specs.declared.Asked.the-variants.{Fails, Hold}
+use Rattle.judging.specs.Guards.{GuardsMarked, GuardsGiven, askedOf}
+use Rattle.judging.specs.Judging.{Judges}
 use Rattle.judging.specs.Outcomes.{Doing, Ended}
 use Rattle.judging.specs.Residuals.{ResidualGiven}
 use Rattle.judging.proofs.Wholes.{formed-whole}
-use Rattle.judging.proofs.Asking.{collected}
+use Rattle.judging.proofs.Asking.{collected, hold-asked, fails-asked}
 use Rattle.judging.proofs.Ordering.{judges-11, judges-12, judges-13, judges-14, judges-last}
 
 -- the residual is within its words
@@ -54,7 +56,7 @@ module _ (t : Table) (was : List ℕ) (x zc zp : ℕ) (confirm : zc ≡ zcAt x) 
       ap₂ (λ (i j : ℕ). not (eqb (getD was i 0) 0) || not (eqb (getD was j 0) 0)) confirm propagate
       ∙ sym (not-and (eqb (zcOf was x) 0) (eqb (zpOf was x) 0))
 
-  pub agent-11 : (not (eqb (getD was zc 0) 0) || not (eqb (getD was zp 0) 0)) ≡ true → (c : ℕ) (marks : List ℕ) → Judges t was x c marks (Refused 11)
+  pub agent-11 : (not (eqb (getD was zc 0) 0) || not (eqb (getD was zp 0) 0)) ≡ true → (c : ℕ) → Judges t was x c (Refused 11)
   agent-11 e c = judges-11 t was x c (sym waits-is ∙ e)
 
   -- the length is read, and the words are lent
@@ -98,14 +100,14 @@ module _ {t : Table} {scratch was : List ℕ} {x : ℕ} {ws : List ℕ} (given :
     offers : Offered t (termIn was x) all
     offers = subst (λ (T : Term). Offered t T all) term-is offered
 
-    pub agent-12 : all .few ≡ false → (c : ℕ) (marks : List ℕ) → Judges t was x c marks (Refused 12)
+    pub agent-12 : all .few ≡ false → (c : ℕ) → Judges t was x c (Refused 12)
     agent-12 e c = judges-12 t was x c (given .confirmed) (given .propagated) (sym (offers .few) ∙ e)
 
     module _ (few : all .few ≡ true) where
       all-few : allFew t (termIn was x) ≡ true
       all-few = sym (offers .few) ∙ few
 
-      pub agent-13 : (c : ℕ) → all .count ≤ c → (marks : List ℕ) → Judges t was x c marks (Refused 13)
+      pub agent-13 : (c : ℕ) → all .count ≤ c → Judges t was x c (Refused 13)
       agent-13 c h = judges-13 t was x c (given .confirmed) (given .propagated) all-few (omega (arith, offers .count all-few))
 
       -- and c is a choice
@@ -123,26 +125,30 @@ module _ {t : Table} {scratch was : List ℕ} {x : ℕ} {ws : List ℕ} (given :
     inside : Inside t (chosen t was x c)
     inside = chosen-inside t was x (given .ready .checked .sound) (formed .over) c (takes .choice)
 
-    module _ {ms out : List ℕ} (unmarked : Unmarked t ms) (marked : Marked t (derivationAt (process t (residualTerm ws)) c .guards) ms out) where
+    module _ {out : List ℕ} {limit : ℕ} {o : Effect} (walked : Walked t (derivationAt (process t (residualTerm ws)) c) limit (replicate 128 0) o out) where
       pub agent-guards : GuardsGiven t was x out
-      agent-guards = record { situated = situated; room = marked .marks .room }
+      agent-guards = record { situated = situated; room = walked .marked .marks .room }
+
+      pub agent-doing : Doing t was x (o .label)
+      agent-doing =
+          record {
+            situated = situated;
+            labelled = subst (Labelled t) (sym (walked .tells .label ∙ ap (λ (d : Derivation). d .label) taken-is)) (inside .label);
+          }
 
       guards : GuardsMarked t (chosen t was x c .guards) out
-      guards = collected t (chosen t was x c .guards) ms out (inside .guards) unmarked (subst (λ (d : Derivation). Marked t (d .guards) ms out) taken-is marked)
+      guards =
+          collected t (chosen t was x c .guards) 128 out (inside .guards) (subst (λ (d : Derivation). Marked t (d .guards) (replicate 128 0) out) taken-is (walked .marked))
 
-      module _ (held : Bool) (asked : (gs : List ℕ) → GuardsMarked t gs out → held ≡ allHold t was x gs) where
-        pub agent-14 : held ≡ false → Judges t was x c out (Refused 14)
-        agent-14 e = judges-14 t was x c (given .confirmed) (given .propagated) (takes .few) (takes .choice) (sym (asked (chosen t was x c .guards) guards) ∙ e) out
+      module _ {found : Asked} (asked : (gs : List ℕ) → GuardsMarked t gs out → found ≡ askedOf t was x gs) where
+        is : askedOf t was x (chosen t was x c .guards) ≡ found
+        is = sym (asked (chosen t was x c .guards) guards)
 
-        pub agent-last : held ≡ true → {limit : ℕ} (o : Effect) → Tells (derivationAt (process t (residualTerm ws)) c) limit o
-            → (r : Judgement) → Ended t was x (o .label) (o .size) r → Judges t was x c out r
-        agent-last e {limit} o tells =
-            judges-last t was x c (given .confirmed) (given .propagated) (takes .few) (takes .choice) (sym (asked (chosen t was x c .guards) guards) ∙ e) out guards o
-            (subst (λ (d : Derivation). Tells d limit o) taken-is tells)
+        pub agent-14 : found ≡ Fails → Judges t was x c (Refused 14)
+        agent-14 e = judges-14 t was x c (given .confirmed) (given .propagated) (takes .few) (takes .choice) (fails-asked t was x (chosen t was x c .guards) (is ∙ e))
 
-    pub agent-doing : {limit : ℕ} (o : Effect) → Tells (derivationAt (process t (residualTerm ws)) c) limit o → Doing t was x (o .label)
-    agent-doing o tells =
-        record {
-          situated = situated;
-          labelled = subst (Labelled t) (sym (tells .label ∙ ap (λ (d : Derivation). d .label) taken-is)) (inside .label);
-        }
+        pub agent-last : {keys : ℕ} → found ≡ Hold keys → (r : Judgement) → Ended t was x (o .label) keys (o .size) r → Judges t was x c r
+        agent-last {keys} e r ends =
+            let h = hold-asked t was x (chosen t was x c .guards) (is ∙ e) in
+            judges-last t was x c (given .confirmed) (given .propagated) (takes .few) (takes .choice) (h .0) o (subst (λ (d : Derivation). Tells d limit o) taken-is (walked .tells)) r
+            (subst (λ (k : ℕ). Ended t was x (o .label) k (o .size) r) (h .1) ends)

@@ -4,12 +4,11 @@ use Prim.Native.Nat.{ℕ, _<_, _≤_}
 use mathlib.Core.Bool.{Bool, true, false, not, _&&_}
 use mathlib.Core.Path.{_≡_, sym, ap, subst, _∙_}
 use mathlib.Core.List.{List, _∷_}
-use native.Mathlib.Omega.{arith}
 use lib.Dec.{eqb, leb}
 use lib.ListN.{length}
 use borrow.Author.Tests.{le-leb, lt-leb}
 use Rattle.table.proofs.Checks.{first-refuses, first-later}
-use Rattle.table.specs.Checks.{Check, passes, refuses, Refusal, refuseIf, firstOf}
+use Rattle.table.specs.Checks.{Check, Refusal, refuseIf, firstOf}
 use Rattle.table.specs.Tables.{Table}
 use Rattle.term.specs.declared.Label.{Label}
 use Rattle.term.specs.Terms.{words}
@@ -20,7 +19,8 @@ use Rattle.state.specs.Layout.{zcOf, zpOf, termIn}
 use Rattle.steps.specs.Acts.{choices, chosen, allHold, actChecks, lastChecks}
 use Rattle.judging.specs.declared.Judgement.{Judgement}
 use Rattle.judging.specs.declared.Judgement.the-variants.{Refused}
-use Rattle.judging.specs.Judging.{GuardsMarked, Judges}
+use Rattle.judging.specs.Guards.{guardKeys}
+use Rattle.judging.specs.Judging.{Judges}
 use Rattle.judging.specs.Outcomes.{Found, Ended}
 
 module _ (t : Table) (was : List ℕ) (x c : ℕ) where
@@ -43,43 +43,34 @@ module _ (t : Table) (was : List ℕ) (x c : ℕ) where
   abbrev from12 : List Refusal
   from12 = refuseIf 12 (not (allFew t (termIn was x))) ∷ from13
 
-  judges-refused : (number : ℕ) → firstOf (actChecks t was x c) ≡ refuses number 0 → (marks : List ℕ) → Judges t was x c marks (Refused number)
-  judges-refused number e marks =
-      record {
-        is = e;
-        guards = λ p. absurd (let d : refuses number 0 ≡ passes = sym e ∙ p in let z : _≡_ {A = ℕ} 0 1 = cc in omega arith);
-      }
-
-  pub judges-11 : not (eqb (zcOf was x) 0 && eqb (zpOf was x) 0) ≡ true → (marks : List ℕ) → Judges t was x c marks (Refused 11)
-  judges-11 e = judges-refused 11 (first-refuses (refuseIf 11 (not idle)) from12 e)
+  pub judges-11 : not (eqb (zcOf was x) 0 && eqb (zpOf was x) 0) ≡ true → Judges t was x c (Refused 11)
+  judges-11 e = first-refuses (refuseIf 11 (not idle)) from12 e
 
   module _ (confirmed : zcOf was x ≡ 0) (propagated : zpOf was x ≡ 0) where
     past-11 : firstOf (actChecks t was x c) ≡ firstOf from12
     past-11 = first-later (refuseIf 11 (not idle)) from12 (rw (confirmed, propagated))
 
-    pub judges-12 : allFew t (termIn was x) ≡ false → (marks : List ℕ) → Judges t was x c marks (Refused 12)
-    judges-12 e = judges-refused 12 (past-11 ∙ first-refuses (refuseIf 12 (not (allFew t (termIn was x)))) from13 (ap not e))
+    pub judges-12 : allFew t (termIn was x) ≡ false → Judges t was x c (Refused 12)
+    judges-12 e = past-11 ∙ first-refuses (refuseIf 12 (not (allFew t (termIn was x)))) from13 (ap not e)
 
     module _ (few : allFew t (termIn was x) ≡ true) where
       past-12 : firstOf (actChecks t was x c) ≡ firstOf from13
       past-12 = past-11 ∙ first-later (refuseIf 12 (not (allFew t (termIn was x)))) from13 (ap not few)
 
-      pub judges-13 : length (choices t was x) ≤ c → (marks : List ℕ) → Judges t was x c marks (Refused 13)
-      judges-13 h = judges-refused 13 (past-12 ∙ first-refuses (refuseIf 13 (leb (length (choices t was x)) c)) from14 (le-leb (length (choices t was x)) c h))
+      pub judges-13 : length (choices t was x) ≤ c → Judges t was x c (Refused 13)
+      judges-13 h = past-12 ∙ first-refuses (refuseIf 13 (leb (length (choices t was x)) c)) from14 (le-leb (length (choices t was x)) c h)
 
       module _ (there : c < length (choices t was x)) where
         past-13 : firstOf (actChecks t was x c) ≡ firstOf from14
         past-13 = past-12 ∙ first-later (refuseIf 13 (leb (length (choices t was x)) c)) from14 (lt-leb (length (choices t was x)) c there)
 
-        pub judges-14 : allHold t was x (chosen t was x c .guards) ≡ false → (marks : List ℕ) → Judges t was x c marks (Refused 14)
-        judges-14 e = judges-refused 14 (past-13 ∙ first-refuses (refuseIf 14 (not held)) from15 (ap not e))
+        pub judges-14 : allHold t was x (chosen t was x c .guards) ≡ false → Judges t was x c (Refused 14)
+        judges-14 e = past-13 ∙ first-refuses (refuseIf 14 (not held)) from15 (ap not e)
 
         -- 15 to 17, or nothing
-        pub judges-last : allHold t was x (chosen t was x c .guards) ≡ true → (marks : List ℕ) → GuardsMarked t (chosen t was x c .guards) marks
-            → {limit : ℕ} (o : Effect) → Tells (chosen t was x c) limit o → (r : Judgement) → Ended t was x (o .label) (o .size) r → Judges t was x c marks r
-        judges-last e marks guards o tells r ends =
-            record {
-              is = subst (λ (k : Check). Found t was x (chosen t was x c .label) k r) (sym (past-13 ∙ first-later (refuseIf 14 (not held)) from15 (ap not e)))
-                  (subst (λ (n : ℕ). Ended t was x (chosen t was x c .label) n r) (tells .size) (subst (λ (l : Label). Ended t was x l (o .size) r) (tells .label) ends));
-              guards = λ p. guards;
-            }
+        pub judges-last : allHold t was x (chosen t was x c .guards) ≡ true → {limit : ℕ} (o : Effect) → Tells (chosen t was x c) limit o
+            → (r : Judgement) → Ended t was x (o .label) (guardKeys t (chosen t was x c .guards)) (o .size) r → Judges t was x c r
+        judges-last e o tells r ends =
+            let keys = guardKeys t (chosen t was x c .guards) in
+            subst (λ (k : Check). Found t was x (chosen t was x c .label) keys k r) (sym (past-13 ∙ first-later (refuseIf 14 (not held)) from15 (ap not e)))
+            (subst (λ (n : ℕ). Ended t was x (chosen t was x c .label) keys n r) (tells .size) (subst (λ (l : Label). Ended t was x l keys (o .size) r) (tells .label) ends))

@@ -1,4 +1,4 @@
-pub mod Judging
 pub mod Guards
 pub mod Outcomes
+pub mod Judging
 pub mod Residuals

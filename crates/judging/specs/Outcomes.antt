@@ -20,18 +20,18 @@ abbrev pub wordFor : Table → List ℕ → ℕ → Label → ℕ
 wordFor t was x Ticking = 0
 wordFor t was x (Acting n) = wordIn (valueFor t was x n)
 
--- what is found of an act of agent x: what its checks come to in each case, and what it does
-abbrev pub Found : Table → List ℕ → ℕ → Label → Check → Judgement → Type 0
-Found t was x label check (Refused number) = check ≡ refuses number 0
-Found t was x label check (Allowed does word) = (check ≡ passes) × (does ≡ label) × (word ≡ wordFor t was x label)
+-- what is found of an act of agent x whose guards read these keys: what its checks come to, and what it does
+abbrev pub Found : Table → List ℕ → ℕ → Label → ℕ → Check → Judgement → Type 0
+Found t was x label keys check (Refused number) = check ≡ refuses number 0
+Found t was x label keys check (Allowed does word read) = (check ≡ passes) × (does ≡ label) × (word ≡ wordFor t was x label) × (read ≡ keys)
 
 -- 15 to 17, of what leaves so many words
-abbrev pub Ended : Table → List ℕ → ℕ → Label → ℕ → Judgement → Type 0
-Ended t was x label size r = Found t was x label (firstOf (lastChecks t was x label size)) r
+abbrev pub Ended : Table → List ℕ → ℕ → Label → ℕ → ℕ → Judgement → Type 0
+Ended t was x label keys size r = Found t was x label keys (firstOf (lastChecks t was x label size)) r
 
 -- 17 alone, of what leaves so many words
-unfoldable pub sized : Label → ℕ → ℕ → Judgement
-sized label word size = cond (ltb residualWords size) (Refused 17) (Allowed label word)
+unfoldable pub sized : Label → ℕ → ℕ → ℕ → Judgement
+sized label word keys size = cond (ltb residualWords size) (Refused 17) (Allowed label word keys)
 
 -- the action is of the table, and agent x can be asked for its value
 pub record Doing (t : Table) (was : List ℕ) (x : ℕ) (label : Label) : Type 0 where

@@ -1,10 +1,10 @@
 // An act judged, in the order of the refusals.
+use crate::Asked;
 use crate::Judgement;
-use crate::guards::all_hold;
+use crate::guards::ask_guards;
 use crate::outcomes::judge_outcome;
 use residual::choosing::collect;
 use residual::choosing::count_choices;
-use residual::choosing::outcome;
 use state::length_at;
 use state::residual_at;
 use state::zc_at;
@@ -14,11 +14,10 @@ ghost use Prim.Native.Nat.{_<_};
 ghost use Rattle.table.specs.Tables.{table};
 ghost use Rattle.choice.specs.Turns.{Prepared};
 ghost use Rattle.state.specs.WellFormed.{Proper};
-ghost use Rattle.judging.specs.Judging.{Unmarked, Judges};
+ghost use Rattle.judging.specs.Judging.{Judges};
 ghost use Rattle.judging.specs.Residuals.{ResidualGiven};
 
 // 12 to 17 of choice c, where no key waits. The words are those of the agent's residual.
-// Nothing but the marks is written.
 fn judge_choice(
     sizes: Sizes,
     kinds: &[u8],
@@ -26,13 +25,11 @@ fn judge_choice(
     scratch: &[u32],
     state: &[u32],
     words: &[u32],
-    marks: &mut [u32],
     agent: usize,
     c: u64,
 ) -> Judgement
     requires { ⌜ ResidualGiven (table sizes (now kinds) (now operands)) (now scratch) (now state) agent (now words) ⌝ }
-    requires { ⌜ Unmarked (table sizes (now kinds) (now operands)) (now marks) ⌝ }
-    ensures { λ r. ⌜ Judges (table sizes (now (kinds .entry)) (now (operands .entry))) (now (state .entry)) agent c (now (marks .exit)) r ⌝ }
+    ensures { λ r. ⌜ Judges (table sizes (now (kinds .entry)) (now (operands .entry))) (now (state .entry)) agent c r ⌝ }
 {
     let all = count_choices(sizes, scratch, words);
     if !all.few {
@@ -41,31 +38,29 @@ fn judge_choice(
     if all.count <= c {
         return Judgement::Refused(13);
     }
-    collect(sizes, kinds, operands, scratch, marks, words, c);
-    if !all_hold(sizes, kinds, operands, state, marks, agent) {
-        return Judgement::Refused(14);
+    let mut marks = [0u32; 128];
+    let o = collect(sizes, kinds, operands, scratch, &mut marks, words, c);
+    let asked = ask_guards(sizes, kinds, operands, state, &marks, agent);
+    match asked {
+        Asked::Fails => Judgement::Refused(14),
+        Asked::Hold { keys } => judge_outcome(sizes, kinds, operands, state, agent, o, keys),
     }
-    let o = outcome(sizes, kinds, operands, scratch, words, c);
-    judge_outcome(sizes, kinds, operands, state, agent, o)
 }
 
-// Choice c of an agent. The marks are a bit for each node, all 0 before: where nothing refuses, the guards that are marked then are the
-// choice's; beside a refusal the marks may be any.
+// Choice c of an agent. Nothing is written.
 pub fn judge(
     sizes: Sizes,
     kinds: &[u8],
     operands: &[u8],
     scratch: &[u32],
     state: &[u32],
-    marks: &mut [u32],
     agent: usize,
     c: u64,
 ) -> Judgement
     requires { ⌜ Prepared (table sizes (now kinds) (now operands)) (now scratch) ⌝ }
     requires { ⌜ Proper (table sizes (now kinds) (now operands)) (now state) ⌝ }
     requires { ⌜ agent < sizes .agents ⌝ }
-    requires { ⌜ Unmarked (table sizes (now kinds) (now operands)) (now marks) ⌝ }
-    ensures { λ r. ⌜ Judges (table sizes (now (kinds .entry)) (now (operands .entry))) (now (state .entry)) agent c (now (marks .exit)) r ⌝ }
+    ensures { λ r. ⌜ Judges (table sizes (now (kinds .entry)) (now (operands .entry))) (now (state .entry)) agent c r ⌝ }
 {
     let zc = zc_at(agent);
     let zp = zp_at(agent);
@@ -83,7 +78,6 @@ pub fn judge(
         scratch,
         state,
         &state[at..end],
-        marks,
         agent,
         c,
     )

@@ -13,14 +13,14 @@ ghost use Rattle.term.specs.declared.Label.the-variants.{Acting};
 ghost use Rattle.table.specs.Tables.{table};
 ghost use Rattle.judging.specs.Outcomes.{sized as sizedOf, Doing, Ended};
 
-// 17, of what is done, the word that it sets and how many words it leaves.
-fn sized(label: Label, value: u32, size: usize) -> Judgement
-    ensures { λ r. ⌜ r ≡ sizedOf label value size ⌝ }
+// 17, of what is done, the word that it sets, the keys that its guards read and how many words it leaves.
+fn sized(label: Label, value: u32, keys: u32, size: usize) -> Judgement
+    ensures { λ r. ⌜ r ≡ sizedOf label value keys size ⌝ }
 {
     if RESIDUAL_WORDS < size {
         return Judgement::Refused(17);
     }
-    Judgement::Allowed { label, value }
+    Judgement::Allowed { label, value, keys }
 }
 
 // 15 and 16 of the action at node n, and then 17.
@@ -31,10 +31,11 @@ fn judge_action(
     state: &[u32],
     agent: usize,
     n: usize,
+    keys: u32,
     size: usize,
 ) -> Judgement
     requires { ⌜ Doing (table sizes (now kinds) (now operands)) (now state) agent (Acting n) ⌝ }
-    ensures { λ r. ⌜ Ended (table sizes (now (kinds .entry)) (now (operands .entry))) (now (state .entry)) agent (Acting n) size r ⌝ }
+    ensures { λ r. ⌜ Ended (table sizes (now (kinds .entry)) (now (operands .entry))) (now (state .entry)) agent (Acting n) keys size r ⌝ }
 {
     let q = q_at(operands, n);
     let value = value_of(sizes, kinds, operands, state, agent, agent, q);
@@ -44,7 +45,7 @@ fn judge_action(
             if (kinds[n] == basis::kinds::SET_STIGMERGY) & (state::CLOCK_LIMIT <= clock_of(state)) {
                 return Judgement::Refused(16);
             }
-            sized(Label::Acting(n), word, size)
+            sized(Label::Acting(n), word, keys, size)
         }
     }
 }
@@ -57,14 +58,15 @@ pub fn judge_outcome(
     state: &[u32],
     agent: usize,
     o: Effect,
+    keys: u32,
 ) -> Judgement
     requires { ⌜ Doing (table sizes (now kinds) (now operands)) (now state) agent (o .label) ⌝ }
-    ensures { λ r. ⌜ Ended (table sizes (now (kinds .entry)) (now (operands .entry))) (now (state .entry)) agent (o .label) (o .size) r ⌝ }
+    ensures { λ r. ⌜ Ended (table sizes (now (kinds .entry)) (now (operands .entry))) (now (state .entry)) agent (o .label) keys (o .size) r ⌝ }
 {
     let label = o.label;
     let size = o.size;
     match label {
-        Label::Ticking => sized(Label::Ticking, 0, size),
-        Label::Acting(n) => judge_action(sizes, kinds, operands, state, agent, n, size),
+        Label::Ticking => sized(Label::Ticking, 0, keys, size),
+        Label::Acting(n) => judge_action(sizes, kinds, operands, state, agent, n, keys, size),
     }
 }

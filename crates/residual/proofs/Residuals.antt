@@ -18,7 +18,9 @@ use Rattle.term.proofs.Words.{whole-read}
 use Rattle.choice.specs.declared.Gap.{Gap}
 use Rattle.choice.specs.Picks.{totalOf}
 use Rattle.choice.specs.Turns.{Prepared}
+use Rattle.choice.specs.Marking.{WalkMarks}
 use Rattle.choice.proofs.Chosen.{chosen-any}
+use Rattle.choice.proofs.Collecting.{marked-none}
 use Rattle.residual.specs.declared.Measured.{Measured}
 use Rattle.residual.specs.Measures.{Found}
 use Rattle.residual.specs.Moves.{Moved}
@@ -54,7 +56,7 @@ module _ (t : Table) (s : List ℕ) (ready : Prepared t s) (at : ℕ) (ws : List
       }
 
   module _ (c : ℕ) (k : Taking t (residualTerm (drop at ws)) c) where
-    pub stands-whole : Stands t (residualTerm (drop at ws)) (wholeOf at c) ws
+    stands-whole : Stands t (residualTerm (drop at ws)) (wholeOf at c) ws
     stands-whole =
         record {
           choosable = record { over = read .0; few = k .few; choice = subst (λ (n : ℕ). c < n) (length-derivations (process t T)) (k .choice) };
@@ -62,17 +64,20 @@ module _ (t : Table) (s : List ℕ) (ready : Prepared t s) (at : ℕ) (ws : List
         }
 
     -- a walk begins at it
-    pub chosen : derivationAt (process t (residualTerm (drop at ws))) c ≡ going t (residualTerm (drop at ws)) (wholeOf at c)
+    chosen : derivationAt (process t (residualTerm (drop at ws))) c ≡ going t (residualTerm (drop at ws)) (wholeOf at c)
     chosen = sym (chosen-any (process t T) c)
 
-    pub toward-whole : Toward t ws (derivationAt (process t (residualTerm (drop at ws))) c) (wholeOf at c) 0
-    toward-whole =
+    pub toward-whole : (ms : List ℕ) → WalkMarks t ms → Toward t ws (derivationAt (process t (residualTerm (drop at ws))) c) ms (wholeOf at c) 0 ms
+    toward-whole ms marks =
         record {
           term = T;
           stands = stands-whole;
           label = ap (λ (x : Derivation). x .label) chosen;
           size = ap (λ (x : Derivation). length (words (x .leaving))) chosen ∙ sym (zero-add _);
           bound = omega (arith, term-size);
+          passed = [];
+          guards = ap (λ (x : Derivation). x .guards) chosen;
+          marked = marked-none t ms marks;
         }
 
     pub spot-whole : at ≤ length ws → length (words (derivationAt (process t (residualTerm (drop at ws))) c .leaving)) ≤ length ws

@@ -1,17 +1,17 @@
-// What is asked of a residual: its choices, what a choice does and leaves, and what it leaves in the residual's place.
+// What is asked of a residual: its choices, a choice's guards and what it does, and what it leaves in its place.
 use crate::Choices;
 use crate::Cursor;
 use crate::Step;
 use crate::counting::measure;
-use crate::marking::mark_at;
+use crate::marking::mark_tick_at;
 use crate::moves::copy_within;
 use crate::steps::step_at;
 use crate::steps::whole;
 use crate::writing::place;
 use basis::words::clear;
 use choice::Effect;
+use choice::marking::mark_node;
 use choice::outcomes::grown;
-use choice::outcomes::node_outcome;
 use choice::picks::total;
 use table::Sizes;
 use table::first_root;
@@ -23,8 +23,8 @@ ghost use lib.ListN.{length, take};
 ghost use Rattle.table.specs.Tables.{Table, table};
 ghost use Rattle.term.specs.Terms.{words as wordsOf};
 ghost use Rattle.choice.specs.Turns.{Prepared};
-ghost use Rattle.choice.specs.Marking.{WalkMarks, Marked};
-ghost use Rattle.choice.specs.Outcomes.{Tells};
+ghost use Rattle.choice.specs.Marking.{WalkMarks};
+ghost use Rattle.choice.specs.Outcomes.{Walked};
 ghost use Rattle.term.specs.Processes.{derivationAt, process};
 ghost use Rattle.residual.specs.Wholes.{residualTerm, Whole, Taking, Offered, limitOf, Rewritten};
 
@@ -40,19 +40,21 @@ pub fn count_choices(sizes: Sizes, scratch: &[u32], words: &[u32]) -> Choices
     }
 }
 
-// What choice c of the residual does, and how many words it leaves.
-pub fn outcome(
+// Marks the guards of choice c of the residual, and tells what it does and how many words it leaves.
+pub fn collect(
     sizes: Sizes,
     kinds: &[u8],
     operands: &[u8],
     scratch: &[u32],
+    marks: &mut [u32],
     words: &[u32],
     c: u64,
 ) -> Effect
     requires { ⌜ Prepared (table sizes (now kinds) (now operands)) (now scratch) ⌝ }
     requires { ⌜ Whole (table sizes (now kinds) (now operands)) (now words) ⌝ }
     requires { ⌜ Taking (table sizes (now kinds) (now operands)) (residualTerm (now words)) c ⌝ }
-    ensures { λ r. ⌜ Tells (derivationAt (process (table sizes (now (kinds .entry)) (now (operands .entry))) (residualTerm (now (words .entry)))) c) (limitOf (table sizes (now (kinds .entry)) (now (operands .entry))) (residualTerm (now (words .entry)))) r ⌝ }
+    requires { ⌜ WalkMarks (table sizes (now kinds) (now operands)) (now marks) ⌝ }
+    ensures { λ r. ⌜ Walked (table sizes (now (kinds .entry)) (now (operands .entry))) (derivationAt (process (table sizes (now (kinds .entry)) (now (operands .entry))) (residualTerm (now (words .entry)))) c) (limitOf (table sizes (now (kinds .entry)) (now (operands .entry))) (residualTerm (now (words .entry)))) (now (marks .entry)) r (now (marks .exit)) ⌝ }
 {
     let roots = first_root(sizes);
     let mut target = whole(0, c);
@@ -61,20 +63,20 @@ pub fn outcome(
         let step = step_at(roots, scratch, words, target);
         match step {
             Step::Ticked => {
-                return Effect {
-                    label: Label::Ticking,
-                    size: 1 + more,
-                };
+                let label = Label::Ticking;
+                let size = 1 + more;
+                return Effect { label, size };
             }
             Step::Leaf { goal } => {
-                let o = node_outcome(sizes, kinds, operands, scratch, goal);
+                let o = mark_node(sizes, kinds, operands, scratch, marks, goal);
                 return grown(o, more);
             }
             Step::Acts { part, after } => {
                 more += part.from.at - target.from.at + after;
                 target = part;
             }
-            Step::Joins { part, .. } => {
+            Step::Joins { part, tick, .. } => {
+                mark_tick_at(sizes, kinds, operands, scratch, marks, words, tick);
                 target = part;
             }
         }
@@ -108,23 +110,4 @@ pub fn rewrite(
     copy_within(words, back, front, n);
     clear(words, front + n);
     front + n
-}
-
-// Marks the guards of choice c of the residual.
-pub fn collect(
-    sizes: Sizes,
-    kinds: &[u8],
-    operands: &[u8],
-    scratch: &[u32],
-    marks: &mut [u32],
-    words: &[u32],
-    c: u64,
-)
-    requires { ⌜ Prepared (table sizes (now kinds) (now operands)) (now scratch) ⌝ }
-    requires { ⌜ Whole (table sizes (now kinds) (now operands)) (now words) ⌝ }
-    requires { ⌜ Taking (table sizes (now kinds) (now operands)) (residualTerm (now words)) c ⌝ }
-    requires { ⌜ WalkMarks (table sizes (now kinds) (now operands)) (now marks) ⌝ }
-    ensures { λ r. ⌜ Marked (table sizes (now (kinds .entry)) (now (operands .entry))) (derivationAt (process (table sizes (now (kinds .entry)) (now (operands .entry))) (residualTerm (now (words .entry)))) c .guards) (now (marks .entry)) (now (marks .exit)) ⌝ }
-{
-    mark_at(sizes, kinds, operands, scratch, marks, words, whole(0, c));
 }

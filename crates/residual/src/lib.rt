@@ -2,7 +2,7 @@
 pub mod reading; // reading.rt: reading words from the front; whole terms
 mod counting; // counting.rt: the counts of a term; refusal 12
 mod steps; // steps.rt: one step from a residual towards its choice
-mod marking; // marking.rt: the guards of a residual's choice, as marks
+mod marking; // marking.rt: the guards of a residual's tick, as marks
 mod writing; // writing.rt: what a residual's choice leaves, written in its place
 pub mod choosing; // choosing.rt: what is asked of a whole residual
 mod moves; // moves.rt: words copied within a slice

@@ -1,8 +1,8 @@
-// The guards of a residual's choice, as marks.
+// The guards of a residual's tick, as marks.
 use crate::Step;
 use crate::Target;
 use crate::steps::step_at;
-use choice::marking::mark_node;
+use choice::marking::mark_tick;
 use table::Sizes;
 use table::first_root;
 ghost use Rattle.table.specs.Tables.{table};
@@ -11,8 +11,8 @@ ghost use Rattle.choice.specs.Turns.{Prepared};
 ghost use Rattle.choice.specs.Marking.{WalkMarks, Marked};
 ghost use Rattle.residual.specs.Steps.{going, Stands};
 
-// Where a tick of one part joins a derivation of the other, the guards of both.
-pub fn mark_at(
+// Where a tick of one part joins a tick of the other, the guards of both.
+pub fn mark_tick_at(
     sizes: Sizes,
     kinds: &[u8],
     operands: &[u8],
@@ -30,14 +30,14 @@ pub fn mark_at(
     match step {
         Step::Ticked => {}
         Step::Leaf { goal } => {
-            mark_node(sizes, kinds, operands, scratch, marks, goal);
+            mark_tick(sizes, kinds, operands, scratch, marks, goal);
         }
         Step::Acts { part, .. } => {
-            mark_at(sizes, kinds, operands, scratch, marks, words, part);
+            mark_tick_at(sizes, kinds, operands, scratch, marks, words, part);
         }
         Step::Joins { part, tick, .. } => {
-            mark_at(sizes, kinds, operands, scratch, marks, words, tick);
-            mark_at(sizes, kinds, operands, scratch, marks, words, part);
+            mark_tick_at(sizes, kinds, operands, scratch, marks, words, tick);
+            mark_tick_at(sizes, kinds, operands, scratch, marks, words, part);
         }
     }
 }

@@ -2,7 +2,6 @@
 use choice::marking::has_mark;
 use residual::choosing::collect;
 use residual::choosing::count_choices;
-use residual::choosing::outcome;
 use residual::choosing::rewrite;
 use table::Sizes;
 use table::is_guard;
@@ -79,10 +78,9 @@ pub fn print_last_choice(
         return;
     }
     let c = count - 1;
-    let told = outcome(sizes, kinds, operands, scratch, &words[..1], c);
+    let told = collect(sizes, kinds, operands, scratch, marks, &words[..1], c);
     let does = told.label;
     print_does(does);
-    collect(sizes, kinds, operands, scratch, marks, &words[..1], c);
     print_number(marked_guards(kinds, marks) as u64);
     let size = told.size;
     print_number(size as u64);

@@ -3,10 +3,9 @@
 use mathlib.Core.Path.{sym, _∙_}
 use native.Mathlib.Omega.{arith}
 use denote.Ref.{now}
-use lib.ListN.{replicate}
 use borrow.Author.Tests.{not-false}
 use Rattle.table.specs.Tables.{table}
-use Rattle.choice.proofs.Collecting.{marks-zero, zeros-none}
+use Rattle.choice.proofs.Collecting.{marks-zeros}
 use borrow.Author.Needs.{needs}
 use Rattle.tables.proofs.print_start.Statement.{statement}
 use Rattle.tables.proofs.print_start.Tie as tie
@@ -54,7 +53,7 @@ print-last-choice-requires c κs =
       a .pre,
       (
         (omega arith, record { room = omega arith; term = sym (w .ensures (now (a .args .operands))) ∙ not-false (w .result) (c .before .before .if1 .left) }),
-        marks-zero (table (a .args .sizes) (now (a .args .kinds)) (now (a .args .operands))) (replicate 128 0) (omega (arith, a .pre .checked .sound .shaped .limits .nodes)) (zeros-none 128),
+        marks-zeros (table (a .args .sizes) (now (a .args .kinds)) (now (a .args .operands))) 128 (a .pre .checked .sound .shaped .limits .nodes),
       ),
     )
 

@@ -11,22 +11,22 @@ tb a = table (a .args .sizes) (now (a .args .kinds)) (now (a .args .operands))
 
 gained-requires : tie.Need-gained-requires
 gained-requires c κs =
-    let a = c .before .before .before .before .before .before in
-    allowed-gaining (tb a) (now (a .args .scratch)) (a .pre .0) (now (a .args .state)) (a .pre .1 .0) (a .args .agent) (a .pre .1 .1 .0) (a .args .c) (now (a .args .marks)) (a .args .label) (a .args .value) (a .pre .1 .1 .1)
+    let a = c .before .before .before .before .before in
+    allowed-gaining (tb a) (now (a .args .scratch)) (a .pre .0) (now (a .args .state)) (a .pre .1 .0) (a .args .agent) (a .pre .1 .1 .0) (a .args .c) (a .args .label) (a .args .value) (a .args .keys) (a .pre .1 .1 .1)
 
 set-label-requires : tie.Need-set-label-requires
 set-label-requires c κs =
-    let a = c .before .before .before .before .before .before .before .before in
-    allowed-setting (tb a) (now (a .args .scratch)) (a .pre .0) (now (a .args .state)) (a .pre .1 .0) (a .args .agent) (a .pre .1 .1 .0) (a .args .c) (now (a .args .marks)) (a .args .label) (a .args .value) (a .pre .1 .1 .1)
+    let a = c .before .before .before .before .before .before .before in
+    allowed-setting (tb a) (now (a .args .scratch)) (a .pre .0) (now (a .args .state)) (a .pre .1 .0) (a .args .agent) (a .pre .1 .1 .0) (a .args .c) (a .args .label) (a .args .value) (a .args .keys) (a .pre .1 .1 .1)
 
 set-zc-requires : tie.Need-set-zc-requires
 set-zc-requires c κs = search needs
 
 leave-requires : tie.Need-leave-requires
 leave-requires c κs =
-    let a = c .before .before .before .before .before .before .before .before .before .before .before .before .before .before .before .before in (
+    let a = c .before .before .before .before .before .before .before .before .before .before .before .before .before .before .before in (
       a .pre .0,
-      allowed-leaving (tb a) (now (a .args .scratch)) (a .pre .0) (now (a .args .state)) (a .pre .1 .0) (a .args .agent) (a .pre .1 .1 .0) (a .args .c) (now (a .args .marks)) (a .args .label) (a .args .value) (a .pre .1 .1 .1) (c .before .before .before .before .before .before .before .before .before .gained .result) _ _ (c .before .before .before .before .before .before .before .set-label .ensures) (c .before .before .before .set-zc .ensures),
+      allowed-leaving (tb a) (now (a .args .scratch)) (a .pre .0) (now (a .args .state)) (a .pre .1 .0) (a .args .agent) (a .pre .1 .1 .0) (a .args .c) (a .args .label) (a .args .value) (a .args .keys) (a .pre .1 .1 .1) (c .before .before .before .before .before .before .before .before .before .gained .result) _ _ (c .before .before .before .before .before .before .before .set-label .ensures) (c .before .before .before .set-zc .ensures),
     )
 
 same-length : tie.Need-same-length
@@ -34,8 +34,8 @@ same-length c = search needs
 
 returns : tie.Need-returns
 returns c =
-    let a = c .before .before .before .before .before .before .before .before .before .before .before .before .before .before .before .before .before .before .before in
-    allowed-acted (tb a) (now (a .args .scratch)) (a .pre .0) (now (a .args .state)) (a .pre .1 .0) (a .args .agent) (a .pre .1 .1 .0) (a .args .c) (now (a .args .marks)) (a .args .label) (a .args .value) (a .pre .1 .1 .1) (c .before .before .before .before .before .before .before .before .before .before .before .before .gained .result) _ _ (c .before .before .before .before .before .before .before .before .before .before .set-label .ensures) (c .before .before .before .before .before .before .set-zc .ensures) (c .before .before .before .before .before .before .before .before .before .before .before .before .gained .ensures) _ (c .before .before .leave .ensures)
+    let a = c .before .before .before .before .before .before .before .before .before .before .before .before .before .before .before .before .before .before in
+    allowed-acted (tb a) (now (a .args .scratch)) (a .pre .0) (now (a .args .state)) (a .pre .1 .0) (a .args .agent) (a .pre .1 .1 .0) (a .args .c) (a .args .label) (a .args .value) (a .args .keys) (a .pre .1 .1 .1) (c .before .before .before .before .before .before .before .before .before .before .before .before .gained .result) _ _ (c .before .before .before .before .before .before .before .before .before .before .set-label .ensures) (c .before .before .before .before .before .before .set-zc .ensures) (c .before .before .before .before .before .before .before .before .before .before .before .before .gained .ensures) _ (c .before .before .leave .ensures)
 
 pub perform-spec : {M : Type 1} → statement M
 perform-spec =

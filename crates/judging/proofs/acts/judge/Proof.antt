@@ -34,8 +34,8 @@ shared-slice-read-if1-2 c = search needs
 
 returns : tie.Need-returns
 returns c =
-    let a = c .before .before .before .before .before .before .before .before .before .before in
-    agent-11 (here a) (now (a .args .state)) (a .args .agent) _ _ (c .before .before .before .before .zc-at .ensures .is) (c .before .before .before .zp-at .ensures .is) (c .if1 .taken) (a .args .c) _
+    let a = c .before .before .before .before .before .before .before .before .before in
+    agent-11 (here a) (now (a .args .state)) (a .args .agent) _ _ (c .before .before .before .before .zc-at .ensures .is) (c .before .before .before .zp-at .ensures .is) (c .if1 .taken) (a .args .c)
 
 length-at-requires : tie.Need-length-at-requires
 length-at-requires c κs = search needs
@@ -53,8 +53,11 @@ residual-at-requires : tie.Need-residual-at-requires
 residual-at-requires c κs = search needs
 
 -- the residual's words are in the state
-short : (c : tie.After-residual-at) → let a = c .before .before .before .before .before .before .before .before .before .before .before .before .before in getD (now (a .args .state)) (c .before .before .length-at .result) 0 ≤ residualWords
-short c = let a = c .before .before .before .before .before .before .before .before .before .before .before .before .before in agent-short (a .pre .0) (a .pre .1 .0) (a .pre .1 .1 .0) _ (c .before .before .length-at .ensures .is)
+abbrev start : tie.After-residual-at → tie.Start
+start c = c .before .before .before .before .before .before .before .before .before .before .before .before
+
+short : (c : tie.After-residual-at) → getD (now (start c .args .state)) (c .before .before .length-at .result) 0 ≤ residualWords
+short c = let a = start c in agent-short (a .pre .0) (a .pre .1 .0) (a .pre .1 .1) _ (c .before .before .length-at .ensures .is)
 
 add-end : tie.Need-add-end
 add-end c = omega (arith, short c, c .residual-at .ensures)
@@ -69,17 +72,13 @@ part-judge-choice-start : tie.Need-part-judge-choice-start
 part-judge-choice-start c = search needs
 
 part-judge-choice-end : tie.Need-part-judge-choice-end
-part-judge-choice-end c = omega (arith, short c, c .residual-at .ensures, c .before .before .before .before .before .before .before .before .before .before .before .before .before .pre .1 .0 .whole)
+part-judge-choice-end c = omega (arith, short c, c .residual-at .ensures, start c .pre .1 .0 .whole)
 
 judge-choice-requires : tie.Need-judge-choice-requires
 judge-choice-requires c κs =
-    let a = c .before .before .before .before .before .before .before .before .before .before .before .before .before .before .before in (
-      agent-given (here a) (now (a .args .state)) (a .args .agent) _ _ (c .before .before .before .before .before .before .before .before .before .zc-at .ensures .is) (c .before .before .before .before .before .before .before .before .zp-at .ensures .is) (c .before .before .before .before .before .if1 .left) (a .pre .0) (a .pre .1 .0) (a .pre .1 .1 .0) _ (c .before .before .before .before .length-at .ensures .is) _ (c .before .before .residual-at .ensures .is),
-      a .pre .1 .1 .1,
-    )
-
-same-length : tie.Need-same-length
-same-length c = search needs
+    let r = c .before in
+    let a = start r in
+    agent-given (here a) (now (a .args .state)) (a .args .agent) _ _ (r .before .before .before .before .before .before .before .zc-at .ensures .is) (r .before .before .before .before .before .before .zp-at .ensures .is) (r .before .before .before .if1 .left) (a .pre .0) (a .pre .1 .0) (a .pre .1 .1) _ (r .before .before .length-at .ensures .is) _ (r .residual-at .ensures .is)
 
 returns-2 : tie.Need-returns-2
 returns-2 c = search needs
@@ -106,5 +105,4 @@ judge-spec =
     part-judge-choice-start
     part-judge-choice-end
     judge-choice-requires
-    same-length
     returns-2)

@@ -6,8 +6,8 @@ use borrow.Author.Needs.{needs}
 use borrow.Author.Tests.{not-true, not-false}
 use denote.Ref.{now}
 use Rattle.table.specs.Tables.{Table, table}
-use Rattle.choice.proofs.Collecting.{marks-zero}
-use Rattle.residual.specs.Wholes.{Taking, residualTerm}
+use Rattle.choice.proofs.Collecting.{marks-zeros}
+use Rattle.residual.specs.Wholes.{Taking, Offered, residualTerm}
 use Rattle.judging.proofs.Choosing.{whole-residual, agent-12, agent-13, agent-taking, agent-guards, agent-14, agent-doing, agent-last}
 use Rattle.judging.proofs.acts.judge_choice.Statement.{statement}
 use Rattle.judging.proofs.acts.judge_choice.Tie as tie
@@ -15,60 +15,75 @@ use Rattle.judging.proofs.acts.judge_choice.Tie as tie
 abbrev here : tie.Start → Table
 here a = table (a .args .sizes) (now (a .args .kinds)) (now (a .args .operands))
 
+-- the residual's choices
+abbrev begun : tie.After-count-choices → tie.Start
+begun c = c .before .before .before .before .before .before
+
+offered : (c : tie.After-count-choices) → Offered (here (begun c)) (residualTerm (now (begun c .args .words))) (c .count-choices .result)
+offered c = let a = begun c in c .count-choices .ensures (here a) refl (a .pre .ready) (whole-residual (a .pre))
+
 -- after 12 and 13 the choice is there
-taking : (c : tie.Else2) → let a = c .before .before .before .before .before .before .before .before .before .before .before in Taking (here a) (residualTerm (now (a .args .words))) (a .args .c)
+abbrev start : tie.Else2 → tie.Start
+start c = begun (c .before .before .before .before)
+
+taking : (c : tie.Else2) → Taking (here (start c)) (residualTerm (now (start c .args .words))) (start c .args .c)
 taking c =
-    let a = c .before .before .before .before .before .before .before .before .before .before .before in
-    let k = c .before .before .before .before .count-choices in
-    agent-taking (a .pre .0) (k .result) (k .ensures (here a) refl (a .pre .0 .ready) (whole-residual (a .pre .0))) (not-false (k .result .few) (c .before .before .if1 .left)) (a .args .c) (omega arith)
+    let k = c .before .before .before .before in
+    agent-taking (start c .pre) (k .count-choices .result) (offered k) (not-false (k .count-choices .result .few) (c .before .before .if1 .left)) (start c .args .c) (omega arith)
 
 count-choices-requires : tie.Need-count-choices-requires
-count-choices-requires c κs = let a = c .before .before .before .before .before .before in (here a, refl, a .pre .0 .ready)
+count-choices-requires c κs = let a = c .before .before .before .before .before in (here a, refl, a .pre .ready)
 
 returns : tie.Need-returns
 returns c =
-    let a = c .before .before .before .before .before .before .before .before .before in
-    let k = c .before .before .count-choices in
-    agent-12 (a .pre .0) (k .result) (k .ensures (here a) refl (a .pre .0 .ready) (whole-residual (a .pre .0))) (not-true (k .result .few) (c .if1 .taken)) (a .args .c) _
+    let k = c .before .before in
+    let a = begun k in
+    agent-12 (a .pre) (k .count-choices .result) (offered k) (not-true (k .count-choices .result .few) (c .if1 .taken)) (a .args .c)
 
 returns-2 : tie.Need-returns-2
 returns-2 c =
-    let a = c .before .before .before .before .before .before .before .before .before .before .before in
-    let k = c .before .before .before .before .count-choices in
-    agent-13 (a .pre .0) (k .result) (k .ensures (here a) refl (a .pre .0 .ready) (whole-residual (a .pre .0))) (not-false (k .result .few) (c .before .before .if1 .left)) (a .args .c) (omega arith) _
+    let k = c .before .before .before .before in
+    let a = begun k in
+    agent-13 (a .pre) (k .count-choices .result) (offered k) (not-false (k .count-choices .result .few) (c .before .before .if1 .left)) (a .args .c) (omega arith)
+
+slice-aggregate-collect : tie.Need-slice-aggregate-collect
+slice-aggregate-collect c = search needs
 
 collect-requires : tie.Need-collect-requires
 collect-requires c κs =
-    let a = c .before .before .before .before .before .before .before .before .before .before .before .before in
-    (a .pre .0 .ready, (whole-residual (a .pre .0), (taking (c .before), marks-zero (here a) (now (a .args .marks)) (a .pre .1 .room) (a .pre .1 .none))))
+    let z = c .before in
+    let a = start z in
+    (a .pre .ready, (whole-residual (a .pre), (taking z, marks-zeros (here a) 128 (a .pre .ready .checked .sound .shaped .limits .nodes))))
 
-all-hold-requires : tie.Need-all-hold-requires
-all-hold-requires c κs = let a = c .before .before .before .before .before .before .before .before .before .before .before .before .before .before .before .before in agent-guards (a .pre .0) (a .args .c) (taking (c .before .before .before .before .before)) (a .pre .1) (c .before .before .before .collect .ensures)
+slice-aggregate-ask-guards : tie.Need-slice-aggregate-ask-guards
+slice-aggregate-ask-guards c = search needs
 
-same-length : tie.Need-same-length
-same-length c = search needs
+ask-guards-requires : tie.Need-ask-guards-requires
+ask-guards-requires c κs = let z = c .before .before .before .before in agent-guards (start z .pre) (start z .args .c) (taking z) (c .before .before .collect .ensures)
+
+enum-told : tie.Need-enum-told
+enum-told c = search needs
+
+enum-known-asked : tie.Need-enum-known-asked
+enum-known-asked c = search needs
+
+judge-outcome-requires : tie.Need-judge-outcome-requires
+judge-outcome-requires c κs =
+    let w = c .before .before .before .before .before .before in
+    let z = w .before .before in
+    agent-doing (start z .pre) (start z .args .c) (taking z) (w .collect .ensures)
 
 returns-3 : tie.Need-returns-3
 returns-3 c =
-    let a = c .before .before .before .before .before .before .before .before .before .before .before .before .before .before .before .before .before .before in
-    let h = c .before .all-hold in
-    agent-14 (a .pre .0) (a .args .c) (taking (c .before .before .before .before .before .before .before)) (a .pre .1) (c .before .before .before .before .before .collect .ensures) (h .result) (h .ensures) (not-true (h .result) (c .if3 .taken))
-
-outcome-requires : tie.Need-outcome-requires
-outcome-requires c κs = let a = c .before .before .before .before .before .before .before .before .before .before .before .before .before .before .before .before .before .before in (a .pre .0 .ready, (whole-residual (a .pre .0), taking (c .before .before .before .before .before .before .before)))
-
-judge-outcome-requires : tie.Need-judge-outcome-requires
-judge-outcome-requires c κs = let a = c .before .before .before .before .before .before .before .before .before .before .before .before .before .before .before .before .before .before .before in agent-doing (a .pre .0) (a .args .c) (taking (c .before .before .before .before .before .before .before .before)) (c .outcome .result) (c .outcome .ensures)
-
-same-length-2 : tie.Need-same-length-2
-same-length-2 c = search needs
+    let w = c .before .before .before .before .before in
+    let z = w .before .before in
+    agent-14 (start z .pre) (start z .args .c) (taking z) (w .collect .ensures) (c .before .before .ask-guards .ensures) (c .enum-told .given .1)
 
 returns-4 : tie.Need-returns-4
 returns-4 c =
-    let a = c .before .before .before .before .before .before .before .before .before .before .before .before .before .before .before .before .before .before .before .before in
-    let h = c .before .before .before .all-hold in
-    let o = c .before .outcome in
-    agent-last (a .pre .0) (a .args .c) (taking (c .before .before .before .before .before .before .before .before .before)) (a .pre .1) (c .before .before .before .before .before .before .before .collect .ensures) (h .result) (h .ensures) (not-false (h .result) (c .before .before .if3 .left)) (o .result) (o .ensures) (c .judge-outcome .result) (c .judge-outcome .ensures)
+    let w = c .before .before .before .before .before .before .before in
+    let z = w .before .before in
+    agent-last (start z .pre) (start z .args .c) (taking z) (w .collect .ensures) (c .before .before .before .before .ask-guards .ensures) (c .before .before .asked .given .1) (c .judge-outcome .result) (c .judge-outcome .ensures)
 
 pub judge-choice-spec : {M : Type 1} → statement M
 judge-choice-spec =
@@ -77,11 +92,12 @@ judge-choice-spec =
     count-choices-requires
     returns
     returns-2
+    slice-aggregate-collect
     collect-requires
-    all-hold-requires
-    same-length
-    returns-3
-    outcome-requires
+    slice-aggregate-ask-guards
+    ask-guards-requires
+    enum-told
+    enum-known-asked
     judge-outcome-requires
-    same-length-2
+    returns-3
     returns-4)

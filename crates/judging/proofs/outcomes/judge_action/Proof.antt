@@ -40,7 +40,7 @@ clock-of-requires c κs = search needs
 returns : tie.Need-returns
 returns c =
     let a = c .before .before .before .before .before .before .before .before .before .before .before in
-    full-ends (here a) (now (a .args .state)) (a .args .agent) (a .args .n) (a .args .size) _ (sym (value-is (c .before .before .before .before .before .before)) ∙ c .before .before .before .before .value .given .1) _ (c .before .clock-of .ensures) (c .if1 .taken)
+    full-ends (here a) (now (a .args .state)) (a .args .agent) (a .args .n) (a .args .keys) (a .args .size) _ (sym (value-is (c .before .before .before .before .before .before)) ∙ c .before .before .before .before .value .given .1) _ (c .before .clock-of .ensures) (c .if1 .taken)
 
 sized-requires : tie.Need-sized-requires
 sized-requires c κs = search needs
@@ -48,12 +48,12 @@ sized-requires c κs = search needs
 returns-2 : tie.Need-returns-2
 returns-2 c =
     let a = c .before .before .before .before .before .before .before in
-    absent-ends (here a) (now (a .args .state)) (a .args .agent) (a .args .n) (a .args .size) (sym (value-is (c .before .before)) ∙ c .enum-told .given .1)
+    absent-ends (here a) (now (a .args .state)) (a .args .agent) (a .args .n) (a .args .keys) (a .args .size) (sym (value-is (c .before .before)) ∙ c .enum-told .given .1)
 
 returns-3 : tie.Need-returns-3
 returns-3 c =
     let a = c .before .before .before .before .before .before .before .before .before .before .before .before in
-    action-ends (here a) (now (a .args .state)) (a .args .agent) (a .args .n) (a .args .size) _ (sym (value-is (c .before .before .before .before .before .before .before)) ∙ c .before .before .before .before .before .value .given .1) _ (c .before .before .clock-of .ensures) (c .before .if1 .left) (c .sized .result) (c .sized .ensures)
+    action-ends (here a) (now (a .args .state)) (a .args .agent) (a .args .n) (a .args .keys) (a .args .size) _ (sym (value-is (c .before .before .before .before .before .before .before)) ∙ c .before .before .before .before .before .value .given .1) _ (c .before .before .clock-of .ensures) (c .before .if1 .left) (c .sized .result) (c .sized .ensures)
 
 pub judge-action-spec : {M : Type 1} → statement M
 judge-action-spec =

@@ -71,15 +71,6 @@ returns-2 c = search needs
 sub-c : tie.Need-sub-c
 sub-c c = search needs
 
-slice-reshare-prefix-outcome : tie.Need-slice-reshare-prefix-outcome
-slice-reshare-prefix-outcome c = search needs
-
-slice-aggregate-outcome : tie.Need-slice-aggregate-outcome
-slice-aggregate-outcome c = one (start (c .before))
-
-outcome-requires : tie.Need-outcome-requires
-outcome-requires c κs = (start (c .before) .pre .0, (start (c .before) .pre .1 .0 .1, taking (c .before)))
-
 print-does-requires : tie.Need-print-does-requires
 print-does-requires c κs = search needs
 
@@ -87,13 +78,15 @@ slice-reshare-prefix-collect : tie.Need-slice-reshare-prefix-collect
 slice-reshare-prefix-collect c = search needs
 
 slice-aggregate-collect : tie.Need-slice-aggregate-collect
-slice-aggregate-collect c = one (start (c .before .before .before .before .before))
+slice-aggregate-collect c = one (start (c .before .before))
 
 collect-requires : tie.Need-collect-requires
-collect-requires c κs = let z = c .before .before .before .before .before in (start z .pre .0, (start z .pre .1 .0 .1, (taking z, start z .pre .1 .1)))
+collect-requires c κs = let z = c .before .before in (start z .pre .0, (start z .pre .1 .0 .1, (taking z, start z .pre .1 .1)))
 
 marked-guards-requires : tie.Need-marked-guards-requires
-marked-guards-requires c κs = let z = start (c .before .before .before .before .before .before .before .before .before) in omega (arith, z .pre .0 .checked .sound .shaped .kinds, c .before .before .before .collect .ensures .marks .room)
+marked-guards-requires c κs =
+    let z = start (c .before .before .before .before .before .before .before) in
+    omega (arith, z .pre .0 .checked .sound .shaped .kinds, c .before .before .before .before .collect .ensures .marked .marks .room)
 
 print-number-requires-2 : tie.Need-print-number-requires-2
 print-number-requires-2 c κs = search needs
@@ -103,9 +96,9 @@ print-number-requires-3 c κs = search needs
 
 rewrite-requires : tie.Need-rewrite-requires
 rewrite-requires c κs =
-    let z = c .before .before .before .before .before .before .before .before .before .before .before .before .before .before in
-    let e = c .before .before .before .before .before .before .before .before .before .before .before .before .outcome .ensures .size in
-    (start z .pre .0, (start z .pre .1 .0 .0, (start z .pre .1 .0 .1, (taking z, omega (arith, e, c .before .if3 .taken)))))
+    let k = c .before .before .before .before .before .before .before .before .before in
+    let z = k .before .before .before in
+    (start z .pre .0, (start z .pre .1 .0 .0, (start z .pre .1 .0 .1, (taking z, omega (arith, k .collect .ensures .tells .size, c .before .if3 .taken)))))
 
 slice-reshare-prefix-print-words : tie.Need-slice-reshare-prefix-print-words
 slice-reshare-prefix-print-words c = search needs
@@ -147,13 +140,10 @@ print-last-choice-spec =
     same-length-2
     returns-2
     sub-c
-    slice-reshare-prefix-outcome
-    slice-aggregate-outcome
-    outcome-requires
-    print-does-requires
     slice-reshare-prefix-collect
     slice-aggregate-collect
     collect-requires
+    print-does-requires
     marked-guards-requires
     print-number-requires-2
     print-number-requires-3

@@ -1,4 +1,4 @@
--- `mark_at` meets its contract. Assumes nothing.
+-- `mark_tick_at` meets its contract. Assumes nothing.
 use Prim.Native.Nat.{ℕ, _<_, _-_}
 use mathlib.Core.Path.{_≡_, sym, ap, subst}
 use mathlib.Core.List.{List}
@@ -16,33 +16,33 @@ use Rattle.residual.specs.Steps.{Stepped, Stands}
 use Rattle.residual.proofs.Standing.{pairs-ready, stands-here, part-stands}
 use borrow.Fn.Kinds.{In}
 use borrow.Fn.PlainCycle.{Measures, is, falls, and}
-use Rattle.residual.proofs.marking.mark_at.Reads as mark-at
-use Rattle.residual.proofs.marking.mark_at.Kinds as mark-at-kinds
-use Rattle.residual.proofs.marking.+mark_at.Lts-mark_at as mark-at-lts
-use Rattle.choice.proofs.marking.mark_node.Reads as mark-node-reads
+use Rattle.residual.proofs.marking.mark_tick_at.Reads as mark-tick-at
+use Rattle.residual.proofs.marking.mark_tick_at.Kinds as mark-tick-at-kinds
+use Rattle.residual.proofs.marking.+mark_tick_at.Lts-mark_tick_at as mark-tick-at-lts
+use Rattle.choice.proofs.marking.mark_tick.Reads as mark-tick-reads
 use Rattle.residual.proofs.steps.step_at.Reads as step-at-reads
 use Rattle.table.proofs.first_root.Reads as first-root-reads
-use Rattle.residual.proofs.marking.+mark_at.{statement}
-use Rattle.residual.proofs.marking.+mark_at.Tie.{close}
+use Rattle.residual.proofs.marking.+mark_tick_at.{statement}
+use Rattle.residual.proofs.marking.+mark_tick_at.Tie.{close}
 
-abbrev μ-mark-at : Measures 5 mark-at-kinds.ps ℕ
-μ-mark-at κs a = length (a .1 .1 .1 .1 .1 .0 .now) - a .1 .1 .1 .1 .1 .1 .0 .from .at
+abbrev μ-mark-tick-at : Measures 5 mark-tick-at-kinds.ps ℕ
+μ-mark-tick-at κs a = length (a .1 .1 .1 .1 .1 .0 .now) - a .1 .1 .1 .1 .1 .1 .0 .from .at
 
-abbrev mark-at-at : ℕ → In 5 mark-at-kinds.ps
-mark-at-at t = and 5 mark-at-kinds.ps (is 5 mark-at-kinds.ps μ-mark-at t) mark-at.Pre
+abbrev mark-tick-at-at : ℕ → In 5 mark-tick-at-kinds.ps
+mark-tick-at-at t = and 5 mark-tick-at-kinds.ps (is 5 mark-tick-at-kinds.ps μ-mark-tick-at t) mark-tick-at.Pre
 
-abbrev mark-at-below : ℕ → In 5 mark-at-kinds.ps
-mark-at-below t = and 5 mark-at-kinds.ps (falls 5 mark-at-kinds.ps _<_ μ-mark-at t) mark-at.Pre
+abbrev mark-tick-at-below : ℕ → In 5 mark-tick-at-kinds.ps
+mark-tick-at-below t = and 5 mark-tick-at-kinds.ps (falls 5 mark-tick-at-kinds.ps _<_ μ-mark-tick-at t) mark-tick-at.Pre
 
 module _ (t : ℕ) where
-  abbrev claims : mark-at-lts.Claims
-  claims = (first-root-reads.Asked, first-root-reads.Learnt, step-at-reads.Asked, step-at-reads.Learnt, mark-node-reads.Asked, mark-node-reads.Learnt, mark-at-below t, mark-at.Post)
+  abbrev claims : mark-tick-at-lts.Claims
+  claims = (first-root-reads.Asked, first-root-reads.Learnt, step-at-reads.Asked, step-at-reads.Learnt, mark-tick-reads.Asked, mark-tick-reads.Learnt, mark-tick-at-below t, mark-tick-at.Post)
 
   -- a step has been made
   abbrev At : Type 0
-  At = mark-at-lts.After-step-at claims (mark-at-at t) mark-at.Post
+  At = mark-tick-at-lts.After-step-at claims (mark-tick-at-at t) mark-tick-at.Post
 
-  abbrev start : At → mark-at-lts.Start claims (mark-at-at t) mark-at.Post
+  abbrev start : At → mark-tick-at-lts.Start claims (mark-tick-at-at t) mark-tick-at.Post
   start c = c .before .before .before .before .before .before .before
 
   abbrev tb : At → Table
@@ -73,91 +73,91 @@ module _ (t : ℕ) where
   low : (c : At) → start c .args .target .from .at < length (ws c)
   low c = stands-here (tb c) (here c .0) (start c .args .target) (ws c) (here c .1)
 
-  first-root-requires : mark-at-lts.Need-first-root-requires claims (mark-at-at t) mark-at.Post
+  first-root-requires : mark-tick-at-lts.Need-first-root-requires claims (mark-tick-at-at t) mark-tick-at.Post
   first-root-requires c κs = c .before .before .before .before .before .pre .1 .0 .checked .sound .shaped .limits
 
-  step-at-requires : mark-at-lts.Need-step-at-requires claims (mark-at-at t) mark-at.Post
+  step-at-requires : mark-tick-at-lts.Need-step-at-requires claims (mark-tick-at-at t) mark-tick-at.Post
   step-at-requires c κs =
       let a = c .before .before .before .before .before .before in
       pairs-ready (table (a .args .sizes) (now (a .args .kinds)) (now (a .args .operands))) (now (a .args .scratch)) (a .pre .1 .0) _ (c .first-root .ensures)
 
-  enum-told : mark-at-lts.Need-enum-told claims (mark-at-at t) mark-at.Post
+  enum-told : mark-tick-at-lts.Need-enum-told claims (mark-tick-at-at t) mark-tick-at.Post
   enum-told c = c .match .keys1
 
-  enum-known-step : mark-at-lts.Need-enum-known-step claims (mark-at-at t) mark-at.Post
+  enum-known-step : mark-tick-at-lts.Need-enum-known-step claims (mark-tick-at-at t) mark-tick-at.Post
   enum-known-step c = c .match .keys2
 
-  mark-node-requires : mark-at-lts.Need-mark-node-requires claims (mark-at-at t) mark-at.Post
-  mark-node-requires c κs = let z = c .before .before .before .before in (ready z, (step z (here z .0) (here z .1) _ (c .before .before .step .given .1) .1, kept z))
+  mark-tick-requires : mark-tick-at-lts.Need-mark-tick-requires claims (mark-tick-at-at t) mark-tick-at.Post
+  mark-tick-requires c κs = let z = c .before .before .before .before in (ready z, (step z (here z .0) (here z .1) _ (c .before .before .step .given .1) .1, kept z))
 
-  enum-known-step-2 : mark-at-lts.Need-enum-known-step-2 claims (mark-at-at t) mark-at.Post
+  enum-known-step-2 : mark-tick-at-lts.Need-enum-known-step-2 claims (mark-tick-at-at t) mark-tick-at.Post
   enum-known-step-2 c = c .match .keys3
 
-  mark-at-requires : mark-at-lts.Need-mark-at-requires claims (mark-at-at t) mark-at.Post
-  mark-at-requires c κs =
+  mark-tick-at-requires : mark-tick-at-lts.Need-mark-tick-at-requires claims (mark-tick-at-at t) mark-tick-at.Post
+  mark-tick-at-requires c κs =
       let z = c .before .before .before .before in
       let X = here z .0 in
       let e = step z X (here z .1) _ (c .before .before .step2 .given .1) in
       (omega (arith, low z, start z .pre .0, e .part .place, e .part .some), (ready z, ((e .term, part-stands (tb z) X (start z .args .target) (ws z) (here z .1) (e .part)), kept z)))
 
-  enum-known-step-3 : mark-at-lts.Need-enum-known-step-3 claims (mark-at-at t) mark-at.Post
+  enum-known-step-3 : mark-tick-at-lts.Need-enum-known-step-3 claims (mark-tick-at-at t) mark-tick-at.Post
   enum-known-step-3 c = c .match .keys4
 
-  mark-at-requires-2 : mark-at-lts.Need-mark-at-requires-2 claims (mark-at-at t) mark-at.Post
-  mark-at-requires-2 c κs =
+  mark-tick-at-requires-2 : mark-tick-at-lts.Need-mark-tick-at-requires-2 claims (mark-tick-at-at t) mark-tick-at.Post
+  mark-tick-at-requires-2 c κs =
       let z = c .before .before .before .before in
       let X = here z .0 in
       let e = step z X (here z .1) _ (c .before .before .step3 .given .1) in
       (omega (arith, low z, start z .pre .0, e .tick .place, e .tick .some), (ready z, ((e .ticking, part-stands (tb z) X (start z .args .target) (ws z) (here z .1) (e .tick)), kept z)))
 
-  mark-at-requires-3 : mark-at-lts.Need-mark-at-requires-3 claims (mark-at-at t) mark-at.Post
-  mark-at-requires-3 c κs =
+  mark-tick-at-requires-3 : mark-tick-at-lts.Need-mark-tick-at-requires-3 claims (mark-tick-at-at t) mark-tick-at.Post
+  mark-tick-at-requires-3 c κs =
       let z = c .before .before .before .before .before .before .before .before in
       let X = here z .0 in
       let e = step z X (here z .1) _ (c .before .before .before .before .before .before .step3 .given .1) in
-      let k = c .before .before .before .mark-at2 .ensures (e .ticking) (part-stands (tb z) X (start z .args .target) (ws z) (here z .1) (e .tick)) in
+      let k = c .before .before .before .mark-tick-at2 .ensures (e .ticking) (part-stands (tb z) X (start z .args .target) (ws z) (here z .1) (e .tick)) in
       (omega (arith, low z, start z .pre .0, e .part .place, e .part .some), (ready z, ((e .term, part-stands (tb z) X (start z .args .target) (ws z) (here z .1) (e .part)), k .marks)))
 
-  returns : mark-at-lts.Need-returns claims (mark-at-at t) mark-at.Post
+  returns : mark-tick-at-lts.Need-returns claims (mark-tick-at-at t) mark-tick-at.Post
   returns c = λ X st. let z = c .before .before in marked-same (step z X st _ (c .enum-told .given .1) .1 .guards) (marked-none (tb z) (ms z) (kept z))
 
-  same-length : mark-at-lts.Need-same-length claims (mark-at-at t) mark-at.Post
-  same-length c = c .before .before .mark-node .ensures .same
+  same-length : mark-tick-at-lts.Need-same-length claims (mark-tick-at-at t) mark-tick-at.Post
+  same-length c = c .before .before .mark-tick .ensures .same
 
-  returns-2 : mark-at-lts.Need-returns-2 claims (mark-at-at t) mark-at.Post
-  returns-2 c = λ X st. let z = c .before .before .before .before .before .before .before in marked-same (ap (λ (d : Derivation). d .guards) (step z X st _ (c .before .before .before .before .before .step .given .1) .2)) (c .before .before .mark-node .ensures)
+  returns-2 : mark-tick-at-lts.Need-returns-2 claims (mark-tick-at-at t) mark-tick-at.Post
+  returns-2 c = λ X st. let z = c .before .before .before .before .before .before .before in marked-same (ap (λ (d : Derivation). d .guards) (step z X st _ (c .before .before .before .before .before .step .given .1) .2)) (c .before .before .mark-tick .ensures)
 
-  returns-3 : mark-at-lts.Need-returns-3 claims (mark-at-at t) mark-at.Post
+  returns-3 : mark-tick-at-lts.Need-returns-3 claims (mark-tick-at-at t) mark-tick-at.Post
   returns-3 c = λ X st.
       let z = c .before .before .before .before .before .before .before in
       let e = step z X st _ (c .before .before .before .before .before .step2 .given .1) in
-      marked-same (e .around .guards) (c .before .before .mark-at .ensures (e .term) (part-stands (tb z) X (start z .args .target) (ws z) st (e .part)))
+      marked-same (e .around .guards) (c .before .before .mark-tick-at .ensures (e .term) (part-stands (tb z) X (start z .args .target) (ws z) st (e .part)))
 
-  same-length-2 : mark-at-lts.Need-same-length-2 claims (mark-at-at t) mark-at.Post
+  same-length-2 : mark-tick-at-lts.Need-same-length-2 claims (mark-tick-at-at t) mark-tick-at.Post
   same-length-2 c = let z = c .before .before .before .before .before .before .before in returns-3 c (here z .0) (here z .1) .same
 
-  returns-4 : mark-at-lts.Need-returns-4 claims (mark-at-at t) mark-at.Post
+  returns-4 : mark-tick-at-lts.Need-returns-4 claims (mark-tick-at-at t) mark-tick-at.Post
   returns-4 c = λ X st.
       let z = c .before .before .before .before .before .before .before .before .before .before .before in
       let e = step z X st _ (c .before .before .before .before .before .before .before .before .before .step3 .given .1) in
       marked-same (e .around .guards)
-      (marked-join (tb z) (ms z) (kept z) _ _ _ _ (c .before .before .before .before .before .before .mark-at2 .ensures (e .ticking) (part-stands (tb z) X (start z .args .target) (ws z) st (e .tick))) (c .before .before .mark-at3 .ensures (e .term) (part-stands (tb z) X (start z .args .target) (ws z) st (e .part))))
+      (marked-join (tb z) (ms z) (kept z) _ _ _ _ (c .before .before .before .before .before .before .mark-tick-at2 .ensures (e .ticking) (part-stands (tb z) X (start z .args .target) (ws z) st (e .tick))) (c .before .before .mark-tick-at3 .ensures (e .term) (part-stands (tb z) X (start z .args .target) (ws z) st (e .part))))
 
-  same-length-3 : mark-at-lts.Need-same-length-3 claims (mark-at-at t) mark-at.Post
+  same-length-3 : mark-tick-at-lts.Need-same-length-3 claims (mark-tick-at-at t) mark-tick-at.Post
   same-length-3 c = let z = c .before .before .before .before .before .before .before .before .before .before .before in returns-4 c (here z .0) (here z .1) .same
 
-pub +mark-at-spec : {M : Type 1} → statement M
-+mark-at-spec = close μ-mark-at λ t. mark-at-lts.spec (claims t) (mark-at-at t) mark-at.Post
+pub +mark-tick-at-spec : {M : Type 1} → statement M
++mark-tick-at-spec = close μ-mark-tick-at λ t. mark-tick-at-lts.spec (claims t) (mark-tick-at-at t) mark-tick-at.Post
     (first-root-requires t)
     (step-at-requires t)
     (enum-told t)
     (enum-known-step t)
-    (mark-node-requires t)
+    (mark-tick-requires t)
     (enum-known-step-2 t)
-    (mark-at-requires t)
+    (mark-tick-at-requires t)
     (enum-known-step-3 t)
-    (mark-at-requires-2 t)
-    (mark-at-requires-3 t)
+    (mark-tick-at-requires-2 t)
+    (mark-tick-at-requires-3 t)
     (returns t)
     (same-length t)
     (returns-2 t)

@@ -1,4 +1,4 @@
--- `mark_node` meets its contract. Assumes nothing.
+-- `mark_tick` meets its contract. Assumes nothing.
 use mathlib.Core.Bool.{true}
 use mathlib.Core.Logic.{⊎-elim}
 use mathlib.Core.Path.{_≡_, refl, sym, ap, subst, _∙_}
@@ -14,39 +14,39 @@ use Rattle.choice.specs.declared.Turn.{Turn}
 use Rattle.choice.specs.Chosen.{chosenIn}
 use Rattle.choice.specs.Turns.{chosenAt, ahead, sideGuards, SideReached, Onward, Turned}
 use Rattle.choice.specs.Marking.{WithMark, WalkMarks, Marked}
-use Rattle.choice.proofs.Collecting.{reached-process, only-first, marked-none, marked-guard, marked-join, marked-before, marked-after, marked-same}
+use Rattle.choice.proofs.Collecting.{reached-process, only-first, marked-none, marked-guard, marked-join, marked-before, marked-after, marked-same, marked-side}
 use Prim.Native.Nat.{ℕ, _<_}
 use borrow.Fn.Kinds.{In}
 use borrow.Fn.PlainCycle.{Measures, is, falls, and}
-use Rattle.choice.proofs.marking.mark_node.Reads as mark-node
-use Rattle.choice.proofs.marking.mark_node.Kinds as mark-node-kinds
-use Rattle.choice.proofs.marking.+mark_node.Lts-mark_node as mark-node-lts
+use Rattle.choice.proofs.marking.mark_tick.Reads as mark-tick
+use Rattle.choice.proofs.marking.mark_tick.Kinds as mark-tick-kinds
+use Rattle.choice.proofs.marking.+mark_tick.Lts-mark_tick as mark-tick-lts
 use Rattle.accept.proofs.pair.Reads as pair-reads
 use Rattle.choice.proofs.marking.has_mark.Reads as has-mark-reads
 use Rattle.choice.proofs.marking.mark.Reads as mark-reads
 use Rattle.choice.proofs.marking.only_tick.Reads as only-tick-reads
 use Rattle.choice.proofs.turns.turn_at.Reads as turn-at-reads
-use Rattle.choice.proofs.marking.+mark_node.{statement}
-use Rattle.choice.proofs.marking.+mark_node.Tie.{close}
+use Rattle.choice.proofs.marking.+mark_tick.{statement}
+use Rattle.choice.proofs.marking.+mark_tick.Tie.{close}
 
-abbrev μ-mark-node : Measures 4 mark-node-kinds.ps ℕ
-μ-mark-node κs a = ahead (table (a .0) (now (a .1 .0)) (now (a .1 .1 .0))) (a .1 .1 .1 .1 .1 .0)
+abbrev μ-mark-tick : Measures 4 mark-tick-kinds.ps ℕ
+μ-mark-tick κs a = ahead (table (a .0) (now (a .1 .0)) (now (a .1 .1 .0))) (a .1 .1 .1 .1 .1 .0)
 
-abbrev mark-node-at : ℕ → In 4 mark-node-kinds.ps
-mark-node-at t = and 4 mark-node-kinds.ps (is 4 mark-node-kinds.ps μ-mark-node t) mark-node.Pre
+abbrev mark-tick-at : ℕ → In 4 mark-tick-kinds.ps
+mark-tick-at t = and 4 mark-tick-kinds.ps (is 4 mark-tick-kinds.ps μ-mark-tick t) mark-tick.Pre
 
-abbrev mark-node-below : ℕ → In 4 mark-node-kinds.ps
-mark-node-below t =
-    and 4 mark-node-kinds.ps (falls 4 mark-node-kinds.ps _<_ μ-mark-node t) mark-node.Pre
+abbrev mark-tick-below : ℕ → In 4 mark-tick-kinds.ps
+mark-tick-below t =
+    and 4 mark-tick-kinds.ps (falls 4 mark-tick-kinds.ps _<_ μ-mark-tick t) mark-tick.Pre
 
 module _ (t : ℕ) where
-  abbrev claims : mark-node-lts.Claims
-  claims = (pair-reads.Asked, pair-reads.Learnt, only-tick-reads.Asked, only-tick-reads.Learnt, has-mark-reads.Asked, has-mark-reads.Learnt, turn-at-reads.Asked, turn-at-reads.Learnt, mark-reads.Asked, mark-reads.Learnt, mark-node-below t, mark-node.Post)
+  abbrev claims : mark-tick-lts.Claims
+  claims = (pair-reads.Asked, pair-reads.Learnt, only-tick-reads.Asked, only-tick-reads.Learnt, has-mark-reads.Asked, has-mark-reads.Learnt, turn-at-reads.Asked, turn-at-reads.Learnt, mark-reads.Asked, mark-reads.Learnt, mark-tick-below t, mark-tick.Post)
 
   abbrev Tested : Type 0
-  Tested = mark-node-lts.After-only-tick claims (mark-node-at t) mark-node.Post
+  Tested = mark-tick-lts.After-only-tick claims (mark-tick-at t) mark-tick.Post
 
-  abbrev start : Tested → mark-node-lts.Start claims (mark-node-at t) mark-node.Post
+  abbrev start : Tested → mark-tick-lts.Start claims (mark-tick-at t) mark-tick.Post
   start c = c .before .before .before .before .before .before
 
   abbrev tb : Tested → Table
@@ -82,17 +82,17 @@ module _ (t : ℕ) where
   noted c e m f = marked-same (only c e) (marked-after (tb c) (ms c) (marks c) (n c) (process c) (low c) (marked-same (sym (only c e)) m) f)
 
   abbrev At : Type 0
-  At = mark-node-lts.After-turn-at claims (mark-node-at t) mark-node.Post
+  At = mark-tick-lts.After-turn-at claims (mark-tick-at t) mark-tick.Post
 
   step : (c : At) (r : Turn) → c .turn-at .result ≡ r → Turned (tb (c .before .before)) (start (c .before .before) .args .goal) r
   step c r e = subst (Turned (tb (c .before .before)) (start (c .before .before) .args .goal)) e (c .turn-at .ensures)
 
-  ended : (c : mark-node-lts.After-enum-told claims (mark-node-at t) mark-node.Post) → guards (c .before .before .before .before) ≡ []
+  ended : (c : mark-tick-lts.After-enum-told claims (mark-tick-at t) mark-tick.Post) → guards (c .before .before .before .before) ≡ []
   ended c = step (c .before .before) _ (c .enum-told .given .1) .guards
 
   -- where the walk goes on, with this collected
   abbrev On : Type 0
-  On = mark-node-lts.After-turn claims (mark-node-at t) mark-node.Post
+  On = mark-tick-lts.After-turn claims (mark-tick-at t) mark-tick.Post
 
   abbrev tested : On → Tested
   tested c = c .before .before .before .before
@@ -109,24 +109,21 @@ module _ (t : ℕ) where
   abbrev Aside : On → Side → List ℕ → Type 0
   Aside c s out = Marked (tb (tested c)) (sideGuards (tb (tested c)) s) (ms (tested c)) out
 
-  aside : (c : On) (s : Side) (vs out : List ℕ) → side c ≡ s → out ≡ vs → Aside c s vs → Aside c (side c) out
-  aside c s vs out e f m = subst (λ (x : Side). Aside c x out) (sym e) (subst (Aside c s) (sym f) m)
-
   -- it has been collected
   abbrev Collected : Type 0
-  Collected = mark-node-lts.At-match2-came claims (mark-node-at t) mark-node.Post
+  Collected = mark-tick-lts.At-match2-came claims (mark-tick-at t) mark-tick.Post
 
   collected : (c : Collected) → Aside (c .before .before) (side (c .before .before)) (c .match2 .marks)
   collected c =
       let o = c .before .before in
       let z = tested o in
-      ⊎-elim (λ w. aside o _ _ _ (w .1 .given .1) (w .2) (marked-none (tb z) (ms z) (marks z)))
-      (⊎-elim (λ w. aside o _ _ _ (w .1 .given .1) (w .7) (marked-guard (tb z) (ms z) (marks z) _ (collects o _ (w .1 .given .1)) (w .4 .ensures)))
-      (λ w. aside o _ _ _ (w .1 .given .1) (w .7) (w .4 .ensures))) (c .match2 .came)
+      ⊎-elim (λ w. marked-side (w .1 .given .1) (w .2) (marked-none (tb z) (ms z) (marks z)))
+      (⊎-elim (λ w. marked-side (w .1 .given .1) (w .7) (marked-guard (tb z) (ms z) (marks z) _ (collects o _ (w .1 .given .1)) (w .4 .ensures)))
+      (λ w. marked-side (w .1 .given .1) (w .7) (w .4 .ensures))) (c .match2 .came)
 
   -- the walk is done
   abbrev Walked : Type 0
-  Walked = mark-node-lts.At-match-came claims (mark-node-at t) mark-node.Post
+  Walked = mark-tick-lts.At-match-came claims (mark-tick-at t) mark-tick.Post
 
   walked : (c : Walked) → let z = c .before .before .before in Marked (tb z) (guards z) (ms z) (c .match .marks)
   walked c =
@@ -138,81 +135,81 @@ module _ (t : ℕ) where
       let j : Collected = record { before = record { before = o; known-told = w .2 }; match2 = w .3 } in
       subst Is (sym (w .8)) (marked-same (onward o .around .guards) (marked-join (tb z) (ms z) (marks z) _ _ _ _ (collected j) (w .5 .ensures)))) (c .match .came)
 
-  pair-requires : mark-node-lts.Need-pair-requires claims (mark-node-at t) mark-node.Post
+  pair-requires : mark-tick-lts.Need-pair-requires claims (mark-tick-at t) mark-tick.Post
   pair-requires c κs = let a = c .before .before .before .before in omega (arith, a .pre .1 .1 .0 .low, a .pre .1 .0 .counted .words)
 
-  only-tick-requires : mark-node-lts.Need-only-tick-requires claims (mark-node-at t) mark-node.Post
+  only-tick-requires : mark-tick-lts.Need-only-tick-requires claims (mark-tick-at t) mark-tick.Post
   only-tick-requires c κs = tt
 
-  has-mark-requires : mark-node-lts.Need-has-mark-requires claims (mark-node-at t) mark-node.Post
+  has-mark-requires : mark-tick-lts.Need-has-mark-requires claims (mark-tick-at t) mark-tick.Post
   has-mark-requires c κs = let z = c .before .before in omega (arith, low z, marks z .room)
 
-  returns : mark-node-lts.Need-returns claims (mark-node-at t) mark-node.Post
+  returns : mark-tick-lts.Need-returns claims (mark-tick-at t) mark-tick.Post
   returns c =
       let z = c .before .before .before .before in
       marked-same (only z (c .before .before .before .if1 .taken)) (marked-before (tb z) (ms z) (marks z) (n z) (process z) (sym (c .before .has-mark .ensures) ∙ c .if2 .taken))
 
-  turn-at-requires : mark-node-lts.Need-turn-at-requires claims (mark-node-at t) mark-node.Post
+  turn-at-requires : mark-tick-lts.Need-turn-at-requires claims (mark-tick-at t) mark-tick.Post
   turn-at-requires c κs = let a = start (c .before) in (a .pre .1 .0, a .pre .1 .1 .0)
 
-  enum-told : mark-node-lts.Need-enum-told claims (mark-node-at t) mark-node.Post
+  enum-told : mark-tick-lts.Need-enum-told claims (mark-tick-at t) mark-tick.Post
   enum-told c = c .match .keys1
 
-  enum-known-turn : mark-node-lts.Need-enum-known-turn claims (mark-node-at t) mark-node.Post
+  enum-known-turn : mark-tick-lts.Need-enum-known-turn claims (mark-tick-at t) mark-tick.Post
   enum-known-turn c = c .match .keys2
 
-  enum-told-2 : mark-node-lts.Need-enum-told-2 claims (mark-node-at t) mark-node.Post
+  enum-told-2 : mark-tick-lts.Need-enum-told-2 claims (mark-tick-at t) mark-tick.Post
   enum-told-2 c = c .match2 .keys1
 
-  enum-known-side : mark-node-lts.Need-enum-known-side claims (mark-node-at t) mark-node.Post
+  enum-known-side : mark-tick-lts.Need-enum-known-side claims (mark-tick-at t) mark-tick.Post
   enum-known-side c = c .match2 .keys2
 
-  mark-requires : mark-node-lts.Need-mark-requires claims (mark-node-at t) mark-node.Post
+  mark-requires : mark-tick-lts.Need-mark-requires claims (mark-tick-at t) mark-tick.Post
   mark-requires c κs =
       let o = c .before .before .before .before .before in
       omega (arith, collects o _ (c .before .before .side .given .1) .0, marks (tested o) .room)
 
-  enum-known-side-2 : mark-node-lts.Need-enum-known-side-2 claims (mark-node-at t) mark-node.Post
+  enum-known-side-2 : mark-tick-lts.Need-enum-known-side-2 claims (mark-tick-at t) mark-tick.Post
   enum-known-side-2 c = c .match2 .keys3
 
-  mark-node-requires : mark-node-lts.Need-mark-node-requires claims (mark-node-at t) mark-node.Post
-  mark-node-requires c κs =
+  mark-tick-requires : mark-tick-lts.Need-mark-tick-requires claims (mark-tick-at t) mark-tick.Post
+  mark-tick-requires c κs =
       let o = c .before .before .before .before .before in
       let e = collects o _ (c .before .before .side2 .given .1) in
       let a = start (tested o) in
       (omega (arith, e .falls, a .pre .0), (a .pre .1 .0, (e .reached, a .pre .1 .1 .1)))
 
-  mark-node-requires-2 : mark-node-lts.Need-mark-node-requires-2 claims (mark-node-at t) mark-node.Post
-  mark-node-requires-2 c κs =
+  mark-tick-requires-2 : mark-tick-lts.Need-mark-tick-requires-2 claims (mark-tick-at t) mark-tick.Post
+  mark-tick-requires-2 c κs =
       let o = c .before .before .before in
       let e = onward o .nearer in
       let a = start (tested o) in
       (omega (arith, e .falls, a .pre .0), (a .pre .1 .0, (e .reached, collected (c .before) .marks)))
 
-  mark-requires-2 : mark-node-lts.Need-mark-requires-2 claims (mark-node-at t) mark-node.Post
+  mark-requires-2 : mark-tick-lts.Need-mark-requires-2 claims (mark-tick-at t) mark-tick.Post
   mark-requires-2 c κs = let j = c .before .before in omega (arith, low (j .before .before .before), walked j .marks .room)
 
-  same-length : mark-node-lts.Need-same-length claims (mark-node-at t) mark-node.Post
+  same-length : mark-tick-lts.Need-same-length claims (mark-tick-at t) mark-tick.Post
   same-length c = refl
 
-  same-length-2 : mark-node-lts.Need-same-length-2 claims (mark-node-at t) mark-node.Post
+  same-length-2 : mark-tick-lts.Need-same-length-2 claims (mark-tick-at t) mark-tick.Post
   same-length-2 c =
       let i = c .before .before .before .before in
       noted (i .before .before .before .before) (i .if3 .taken) (walked (i .before)) (c .before .before .mark2 .ensures) .same
 
-  returns-2 : mark-node-lts.Need-returns-2 claims (mark-node-at t) mark-node.Post
+  returns-2 : mark-tick-lts.Need-returns-2 claims (mark-tick-at t) mark-tick.Post
   returns-2 c =
       let i = c .before .before .before .before in
       noted (i .before .before .before .before) (i .if3 .taken) (walked (i .before)) (c .before .before .mark2 .ensures)
 
-  same-length-3 : mark-node-lts.Need-same-length-3 claims (mark-node-at t) mark-node.Post
+  same-length-3 : mark-tick-lts.Need-same-length-3 claims (mark-tick-at t) mark-tick.Post
   same-length-3 c = walked (c .before) .same
 
-  returns-3 : mark-node-lts.Need-returns-3 claims (mark-node-at t) mark-node.Post
+  returns-3 : mark-tick-lts.Need-returns-3 claims (mark-tick-at t) mark-tick.Post
   returns-3 c = walked (c .before)
 
-pub +mark-node-spec : {M : Type 1} → statement M
-+mark-node-spec = close μ-mark-node λ t. mark-node-lts.spec (claims t) (mark-node-at t) mark-node.Post
+pub +mark-tick-spec : {M : Type 1} → statement M
++mark-tick-spec = close μ-mark-tick λ t. mark-tick-lts.spec (claims t) (mark-tick-at t) mark-tick.Post
     (pair-requires t)
     (only-tick-requires t)
     (has-mark-requires t)
@@ -225,8 +222,8 @@ pub +mark-node-spec : {M : Type 1} → statement M
     (enum-known-side t)
     (mark-requires t)
     (enum-known-side-2 t)
-    (mark-node-requires t)
-    (mark-node-requires-2 t)
+    (mark-tick-requires t)
+    (mark-tick-requires-2 t)
     (mark-requires-2 t)
     (same-length-2 t)
     (returns-2 t)
