@@ -13,11 +13,10 @@ use Rattle.basis.proofs.Numbers.{some-more, some-none}
 use Rattle.basis.proofs.Tests.{and-right, and-when, is-false}
 use Rattle.table.specs.Tables.{Table, pAt, qAt}
 use Rattle.table.specs.Nodes.{fitting, leftNode, rightNode, names, inner, named, namesAgain, badNode}
-use Rattle.table.specs.Marks.{namedBit, leftBit, rightBit, processBit, linkBit, firstWord, marking, isMarked, changed, Shows, Shown, TwoMarks}
-use Rattle.table.specs.Reach.{processNode, linkRoot}
+use Rattle.table.specs.Marks.{namedBit, marking, isMarked, changed, Shows, TwoMarks}
 use Rattle.table.proofs.Operands.{left-lower, right-lower, names-lower}
 use Rattle.table.proofs.Promises.{not-bad}
-use Rattle.table.proofs.Marking.{first-named, shows-next, shown-next, once-is, twice-is}
+use Rattle.table.proofs.Marking.{shows-next, once-is, twice-is}
 
 -- two tests that are the same by their tables
 again-test : (i l r a b e : Bool) → (((i && l) && a) || ((i && r) && (((i && l) && e) || b))) ≡ (i && ((l && a) || ((r && b) || (l && (r && e)))))
@@ -54,18 +53,13 @@ module _ (t : Table) where
   -- the words when the nodes below i have had their turns
   pub record Turned (words : List ℕ) (i : ℕ) : Type 0 where
     pub names : Shows words namedBit i (named t i)
-    pub shown : Shown t words i
 
   pub turned-none : (words : List ℕ) → Turned words 0
-  turned-none words =
-      record {
-        names = λ m h. absurd (omega arith);
-        shown = record { left = λ m h. absurd (omega arith); right = λ m h. absurd (omega arith); process = λ m h. absurd (omega arith); link = λ m h. absurd (omega arith) };
-      }
+  turned-none words = record { names = λ m h. absurd (omega arith) }
 
   -- a turn: node i's word is written, and what it names is marked
-  module _ {words after : List ℕ} {i : ℕ} {r : Bool} (w : ℕ) (x y : Bool) (before : Turned words i) (fine : (k : ℕ) → k < i → badNode t k ≡ false) (inside : i < length words)
-      (good : fitting t i ≡ true) (d : (j : ℕ) → j < 5 → has w j ≡ has (firstWord (leftNode t i) (rightNode t i) (processNode t i) (linkRoot t i) x y) j)
+  module _ {words after : List ℕ} {i : ℕ} {r : Bool} (w : ℕ) (before : Turned words i) (fine : (k : ℕ) → k < i → badNode t k ≡ false) (inside : i < length words)
+      (good : fitting t i ≡ true) (d : has w namedBit ≡ false)
       (m : TwoMarks false false (set words i w) after (inner t i && leftNode t i) (pAt t i) (inner t i && rightNode t i) (qAt t i) r) where
     abbrev written : List ℕ
     written = set words i w
@@ -76,7 +70,7 @@ module _ (t : Table) where
     h : Shows written namedBit (i + 1) (named t i)
     h =
         shows-next words namedBit i w (named t i) inside (before .names)
-        (d namedBit (omega arith) ∙ first-named (leftNode t i) (rightNode t i) (processNode t i) (linkRoot t i) x y ∙ sym (named-self i fine))
+        (d ∙ sym (named-self i fine))
 
     abbrev I : Bool
     I = inner t i
@@ -116,15 +110,4 @@ module _ (t : Table) where
 
     -- and the words show one node more
     pub turned-more : Turned after (i + 1)
-    turned-more =
-        let s = shown-next t words i w x y inside (before .shown) d in
-        record {
-          names = λ k g. twice namedBit k ∙ ap (λ (b : Bool). (I && names t i k) || b) (h k g) ∙ sym (named-more i k);
-          shown =
-              record {
-                left = λ k g. twice leftBit k ∙ s .left k g;
-                right = λ k g. twice rightBit k ∙ s .right k g;
-                process = λ k g. twice processBit k ∙ s .process k g;
-                link = λ k g. twice linkBit k ∙ s .link k g;
-              };
-        }
+    turned-more = record { names = λ k g. twice namedBit k ∙ ap (λ (b : Bool). (I && names t i k) || b) (h k g) ∙ sym (named-more i k) }
