@@ -51,11 +51,11 @@ module _ (t : Table) where
   bad-fit n e = rw (badNode, e)
 
   -- the words when the nodes below i have had their turns
-  abbrev pub Turned : List ℕ → ℕ → Type 0
-  Turned words i = Shows words namedBit i (named t i)
+  pub record Turned (words : List ℕ) (i : ℕ) : Type 0 where
+    pub names : Shows words namedBit i (named t i)
 
   pub turned-none : (words : List ℕ) → Turned words 0
-  turned-none words = λ m h. absurd (omega arith)
+  turned-none words = record { names = λ m h. absurd (omega arith) }
 
   -- a turn: node i's word is written, and what it names is marked
   module _ {words after : List ℕ} {i : ℕ} {r : Bool} (w : ℕ) (before : Turned words i) (fine : (k : ℕ) → k < i → badNode t k ≡ false) (inside : i < length words)
@@ -69,7 +69,7 @@ module _ (t : Table) where
 
     h : Shows written namedBit (i + 1) (named t i)
     h =
-        shows-next words namedBit i w (named t i) inside before
+        shows-next words namedBit i w (named t i) inside (before .names)
         (d ∙ sym (named-self i fine))
 
     abbrev I : Bool
@@ -110,4 +110,4 @@ module _ (t : Table) where
 
     -- and the words show one node more
     pub turned-more : Turned after (i + 1)
-    turned-more k g = twice namedBit k ∙ ap (λ (b : Bool). (I && names t i k) || b) (h k g) ∙ sym (named-more i k)
+    turned-more = record { names = λ k g. twice namedBit k ∙ ap (λ (b : Bool). (I && names t i k) || b) (h k g) ∙ sym (named-more i k) }

@@ -1,6 +1,7 @@
 // Refusal 5: the nodes in descending order, which hand on to those that they name what reaches them.
 ghost use mathlib.Core.Path.{_≡_};
 ghost use mathlib.Core.Bool.{false, cond, _&&_};
+ghost use mathlib.Core.List.{List};
 ghost use Prim.Native.Nat.{ℕ, _<_, _≤_};
 ghost use lib.Dec.{leb};
 ghost use lib.ListN.{length};
@@ -9,16 +10,17 @@ ghost use Rattle.basis.specs.Numbers.{lowest};
 ghost use Rattle.table.specs.Tables.{table};
 ghost use Rattle.table.specs.Nodes.{badNode};
 ghost use Rattle.table.specs.Reach.{wrongKey};
-ghost use Rattle.table.specs.Sound.{Shaped};
+ghost use Rattle.table.specs.Sound.{Limits, Shaped};
 ghost use Rattle.table.specs.Marks.{Shown, wrongHere, Descends, Visit};
 use super::Sizes;
+use super::kinds::fields_here;
 use super::marks::LEFT;
 use super::marks::LINK;
 use super::marks::PROCESS;
 use super::marks::RIGHT;
 use super::marks::first_word;
 use super::marks::mark_both;
-use super::nodes::look_at;
+use super::nodes::is_node;
 use super::reading::p_at;
 use super::reading::q_at;
 use basis::has;
@@ -68,15 +70,17 @@ fn visit(
 }
 
 // The words show which fields are nodes, and where processes and links start.
-fn show_starts(sizes: Sizes, kinds: &[u8], operands: &[u8], scratch: &mut [u32])
-    requires { ⌜ Shaped (table sizes (now kinds) (now operands)) × (sizes .nodes ≤ length (now scratch)) ⌝ }
-    ensures { λ _. ⌜ Shown (table sizes (now (kinds .entry)) (now (operands .entry))) (now (scratch .exit)) (sizes .nodes) ⌝ }
+fn show_starts(sizes: Sizes, kinds: &[u8], scratch: &mut [u32])
+    requires { ⌜ Limits sizes × (length (now kinds) ≡ sizes .nodes) × (sizes .nodes ≤ length (now scratch)) ⌝ }
+    ensures { λ _. ⌜ ((operands : List ℕ) → Shown (table sizes (now (kinds .entry)) operands) (now (scratch .exit)) (sizes .nodes)) ⌝ }
 {
     let mut i = 0;
     while i < sizes.nodes {
-        let look = look_at(sizes, kinds, operands, i);
-        let word = first_word(sizes, kinds[i], i, look.left, look.right);
-        scratch[i] = word;
+        let kind = kinds[i];
+        let fields = fields_here(sizes, i, kind);
+        let p = fields.p;
+        let q = fields.q;
+        scratch[i] = first_word(sizes, kind, i, is_node(p), is_node(q));
         i += 1;
     }
 }
@@ -116,6 +120,6 @@ pub fn lowest_wrong(
     if !doubtful {
         return sizes.nodes;
     }
-    show_starts(sizes, kinds, operands, scratch);
+    show_starts(sizes, kinds, scratch);
     descend(sizes, kinds, operands, scratch)
 }

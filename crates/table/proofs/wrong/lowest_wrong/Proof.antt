@@ -1,6 +1,7 @@
 -- `table::wrong::lowest_wrong` meets its contract.
 -- Assumes nothing.
 use mathlib.Core.Path.{sym}
+use native.Mathlib.Omega.{arith}
 use denote.Ref.{now}
 use borrow.Author.Needs.{needs}
 use borrow.Author.Tests.{not-true}
@@ -21,7 +22,9 @@ show-starts-requires : tie.Need-show-starts-requires
 show-starts-requires c κs = search needs
 
 descend-requires : tie.Need-descend-requires
-descend-requires c κs = search needs
+descend-requires c κs =
+    let s = c .before .before .before .before .before .before .before .before .before in
+    (s .pre .0, omega (arith, s .pre .1, c .before .before .before .show-starts .kept .1 .1 .0), s .pre .2, c .before .before .before .show-starts .ensures (now (s .args .operands)))
 
 same-length : tie.Need-same-length
 same-length c = search needs

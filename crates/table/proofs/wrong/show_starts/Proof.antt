@@ -1,7 +1,8 @@
 -- `table::wrong::show_starts` meets its contract.
 -- Assumes nothing.
-use Prim.Native.Nat.{_≤_, _<_, _-_}
-use mathlib.Core.Path.{_≡_, refl}
+use Prim.Native.Nat.{ℕ, _≤_, _<_, _-_}
+use mathlib.Core.Path.{_≡_, refl, subst, _∙_}
+use mathlib.Core.List.{List}
 use native.Mathlib.Omega.{arith}
 use denote.Ref.{now}
 use lib.ListN.{length, length-set}
@@ -13,20 +14,26 @@ use Rattle.table.proofs.wrong.show_starts.Statement.{statement}
 use Rattle.table.proofs.wrong.show_starts.Tie as tie
 
 abbrev Inv-loop : tie.InvT-loop
-Inv-loop sizes kinds operands scratch₀ i₀ scratch i =
-    (i ≤ sizes .nodes) × (length scratch ≡ length scratch₀) × Shown (table sizes kinds operands) scratch i
+Inv-loop sizes kinds scratch₀ i₀ scratch i =
+    (i ≤ sizes .nodes) × (length scratch ≡ length scratch₀) × ((operands : List ℕ) → Shown (table sizes kinds operands) scratch i)
 
 abbrev μ-loop : tie.MeasureT-loop
-μ-loop sizes kinds operands scratch₀ i₀ scratch i = sizes .nodes - i
+μ-loop sizes kinds scratch₀ i₀ scratch i = sizes .nodes - i
 
 loop-holds : tie.Need-loop-holds Inv-loop μ-loop
-loop-holds c = (omega arith, refl, shown-none _ _)
+loop-holds c = (omega arith, refl, λ operands. shown-none _ _)
 
-look-at-requires : tie.Need-look-at-requires Inv-loop μ-loop
-look-at-requires c κs = search needs
+shared-slice-read-kind : tie.Need-shared-slice-read-kind Inv-loop μ-loop
+shared-slice-read-kind c = search needs
 
-shared-slice-read-first-word : tie.Need-shared-slice-read-first-word Inv-loop μ-loop
-shared-slice-read-first-word c = search needs
+fields-here-requires : tie.Need-fields-here-requires Inv-loop μ-loop
+fields-here-requires c κs = search needs
+
+is-node-requires : tie.Need-is-node-requires Inv-loop μ-loop
+is-node-requires c κs = search needs
+
+is-node-requires-2 : tie.Need-is-node-requires-2 Inv-loop μ-loop
+is-node-requires-2 c κs = search needs
 
 first-word-requires : tie.Need-first-word-requires Inv-loop μ-loop
 first-word-requires c κs = search needs
@@ -45,14 +52,15 @@ loop-less c = search needs
 
 loop-again : tie.Need-loop-again Inv-loop μ-loop
 loop-again c =
-    let l = c .before .before .before .before .before .loop in
-    let a = c .before .before .before .before .before .before .before .before .before in
-    let k = c .before .before .look-at .ensures in
-    let h = c .before .before .before .if1 .taken in
-    let room : l .i < length (l .scratch) = omega (arith, a .pre .1, l .inv .1) in (
+    let l = c .before .before .before .before .before .before .before .loop in
+    let a = c .before .before .before .before .before .before .before .before .before .before in
+    let f = c .before .before .before .fields-here .ensures in
+    let h = c .before .before .before .before .before .if1 .taken in
+    let room : l .i < length (l .scratch) = omega (arith, a .pre .2, l .inv .1) in (
       omega arith,
       simp length-set (l .inv .1),
-      shown-next (table (a .args .sizes) (now (a .args .kinds)) (now (a .args .operands))) (l .scratch) (l .i) room (l .inv .2) (rw (k .left, k .right) at (c .first-word .ensures)),
+      λ operands. shown-next (table (a .args .sizes) (now (a .args .kinds)) operands) (l .scratch) (l .i) room (l .inv .2 operands)
+      (c .first-word .ensures ∙ rw (c .before .is-node2 .ensures, c .before .before .is-node .ensures, f (now (a .args .kinds)) operands)),
     )
 
 same-length : tie.Need-same-length Inv-loop μ-loop
@@ -61,8 +69,8 @@ same-length c = search needs
 returns : tie.Need-returns Inv-loop μ-loop
 returns c =
     let l = c .before .before in
-    let e : l .loop .i ≡ l .before .before .before .before .args .sizes .nodes = omega arith in
-    rw e at (l .loop .inv .2)
+    let e : l .loop .i ≡ l .before .before .before .args .sizes .nodes = omega arith in
+    λ operands. subst (Shown _ (l .loop .scratch)) e (l .loop .inv .2 operands)
 
 pub show-starts-spec : {M : Type 1} → statement M
 show-starts-spec =
@@ -71,8 +79,10 @@ show-starts-spec =
     Inv-loop
     μ-loop
     loop-holds
-    look-at-requires
-    shared-slice-read-first-word
+    shared-slice-read-kind
+    fields-here-requires
+    is-node-requires
+    is-node-requires-2
     first-word-requires
     mul-scratch
     slice-write-scratch
