@@ -1,4 +1,5 @@
-// Which tables are accepted: how many derivations each node has, refusals 6 and 7, and all refusals of a table in order.
+// Which tables are accepted: how many derivations each node has, refusals 6 and 7, and all refusals of a table in
+// order.
 mod calls;
 mod nodes;
 mod sums;

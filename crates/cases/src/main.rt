@@ -1,5 +1,6 @@
-// Makes the calls on standard input (reference/README.md has their format) and prints a line for each: `done` with the counts of done and refused
-// steps and of taken entries, or `refused` with number and place; then a digest of the state after the call and one of the answer buffer.
+// Makes the calls on standard input (reference/README.md has their format) and prints a line for each: `done` with the
+// counts of done and refused steps and of taken entries, or `refused` with number and place; then a digest of the state
+// after the call and one of the answer buffer.
 mod calls; // calls.rt: load, step or run
 mod digests; // digests.rt: a digest of every word
 mod states; // states.rt: the state before the call

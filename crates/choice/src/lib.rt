@@ -8,8 +8,8 @@ pub mod marking; // marking.rt: the walk to a node's choice: its guards, as mark
 use term::Label;
 use term::Mode;
 
-// Of a sequence or a parallel: an action of the left part, or of the right; or a tick of the left part that joins a derivation of the
-// right, or a tick of the right part that joins a derivation of the left.
+// Of a sequence or a parallel: an action of the left part, or of the right; or a tick of the left part that joins a
+// derivation of the right, or a tick of the right part that joins a derivation of the left.
 pub enum Pick {
     LeftActs(u64),
     RightActs(u64),
@@ -31,8 +31,8 @@ pub enum Side {
     After { tick: Goal },
 }
 
-// The words that stay around what is left: none; the operator before it and its right node after it; or a parallel and its left node
-// before it.
+// The words that stay around what is left: none; the operator before it and its right node after it; or a parallel and
+// its left node before it.
 pub enum Kept {
     Nothing,
     Right { operator: u32, node: u32 },

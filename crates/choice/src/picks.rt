@@ -48,7 +48,8 @@ fn remainder(x: u64, n: u64) -> u64
     x % n
 }
 
-// Derivation c of a sequence or a parallel; `beside` actions of the right part come before the joined ones: none in a sequence.
+// Derivation c of a sequence or a parallel; `beside` actions of the right part come before the joined ones: none in a
+// sequence.
 pub fn pick(mode: Mode, c: u64, beside: u64, left: Counts, right: Counts) -> Pick
     requires { ⌜ Capped left ⌝ ∗ ⌜ Capped right ⌝ }
     ensures { λ r. ⌜ r ≡ pickOf mode c beside left right ⌝ }

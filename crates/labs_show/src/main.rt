@@ -18,9 +18,9 @@ ghost use Rattle.labs_show.specs.Printed.{printed};
 const INPUT_BYTES: usize = 61455;
 
 // One byte more than the longest input that can be done: a table of 4,096 nodes and a schedule of 8,192 steps,
-// 12 + 5 * 4,096 + 2 + 5 * 8,192 bytes. What follows need not be read, since it changes nothing (proofs/Enough). Where N
-// is over 4,096 the table is refused with 2 whatever its length is; else the table is read whole, and the schedule, of
-// which over 2 + 5 * 8,192 bytes are read, is refused with 19, as all of it would be.
+// 12 + 5 * 4,096 + 2 + 5 * 8,192 bytes. What follows need not be read, since it changes nothing (proofs/Enough). Where
+// N is over 4,096 the table is refused with 2 whatever its length is; else the table is read whole, and the schedule,
+// of which over 2 + 5 * 8,192 bytes are read, is refused with 19, as all of it would be.
 fn input_buffer() -> [u8; INPUT_BYTES]
     ensures { λ r. ⌜ inputBytes ≡ length r ⌝ }
 {

@@ -77,7 +77,8 @@ fn put_writes(table: &mut [u8])
     put_node(table, 8, 3, SEQUENCE, 1, 2);
 }
 
-// One agent and one key, which it writes again and again: definition 0 and the agent's process are write ; call 0. A table of 8 nodes.
+// One agent and one key, which it writes again and again: definition 0 and the agent's process are write ; call 0. A
+// table of 8 nodes.
 pub fn writing(table: &mut [u8])
     requires { ⌜ 52 ≤ length (now table) ⌝ }
 {
@@ -89,7 +90,8 @@ pub fn writing(table: &mut [u8])
     put_node(table, 8, 7, ROOT, 3, 0);
 }
 
-// Writes of agent 0, each followed by the propagate of its key. Every other byte of the schedule is 0 already: acts, agents, choices and keys.
+// Writes of agent 0, each followed by the propagate of its key. Every other byte of the schedule is 0 already: acts,
+// agents, choices and keys.
 pub fn write_often(schedule: &mut [u8], writes: usize)
     requires { ⌜ (writes ≤ 4096) × (2 + 2 * writes ≤ length (now schedule)) ⌝ }
 {
@@ -101,8 +103,8 @@ pub fn write_often(schedule: &mut [u8], writes: usize)
     }
 }
 
-// One agent, whose process is an action beside so many idle ones, ((action | idle) | idle) ..: the action leaves all of it, 2 * depth + 1 words.
-// A table of 2 * depth + 3 nodes.
+// One agent, whose process is an action beside so many idle ones, ((action | idle) | idle) ..: the action leaves all of
+// it, 2 * depth + 1 words. A table of 2 * depth + 3 nodes.
 pub fn nested(table: &mut [u8], depth: usize)
     requires { ⌜ (depth < 64) × (12 + 5 * (2 * depth + 3) ≤ length (now table)) ⌝ }
 {

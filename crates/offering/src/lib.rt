@@ -18,7 +18,8 @@ ghost use Rattle.state.specs.Standing.{Standing};
 ghost use Rattle.steps.specs.Offers.{offerTally, sent};
 ghost use Rattle.offering.specs.Passing.{Passing, Passed};
 
-// Sets of agents whom an offer could touch: those with an older entry, who may take it, and in a confirm those who hold a newer one.
+// Sets of agents whom an offer could touch: those with an older entry, who may take it, and in a confirm those who hold
+// a newer one.
 struct Receivers {
     takers: u32,
     holders: u32,
@@ -36,7 +37,8 @@ pub fn pending_at(agent: usize, confirming: bool) -> usize
     }
 }
 
-// The agent offers its entry and no longer has to propagate or confirm the key: what the responses count. `counts`: whether the key's link counts in this step.
+// The agent offers its entry and no longer has to propagate or confirm the key: what the responses count. `counts`:
+// whether the key's link counts in this step.
 pub fn offer(
     sizes: Sizes,
     kinds: &[u8],

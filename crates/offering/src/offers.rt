@@ -1,4 +1,5 @@
-// An agent's entry offered to all others: who could be touched, whom of them the link reaches, and then what is written.
+// An agent's entry offered to all others: who could be touched, whom of them the link reaches, and then what is
+// written.
 use crate::Receivers;
 use crate::responses::add_tally;
 use crate::responses::no_tally;
@@ -43,7 +44,8 @@ fn receivers(
     Receivers { takers, holders }
 }
 
-// Offers an agent's entry to every other: what the responses count. The link is judged once, before anything is written, and for those only who could be touched.
+// Offers an agent's entry to every other: what the responses count. The link is judged once, before anything is
+// written, and for those only who could be touched.
 pub fn offer_all(
     sizes: Sizes,
     kinds: &[u8],

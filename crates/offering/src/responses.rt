@@ -17,7 +17,8 @@ ghost use Rattle.steps.specs.Tallies.{noTally, addTally};
 ghost use Rattle.steps.specs.Runs.{stepLimit};
 ghost use Rattle.offering.specs.Passing.{responseIn, responseTally, TallyWithin};
 
-// How an agent responds: where the link reaches it, it takes the entry if its own is older, and else has to propagate its own.
+// How an agent responds: where the link reaches it, it takes the entry if its own is older, and else has to propagate
+// its own.
 pub fn respond(linked: u32, takers: u32, agent: usize) -> Response
     requires { ⌜ agent < agentLimit ⌝ }
     ensures { λ r. ⌜ r ≡ responseIn linked takers agent ⌝ }

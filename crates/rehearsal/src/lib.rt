@@ -1,4 +1,5 @@
-// The machine for C and Rust: each function calls the machine's and packs its answer into one number. A slice is a pointer and a count.
+// The machine for C and Rust: each function calls the machine's and packs its answer into one number. A slice is a
+// pointer and a count.
 mod packing; // packing.rt: answers as one number
 
 use machine::Loaded;
@@ -23,7 +24,8 @@ pub extern "C" fn labs_load(table: &[u8], state: &mut [u32], scratch: &mut [u32]
     }
 }
 
-// One step: act (kind 0; number is a choice), propagate (1) or confirm (2; number is a key). Reports how many agents took the entry.
+// One step: act (kind 0; number is a choice), propagate (1) or confirm (2; number is a key). Reports how many agents
+// took the entry.
 #[no_mangle]
 pub extern "C" fn labs_step(
     table: &[u8],

@@ -83,7 +83,8 @@ pub fn collect(
     }
 }
 
-// The residual is so many of the words. It becomes what its choice c leaves, with 0 after it; the answer is its new length.
+// The residual is so many of the words. It becomes what its choice c leaves, with 0 after it; the answer is its new
+// length.
 pub fn rewrite(
     sizes: Sizes,
     kinds: &[u8],

@@ -22,7 +22,8 @@ pub enum Read {
     End,
 }
 
-// Of the term that begins at a cursor: its counts, the cursor after it, and whether each of its subterms has few derivations.
+// Of the term that begins at a cursor: its counts, the cursor after it, and whether each of its subterms has few
+// derivations.
 struct Measured {
     counts: Counts,
     next: Cursor,
@@ -36,8 +37,9 @@ struct Target {
     choice: u64,
 }
 
-// One step towards a target: a lone tick; a node; an action of a part, around which the words up to it and so many after it stay; or a
-// derivation of a part, of so many words with so many after it, that a tick of the other part joins: the part's words alone stay.
+// One step towards a target: a lone tick; a node; an action of a part, around which the words up to it and so many
+// after it stay; or a derivation of a part, of so many words with so many after it, that a tick of the other part
+// joins: the part's words alone stay.
 enum Step {
     Ticked,
     Leaf {

@@ -53,8 +53,8 @@ fn print_words(words: &[u32]) {
     }
 }
 
-// Of the residual that is the first word: the number of its choices; then, if there is one, what the last does, the number of its guards, how many
-// words it leaves, and these, where there is room for them.
+// Of the residual that is the first word: the number of its choices; then, if there is one, what the last does, the
+// number of its guards, how many words it leaves, and these, where there is room for them.
 pub fn print_last_choice(
     sizes: Sizes,
     kinds: &[u8],

@@ -1,5 +1,6 @@
-// Judges the tables on standard input, which stand one after another, each as long as its header says, and prints a line for each: its refusal,
-// or how many choices the first agent's starting process has, and of the last one what it does, the number of its guards, and what it leaves.
+// Judges the tables on standard input, which stand one after another, each as long as its header says, and prints a
+// line for each: its refusal, or how many choices the first agent's starting process has, and of the last one what it
+// does, the number of its guards, and what it leaves.
 mod choices; // choices.rt: the last choice of a residual
 
 use accept::Acceptance;
