@@ -145,13 +145,7 @@ fn counts_of(sizes: Sizes, kinds: &[u8], operands: &[u8], scratch: &[u32], n: us
 }
 
 // Counts node n, if it is not counted yet.
-fn count_at(
-    sizes: Sizes,
-    kinds: &[u8],
-    operands: &[u8],
-    scratch: &mut [u32],
-    n: usize,
-) -> Counts
+fn count_at(sizes: Sizes, kinds: &[u8], operands: &[u8], scratch: &mut [u32], n: usize) -> Counts
     requires { ⌜ Held (table sizes (now kinds) (now operands)) (sizes .definitions) (now scratch) ⌝ }
     requires { ⌜ n < firstRoot (table sizes (now kinds) (now operands)) ⌝ }
     requires { ⌜ ((k : ℕ) → k < n → isCounted (now scratch) k ≡ true) ⌝ }

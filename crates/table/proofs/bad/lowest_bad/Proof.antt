@@ -64,8 +64,8 @@ turn c =
       turned-more t W (l .inv .2) (l .inv .3) small good w m,
       marks-length m ∙ simp length-set,
       subst (λ (b : Bool). Informed t (c .mark-both .last .0) (i + 1) (l .doubtful || b)) (sym (c .before .before .before .before .is-doubted .ensures ∙ ap₂ (λ (p k : Bool). doubted p k W) (c .before .before .before .before .before .before .is-process .ensures) (c .before .before .before .before .before .is-link-root .ensures)))
-      (informed-more t (l .scratch) (c .mark-both .last .0) (l .inv .4) small (below-more (λ (k : ℕ). fitting t k ≡ true) i (λ k h. not-bad t k (l .inv .3 k h) .0) good)
-      e (λ j k h. twice t W (l .inv .2) (l .inv .3) small good w m j k ∙ rw h) d),
+          (informed-more t (l .scratch) (c .mark-both .last .0) (l .inv .4) small (below-more (λ (k : ℕ). fitting t k ≡ true) i (λ k h. not-bad t k (l .inv .3 k h) .0) good)
+          e (λ j k h. twice t W (l .inv .2) (l .inv .3) small good w m j k ∙ rw h) d),
     )
 
 first-root-requires : tie.Need-first-root-requires Inv-loop μ-loop

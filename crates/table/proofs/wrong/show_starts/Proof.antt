@@ -60,7 +60,7 @@ loop-again c =
       omega arith,
       simp length-set (l .inv .1),
       λ operands. shown-next (table (a .args .sizes) (now (a .args .kinds)) operands) (l .scratch) (l .i) room (l .inv .2 operands)
-      (c .first-word .ensures ∙ rw (c .before .is-node2 .ensures, c .before .before .is-node .ensures, f (now (a .args .kinds)) operands)),
+          (c .first-word .ensures ∙ rw (c .before .is-node2 .ensures, c .before .before .is-node .ensures, f (now (a .args .kinds)) operands)),
     )
 
 same-length : tie.Need-same-length Inv-loop μ-loop
