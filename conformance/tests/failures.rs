@@ -1,10 +1,9 @@
 //! A read that fails is not the end of labs_show's input, and a write that fails is not silence.
 
-use std::io::Write;
 use std::path::Path;
-use std::process::{Command, Output, Stdio};
+use std::process::{Command, Output};
 
-use conformance::program::labs_show;
+use conformance::program::{fed, labs_show};
 use reference::generate::edges;
 use reference::schedule;
 
@@ -15,19 +14,10 @@ const WRITE: &str = "labs_show: cannot write\n";
 fn run(program: &Path, command: &str) -> Output {
     let mut input = edges::example().bytes();
     input.extend(schedule::write(&edges::example_steps()));
-    let mut child = Command::new("sh")
-        .args(["-c", command])
-        .arg(program)
-        .stdin(Stdio::piped())
-        .stdout(Stdio::piped())
-        .stderr(Stdio::piped())
-        .spawn()
-        .expect("sh starts");
-    let mut stdin = child.stdin.take().expect("it has an input");
-    // A command that has another input does not read this one.
-    let _ = stdin.write_all(&input);
-    drop(stdin);
-    child.wait_with_output().expect("sh ends")
+    fed(
+        Command::new("sh").args(["-c", command]).arg(program),
+        &input,
+    )
 }
 
 /// Nothing on standard output, and exactly this on standard error.

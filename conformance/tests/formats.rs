@@ -1,13 +1,12 @@
 //! docs/FORMATS.md is true: its bytes, rehearsed by labs_show, the library and the second implementation, give what it says.
 
 use std::fs;
-use std::io::Write;
 use std::os::unix::fs::symlink;
 use std::path::Path;
-use std::process::{Command, Stdio};
+use std::process::Command;
 
 use conformance::page::{block, bytes, commands, root, rows, text};
-use conformance::program::labs_show;
+use conformance::program::{labs_show, printed};
 use conformance::{call, expected, numbers, Given};
 use reference::cases::{Call, Case};
 use reference::draft::Draft;
@@ -37,16 +36,7 @@ fn split(input: &[u8]) -> (&[u8], &[u8]) {
 fn shown(input: &[u8]) -> String {
     let expected = show(input);
     if let Some(program) = labs_show() {
-        let mut child = Command::new(program)
-            .stdin(Stdio::piped())
-            .stdout(Stdio::piped())
-            .spawn()
-            .expect("labs_show starts");
-        let mut stdin = child.stdin.take().expect("it has an input");
-        stdin.write_all(input).unwrap();
-        drop(stdin);
-        let output = child.wait_with_output().expect("labs_show ends");
-        assert_eq!(String::from_utf8_lossy(&output.stdout), expected);
+        assert_eq!(printed(&program, input), expected);
     }
     expected
 }

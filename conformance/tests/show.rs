@@ -1,10 +1,6 @@
 //! labs_show prints what the second implementation prints.
 
-use std::io::Write;
-use std::path::Path;
-use std::process::{Command, Stdio};
-
-use conformance::program::labs_show;
+use conformance::program::{labs_show, printed};
 use reference::cases::Call;
 use reference::generate::fleets::{accepted, Scale};
 use reference::generate::schedules::mostly_enabled;
@@ -13,22 +9,6 @@ use reference::rng::Rng;
 use reference::show::show;
 use reference::state::World;
 use reference::{on_deep_stack, schedule};
-
-/// What the program prints; its status is 0.
-fn printed(program: &Path, input: &[u8]) -> Vec<u8> {
-    let mut child = Command::new(program)
-        .stdin(Stdio::piped())
-        .stdout(Stdio::piped())
-        .spawn()
-        .expect("labs_show starts");
-    let mut stdin = child.stdin.take().expect("it has an input");
-    // It may stop reading an input that is longer than any table and schedule.
-    let _ = stdin.write_all(input);
-    drop(stdin);
-    let output = child.wait_with_output().expect("labs_show ends");
-    assert!(output.status.success(), "labs_show: {}", output.status);
-    output.stdout
-}
 
 /// An accepted fleet and a schedule of which most can be done.
 fn sound(rng: &mut Rng) -> Vec<u8> {
@@ -78,7 +58,6 @@ fn labs_show_prints_what_the_reference_prints() {
     on_deep_stack(move || {
         for (index, input) in inputs().iter().enumerate() {
             let (proved, expected) = (printed(&program, input), show(input));
-            let proved = String::from_utf8_lossy(&proved);
             assert_eq!(proved, expected, "input {index} of {} bytes", input.len());
         }
     });
