@@ -66,16 +66,12 @@ pub fn rising(words: &[u32], look: Look) -> u32
     RISING & (left | right)
 }
 
-// Whether a node is the root of a link. Most nodes are no roots, and are told first.
+// Whether a node is the root of a link.
 pub fn is_link_root(sizes: Sizes, node: usize) -> bool
     requires { ⌜ Limits sizes ⌝ }
     ensures { λ r. ⌜ r ≡ linkRoot (table sizes [] []) node ⌝ }
 {
-    let first = first_root(sizes);
-    if node < first {
-        return false;
-    }
-    let links = first + sizes.definitions;
+    let links = first_root(sizes) + sizes.definitions;
     (links <= node) & (node < links + sizes.stigmergy)
 }
 
