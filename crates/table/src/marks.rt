@@ -75,13 +75,10 @@ pub fn is_link_root(sizes: Sizes, node: usize) -> bool
     (links <= node) & (node < links + sizes.stigmergy)
 }
 
-// Whether, by its word, a process node or the root of a link reaches what it must not. Most nodes reach no key.
+// Whether, by its word, a process node or the root of a link reaches what it must not.
 pub fn is_doubted(process: bool, link: bool, word: u32) -> bool
     ensures { λ r. ⌜ r ≡ doubted process link word ⌝ }
 {
-    if word == 0 {
-        return false;
-    }
     (process & has(word, NOT_PROCESS)) | (link & has(word, NOT_LINK))
 }
 
