@@ -66,14 +66,15 @@ pub fn leads_to(scratch: &[u32], m: usize) -> usize
     wide(scratch[2 * m] - COUNT_LIMIT - 1) as usize
 }
 
-// No node below `roots` is counted.
+// No node below `roots` is counted. Both words of a node are written, so that the words stand in a row.
 pub fn discard(scratch: &mut [u32], roots: usize)
     requires { ⌜ 2 * roots ≤ length (now scratch) ⌝ }
     ensures { λ _. ⌜ ((k : ℕ) → k < roots → isCounted (now (scratch .exit)) k ≡ false) ⌝ }
 {
-    let mut n = 0;
-    while n < roots {
-        lead(scratch, n, 0);
-        n += 1;
+    let end = 2 * roots;
+    let mut i = 0;
+    while i < end {
+        scratch[i] = COUNT_LIMIT + 1;
+        i += 1;
     }
 }
