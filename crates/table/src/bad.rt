@@ -1,4 +1,5 @@
-// Refusal 4: the nodes in ascending order, with marks for those that lower nodes name.
+// Refusal 4, and whether 5 is in doubt: the nodes in ascending order, with marks for those that lower nodes name, and
+// for the keys that they reach.
 ghost use Prim.Native.Nat.{_≤_};
 ghost use lib.ListN.{length};
 ghost use Rattle.table.specs.Tables.{table};

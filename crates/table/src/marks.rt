@@ -34,7 +34,7 @@ const NOT_PROCESS: usize = 5;
 
 const NOT_LINK: usize = 6;
 
-// The last two.
+// The last two as a set: they rise to a node from those that it names.
 const RISING: u32 = 96;
 
 // The word of x, if asked for.

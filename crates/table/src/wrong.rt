@@ -1,4 +1,5 @@
-// Refusal 5: the nodes in descending order, which hand on to those that they name what reaches them.
+// Refusal 5, where it is in doubt: the nodes in descending order, which hand on to those that they name what reaches
+// them.
 ghost use mathlib.Core.Path.{_≡_};
 ghost use mathlib.Core.Bool.{false, cond, _&&_};
 ghost use mathlib.Core.List.{List};
