@@ -446,6 +446,30 @@ fn many_ticks(draft: &mut Draft) -> u16 {
     top
 }
 
+/// What labs_show prints of an attribute that is set to an operator's value on two constants.
+fn reckoned(operator: u8, x: i32, y: i32) -> String {
+    let mut draft = Draft::new(1, 0);
+    let (x, y) = (draft.constant(x), draft.constant(y));
+    let value = draft.binary(operator, x, y);
+    let set = draft.set_attribute(0, value);
+    draft.agent(set);
+    let (table, act) = (draft.bytes(), schedule::write(&[Step::act(0, 0)]));
+    let lines = shown(&[&table[..], &act].concat());
+    let value = lines.lines().find_map(|line| line.strip_prefix("a 0 0 "));
+    let absent = run(&table, &act).answers[0] == Reason::ExpressionAbsent.number();
+    assert_eq!(value.is_none(), absent);
+    value.unwrap_or("absent").to_string()
+}
+
+#[test]
+fn quotients_and_remainders_are_as_the_page_says() {
+    for row in rows(&page(), "| x | y | x DIVIDE y | x REMAINDER y |") {
+        let [x, y] = [&row[0], &row[1]].map(|number| number.parse().expect("a number"));
+        assert_eq!(reckoned(3, x, y), row[2], "{x} by {y}");
+        assert_eq!(reckoned(4, x, y), row[3], "{x} by {y}");
+    }
+}
+
 /// What the page says of acts (12, 13, 14, 15, 17).
 #[test]
 fn acts_are_refused_as_the_page_says() {

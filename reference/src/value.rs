@@ -43,10 +43,22 @@ impl Operator {
             Operator::Subtract => a - b,
             Operator::Multiply => a * b,
             Operator::Divide => a.checked_div(b)?,
-            Operator::Remainder => a.checked_rem(b)?,
+            Operator::Remainder => floored_remainder(a, b)?,
         };
         i32::try_from(whole).ok()
     }
+}
+
+/// a less b times floor(a / b), unless b is 0. What a is above the next lower
+/// multiple of b is never negative; by a divisor below 0 the multiple next
+/// above a is meant.
+fn floored_remainder(a: i64, b: i64) -> Option<i64> {
+    let above = a.checked_rem_euclid(b)?;
+    Some(if b < 0 && above > 0 {
+        above + b
+    } else {
+        above
+    })
 }
 
 impl Expr {

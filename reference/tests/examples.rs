@@ -11,6 +11,7 @@ use reference::schedule;
 use reference::show::show;
 use reference::state::{Entry, World, STATE_WORDS};
 use reference::step::Step;
+use reference::syntax::Operator;
 use reference::table::Fleet;
 use reference::term::{PARALLEL, TICK};
 use reference::Totals;
@@ -208,20 +209,53 @@ fn reckon(operator: u8, a: i32, b: i32) -> Option<i32> {
 fn h_i_reckoning() {
     let (most, least) = (i32::MAX, i32::MIN);
     assert_eq!(reckon(0, most, 1), None);
-    assert_eq!(reckon(4, -7, 3), Some(-1));
+    assert_eq!(reckon(4, -7, 3), Some(2));
     assert_eq!(reckon(0, most, 0), Some(most));
     assert_eq!(reckon(1, least, 1), None);
     assert_eq!(reckon(1, least, -1), Some(least + 1));
     assert_eq!(reckon(2, 65_536, 32_768), None);
     assert_eq!(reckon(2, 65_536, -32_768), Some(least));
     assert_eq!(reckon(2, 65_536, 65_536), None);
-    assert_eq!(reckon(3, -7, 3), Some(-2));
-    assert_eq!(reckon(3, 7, -3), Some(-2));
-    assert_eq!(reckon(3, 7, 0), None);
-    assert_eq!(reckon(3, least, -1), None);
-    assert_eq!(reckon(4, least, -1), Some(0));
-    assert_eq!(reckon(4, 7, -3), Some(1));
-    assert_eq!(reckon(4, 7, 0), None);
+}
+
+/// Operands, their quotient and their remainder.
+#[test]
+fn the_quotient_is_truncated_and_the_remainder_floored() {
+    let (most, least) = (i32::MAX, i32::MIN);
+    let given = [
+        (-1, 10, Some(0), Some(9)),
+        (7, -3, Some(-2), Some(-2)),
+        (-7, 3, Some(-2), Some(2)),
+        (-7, -3, Some(2), Some(-1)),
+        (6, -3, Some(-2), Some(0)),
+        (-6, 3, Some(-2), Some(0)),
+        (least, -1, None, Some(0)),
+        (least, 10, Some(-214_748_364), Some(2)),
+        (most, -10, Some(-214_748_364), Some(-3)),
+        (least, most, Some(-1), Some(most - 1)),
+        (most, least, Some(0), Some(-1)),
+        (7, 0, None, None),
+        (0, 0, None, None),
+        (least, 0, None, None),
+    ];
+    for (x, y, quotient, remainder) in given {
+        assert_eq!(reckon(3, x, y), quotient, "{x} by {y}");
+        assert_eq!(reckon(4, x, y), remainder, "{x} by {y}");
+    }
+}
+
+/// x less y times the greatest whole number that is at most x / y.
+#[test]
+fn small_remainders_by_searching_the_floor() {
+    for x in -40..=40 {
+        for y in (-12..=12).filter(|&y| y != 0) {
+            // q is at most x / y where q times y is at most x, or at least x by a y below 0.
+            let at_most = |&q: &i32| if y > 0 { q * y <= x } else { q * y >= x };
+            let floor = (-40..=40).rev().find(at_most).expect("a floor");
+            let remainder = Operator::Remainder.apply(x, y);
+            assert_eq!(remainder, Some(x - y * floor), "{x} by {y}");
+        }
+    }
 }
 
 #[test]

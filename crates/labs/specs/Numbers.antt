@@ -11,19 +11,20 @@ use lib.Signed.{nonNeg}
 abbrev pub number : ℕ → ℤ
 number w = cond (ltb w (2 ^ 31)) (pos w) (pos w -ℤ pos (2 ^ 32))
 
--- x = y × q + r, where r is smaller than y, signs aside, and is 0 or has the sign of x
-pub record Truncated (x y q r : ℤ) : Type 0 where
+-- x = y × q + r, where r is smaller than y, signs aside, and is 0 or has the sign of s
+pub record Divided (s x y q r : ℤ) : Type 0 where
   pub sum : x ≡ y *ℤ q +ℤ r
   pub smaller : natAbs r < natAbs y
-  pub sign : (r ≡ pos 0) ⊎ (nonNeg r ≡ nonNeg x)
+  pub sign : (r ≡ pos 0) ⊎ (nonNeg r ≡ nonNeg s)
 
--- x ⋄ y = z, by the node kind of ⋄. By 0 there is neither a quotient nor a remainder
+-- x ⋄ y = z, by the node kind of ⋄. By 0 there is neither a quotient nor a remainder. The quotient is the truncated one,
+-- of a division whose rest has the dividend's sign; the remainder is the floored one, whose sign is the divisor's
 pub data Operates : ℕ → ℤ → ℤ → ℤ → Type 0 where
   plus : {x y z : ℤ} → z ≡ x +ℤ y → Operates 36 x y z
   minus : {x y z : ℤ} → z +ℤ y ≡ x → Operates 37 x y z
   times : {x y z : ℤ} → z ≡ x *ℤ y → Operates 38 x y z
-  divide : {x y z r : ℤ} → Truncated x y z r → Operates 39 x y z
-  remainder : {x y z q : ℤ} → Truncated x y q z → Operates 40 x y z
+  divide : {x y z r : ℤ} → Divided x x y z r → Operates 39 x y z
+  remainder : {x y z q : ℤ} → Divided y x y q z → Operates 40 x y z
 
 infix 15 _≺_
 -- x is less than y: y is x plus a number above 0

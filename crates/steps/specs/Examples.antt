@@ -100,7 +100,7 @@ examples =
     ∷ (leaving 17 gives 3 ∷ parWord ∷ tickWord ∷ 16 ∷ 3 ∷ parWord ∷ 14 ∷ tickWord ∷ [])  -- (f) a|b leaves tick|b, then a|tick
     ∷ (guardBit 3 ∷ guardBit 5 ∷ [] gives 0 ∷ 1 ∷ [])  -- (g) not (attribute = 1), attribute absent: doesn't hold; the same or true: holds
     ∷ (value 24 gives 0 ∷ 0 ∷ [])  -- (h) 2,147,483,647 + 1 is absent
-    ∷ (value 27 gives 1 ∷ (2 ^ 32 - 1) ∷ [])  -- (i) -7 remainder 3 is -1
+    ∷ (value 27 gives 1 ∷ 2 ∷ [])  -- (i) -7 remainder 3 is 2
     ∷ (confirming 5 3 9 4 gives 0 ∷ 0 ∷ 5 ∷ 3 ∷ 0 ∷ 0 ∷ 9 ∷ 4 ∷ 0 ∷ 1 ∷ [])  -- (j) asker (5, 3), other (9, 4): nobody's entry changes, the other gains the key in Zp
     ∷ []
 

@@ -4,10 +4,10 @@ use Prim.Native.Nat.{ℕ, zero, suc, _+_, _*_, _-_, _/_, _%_, _^_, _<_}
 use mathlib.Core.Bool.{Bool, true, false, cond}
 use mathlib.Core.Logic.{_⊎_, inl, inr, _↔_}
 use mathlib.Core.Path.{_≡_, refl, sym, ap, subst, _∙_}
-use native.Mathlib.Nat.{mod-lt, div-add-mod, mul-add-div, div-eq-of-lt, mul-add-mod-self-left, mod-eq-of-lt}
+use native.Mathlib.Nat.{mul-add-div, div-eq-of-lt}
 use native.Mathlib.Omega.{arith}
 use lib.Dec.{eqb, ltb, leb}
-use lib.IntN.{ℤ, pos, negsuc, negℤ, natAbs, _+ℤ_, _-ℤ_, _*ℤ_, negℤ-negℤ, negℤ-+ℤ, pos-ne-negsuc, *ℤ-negsuc, *ℤ-zero, *ℤ-comm, +ℤ-negℤ-cancel, -ℤ-+ℤ-cancel}
+use lib.IntN.{ℤ, pos, negsuc, negℤ, natAbs, _+ℤ_, _-ℤ_, _*ℤ_, negℤ-negℤ, negℤ-+ℤ, pos-ne-negsuc, +ℤ-comm, +ℤ-negℤ-cancel, -ℤ-+ℤ-cancel}
 use lib.Signed.{mag, ltZ, nonNeg, quotZ, remZ}
 use mir.Syntax.{w32}
 use mir.Val.{Fits, SFits, ofZ}
@@ -16,9 +16,10 @@ use borrow.Author.Tests.{lt-ltb, le-ltb, ltb-true, le-leb, leb-true, eqb-true, e
 use Rattle.basis.proofs.Tests.{not-both, and-left, cond-cases}
 use Rattle.value.specs.declared.Value.{Value}
 use Rattle.value.specs.declared.Value.the-variants.{Absent, Present}
-use Rattle.value.specs.Values.{signedOf, inRange, fit, isZero, arithmetic}
+use Rattle.value.specs.Values.{signedOf, inRange, fit, isZero, floorZ, floorRem, arithmetic}
 use Rattle.value.specs.Truths.{testOf}
-use Rattle.labs.specs.Numbers.{number, Truncated, Operates, plus, minus, times, divide, remainder, _≺_, Compares, equal, less, greater}
+use Rattle.value.proofs.Floored.{times-neg, neg-times, rest-of, of-pos, above-is, exchanged}
+use Rattle.labs.specs.Numbers.{number, Divided, Operates, plus, minus, times, divide, remainder, _≺_, Compares, equal, less, greater}
 
 pub no-value : {v : ℕ} → Absent ≡ Present v → ⊥
 no-value p = let z : _≡_ {A = ℕ} 0 1 = cc in omega arith
@@ -54,100 +55,134 @@ fit-is z w = (by (inRange z) refl, back)
         let f : Fits w32 w = fits-of-lt (h .0) in
         subst (λ (o : ℤ). fit o ≡ Present w) e (rw (in-range (signedOf w) .1 (sfits-toZ f .sfits), ofZ-toZ f))
 
--- TRUNCATED DIVISION: signs are taken off, and what is left is division of natural numbers
-times-neg : (y q : ℤ) → y *ℤ negℤ q ≡ negℤ (y *ℤ q)
-times-neg y (pos zero) = *ℤ-zero y ∙ sym (ap negℤ (*ℤ-zero y))
-times-neg y (pos (suc n)) = *ℤ-negsuc y n
-times-neg y (negsuc n) = sym (ap negℤ (*ℤ-negsuc y n) ∙ negℤ-negℤ (y *ℤ pos (suc n)))
-
-neg-times : (y q : ℤ) → negℤ y *ℤ q ≡ negℤ (y *ℤ q)
-neg-times y q = *ℤ-comm (negℤ y) q ∙ times-neg q y ∙ ap negℤ (*ℤ-comm q y)
-
+-- DIVISION: signs are taken off, and what is left is division by a number above 0
 abs-neg : (z : ℤ) → natAbs (negℤ z) ≡ natAbs z
 abs-neg (pos zero) = refl
 abs-neg (pos (suc n)) = refl
 abs-neg (negsuc n) = refl
 
 abbrev Sign : ℤ → ℤ → Type 0
-Sign x r = (r ≡ pos 0) ⊎ (nonNeg r ≡ nonNeg x)
+Sign s r = (r ≡ pos 0) ⊎ (nonNeg r ≡ nonNeg s)
 
-sign-neg : (x r : ℤ) → (x ≡ pos 0 → ⊥) → Sign x r → Sign (negℤ x) (negℤ r)
-sign-neg (pos zero) r d s = absurd (d refl)
-sign-neg (pos (suc a)) (pos zero) d s = inl refl
-sign-neg (pos (suc a)) (pos (suc c)) d s = inr refl
+sign-neg : (s r : ℤ) → (s ≡ pos 0 → ⊥) → Sign s r → Sign (negℤ s) (negℤ r)
+sign-neg (pos zero) r d g = absurd (d refl)
+sign-neg (pos (suc a)) (pos zero) d g = inl refl
+sign-neg (pos (suc a)) (pos (suc c)) d g = inr refl
 sign-neg (pos (suc a)) (negsuc c) d (inl e) = absurd (pos-ne-negsuc 0 c (sym e))
 sign-neg (pos (suc a)) (negsuc c) d (inr e) = absurd (not-both e refl)
 sign-neg (negsuc a) (pos c) d (inl e) = inl (ap negℤ e)
 sign-neg (negsuc a) (pos c) d (inr e) = absurd (not-both refl e)
-sign-neg (negsuc a) (negsuc c) d s = inr refl
+sign-neg (negsuc a) (negsuc c) d g = inr refl
 
-module _ {x y q r : ℤ} (t : Truncated x y q r) where
-  dividend-neg : (x ≡ pos 0 → ⊥) → Truncated (negℤ x) y (negℤ q) (negℤ r)
+module _ {s x y q r : ℤ} (t : Divided s x y q r) where
+  dividend-neg : (s ≡ pos 0 → ⊥) → Divided (negℤ s) (negℤ x) y (negℤ q) (negℤ r)
   dividend-neg d = record {
     sum = ap negℤ (t .sum) ∙ negℤ-+ℤ (y *ℤ q) r ∙ ap (λ p. p +ℤ negℤ r) (sym (times-neg y q));
     smaller = rw (abs-neg r) (t .smaller);
-    sign = sign-neg x r d (t .sign);
+    sign = sign-neg s r d (t .sign);
   }
 
-  divisor-neg : Truncated x (negℤ y) (negℤ q) r
+  divisor-neg : Divided s x (negℤ y) (negℤ q) r
   divisor-neg = record {
     sum = t .sum ∙ ap (λ p. p +ℤ r) (sym (times-neg (negℤ y) q ∙ ap negℤ (neg-times y q) ∙ negℤ-negℤ (y *ℤ q)));
     smaller = rw (abs-neg y) (t .smaller);
     sign = t .sign;
   }
 
--- of two natural numbers, the second not 0
-module _ (a b : ℕ) where
-  natural : Truncated (pos a) (pos (suc b)) (pos (a / suc b)) (pos (a % suc b))
-  natural = record { sum = ap pos (sym (div-add-mod a (suc b))); smaller = mod-lt a (omega arith); sign = inr refl }
+above-zero : {n : ℕ} → pos (suc n) ≡ pos 0 → ⊥
+above-zero e = let z = ap natAbs e in omega arith
 
-  natural-one : (q r : ℤ) → Truncated (pos a) (pos (suc b)) q r → (q ≡ pos (a / suc b)) × (r ≡ pos (a % suc b))
-  natural-one (pos m) (pos c) t =
-      let e : a ≡ suc b * m + c = ap natAbs (t .sum) in
-      let l : c < suc b = t .smaller in (
-        ap pos (sym (ap (λ (n : ℕ). n / suc b) e ∙ mul-add-div (omega arith) m c ∙ ap (λ (n : ℕ). m + n) (div-eq-of-lt l) ∙ omega arith)),
-        ap pos (sym (ap (λ (n : ℕ). n % suc b) e ∙ mul-add-mod-self-left (suc b) m c ∙ mod-eq-of-lt l)),
-      )
-  natural-one (negsuc m) (pos c) t = absurd (by (suc b * suc m) (omega arith) (t .sum))
+below-zero : {n : ℕ} → negsuc n ≡ pos 0 → ⊥
+below-zero {n} e = pos-ne-negsuc 0 n (sym e)
+
+-- (y × q + c) / y, rounded down, is q
+floor-back : (b c : ℕ) (q : ℤ) → c < suc b → floorZ (pos (suc b) *ℤ q +ℤ pos c) (pos (suc b)) ≡ q
+floor-back b c (pos m) l = ap pos (mul-add-div (omega arith) m c ∙ ap (λ (n : ℕ). m + n) (div-eq-of-lt l) ∙ omega arith)
+floor-back b c (negsuc m) l = by (suc b * suc m) refl
+  where
+    by : (n : ℕ) → suc b * suc m ≡ n → floorZ (negℤ (pos n) +ℤ pos c) (pos (suc b)) ≡ negsuc m
+    by zero e = absurd (omega arith)
+    by (suc n) e =
+        let f : suc n - suc c ≡ suc b * m + (b - c) = omega arith in
+        rw (lt-ltb c (suc n) (omega arith), f)
+        (ap negsuc (mul-add-div (omega arith) m (b - c) ∙ ap (λ (k : ℕ). m + k) (div-eq-of-lt (omega arith)) ∙ omega arith))
+
+-- any number by one above 0, where the rest is not below 0
+module _ (s x : ℤ) (b : ℕ) (p : nonNeg s ≡ true) where
+  above-divides : Divided s x (pos (suc b)) (floorZ x (pos (suc b))) (floorRem x (pos (suc b)))
+  above-divides =
+      let w = above-is x b in
+      let m = pos (suc b) *ℤ floorZ x (pos (suc b)) in record {
+        sum = sym (+ℤ-comm m (x -ℤ m) ∙ -ℤ-+ℤ-cancel x m);
+        smaller = rw (w .2) (w .1);
+        sign = inr (ap nonNeg (w .2) ∙ sym p);
+      }
+
+  above-one : (q r : ℤ) → Divided s x (pos (suc b)) q r → (q ≡ floorZ x (pos (suc b))) × (r ≡ floorRem x (pos (suc b)))
+  above-one q (pos c) t =
+      let e : floorZ x (pos (suc b)) ≡ q = ap (λ z. floorZ z (pos (suc b))) (t .sum) ∙ floor-back b c q (t .smaller) in
+      (sym e, sym (ap (λ k. x -ℤ pos (suc b) *ℤ k) e ∙ rest-of (pos (suc b) *ℤ q) (pos c) (t .sum)))
+  above-one q (negsuc c) t = absurd (by (t .sign))
     where
-      by : (n : ℕ) → c < n → pos a ≡ negℤ (pos n) +ℤ pos c → ⊥
-      by zero l e = omega arith
-      by (suc n) l e = pos-ne-negsuc a _ (rw (lt-ltb c (suc n) l) at e)
-  natural-one q (negsuc c) t = absurd (by (t .sign))
-    where
-      by : Sign (pos a) (negsuc c) → ⊥
-      by (inl e) = pos-ne-negsuc 0 c (sym e)
-      by (inr e) = not-both e refl
+      by : Sign s (negsuc c) → ⊥
+      by (inl e) = below-zero e
+      by (inr e) = not-both p (sym e)
+
+-- TRUNCATED: of two natural numbers, the second not 0
+module _ (a b : ℕ) where
+  natural : Divided (pos a) (pos a) (pos (suc b)) (pos (a / suc b)) (pos (a % suc b))
+  natural = subst (λ r. Divided (pos a) (pos a) (pos (suc b)) (pos (a / suc b)) r) (of-pos a b) (above-divides (pos a) (pos a) b refl)
+
+  natural-one : (q r : ℤ) → Divided (pos a) (pos a) (pos (suc b)) q r → (q ≡ pos (a / suc b)) × (r ≡ pos (a % suc b))
+  natural-one q r t = let w = above-one (pos a) (pos a) b refl q r t in (w .0, w .1 ∙ of-pos a b)
 
 -- and of any two numbers, the second not 0
-truncates : (x y : ℤ) → (y ≡ pos 0 → ⊥) → Truncated x y (quotZ x y) (remZ x y)
+truncates : (x y : ℤ) → (y ≡ pos 0 → ⊥) → Divided x x y (quotZ x y) (remZ x y)
 truncates (pos a) (pos zero) d = absurd (d refl)
 truncates (pos a) (pos (suc b)) d = natural a b
 truncates (pos a) (negsuc b) d = divisor-neg (natural a b)
 truncates (negsuc a) (pos zero) d = absurd (d refl)
-truncates (negsuc a) (pos (suc b)) d = dividend-neg (natural (suc a) b) (λ e. let z = ap natAbs e in omega arith)
+truncates (negsuc a) (pos (suc b)) d = dividend-neg (natural (suc a) b) above-zero
 truncates (negsuc a) (negsuc b) d =
-    subst (λ q. Truncated (negsuc a) (negsuc b) q (remZ (negsuc a) (negsuc b))) (negℤ-negℤ (pos (suc a / suc b)))
-    (dividend-neg (divisor-neg (natural (suc a) b)) (λ e. let z = ap natAbs e in omega arith))
+    subst (λ q. Divided (negsuc a) (negsuc a) (negsuc b) q (remZ (negsuc a) (negsuc b))) (negℤ-negℤ (pos (suc a / suc b)))
+    (dividend-neg (divisor-neg (natural (suc a) b)) above-zero)
 
 over : {p q : ℤ} → negℤ p ≡ q → p ≡ negℤ q
 over {p} e = sym (negℤ-negℤ p) ∙ ap negℤ e
 
-truncated-one : (x y q r : ℤ) → Truncated x y q r → (q ≡ quotZ x y) × (r ≡ remZ x y)
-truncated-one (pos a) (pos zero) q r t = absurd (let l : natAbs r < 0 = t .smaller in omega arith)
-truncated-one (pos a) (pos (suc b)) q r t = natural-one a b q r t
-truncated-one (pos a) (negsuc b) q r t = let w = natural-one a b (negℤ q) r (divisor-neg t) in (over (w .0), w .1)
-truncated-one (negsuc a) (pos zero) q r t = absurd (let l : natAbs r < 0 = t .smaller in omega arith)
-truncated-one (negsuc a) (pos (suc b)) q r t =
-    let w = natural-one (suc a) b (negℤ q) (negℤ r) (dividend-neg t (λ e. pos-ne-negsuc 0 a (sym e))) in (over (w .0), over (w .1))
-truncated-one (negsuc a) (negsuc b) q r t =
-    let w = natural-one (suc a) b (negℤ (negℤ q)) (negℤ r) (divisor-neg (dividend-neg t (λ e. pos-ne-negsuc 0 a (sym e)))) in
-    (sym (negℤ-negℤ q) ∙ w .0, over (w .1))
+no-divisor : {n : ℕ} → n < 0 → ⊥
+no-divisor l = omega arith
 
-nonzero : (x y q r : ℤ) → Truncated x y q r → isZero y ≡ false
-nonzero x (pos zero) q r t = absurd (let l : natAbs r < 0 = t .smaller in omega arith)
-nonzero x (pos (suc n)) q r t = refl
-nonzero x (negsuc n) q r t = refl
+truncated-one : (x y q r : ℤ) → Divided x x y q r → q ≡ quotZ x y
+truncated-one (pos a) (pos zero) q r t = absurd (no-divisor (t .smaller))
+truncated-one (pos a) (pos (suc b)) q r t = natural-one a b q r t .0
+truncated-one (pos a) (negsuc b) q r t = over (natural-one a b (negℤ q) r (divisor-neg t) .0)
+truncated-one (negsuc a) (pos zero) q r t = absurd (no-divisor (t .smaller))
+truncated-one (negsuc a) (pos (suc b)) q r t = over (natural-one (suc a) b (negℤ q) (negℤ r) (dividend-neg t below-zero) .0)
+truncated-one (negsuc a) (negsuc b) q r t =
+    sym (negℤ-negℤ q) ∙ natural-one (suc a) b (negℤ (negℤ q)) (negℤ r) (divisor-neg (dividend-neg t below-zero)) .0
+
+-- FLOORED: of any two numbers, the second not 0
+floors : (x y : ℤ) → (y ≡ pos 0 → ⊥) → Divided y x y (floorZ x y) (floorRem x y)
+floors x (pos zero) d = absurd (d refl)
+floors x (pos (suc b)) d = above-divides (pos (suc b)) x b refl
+floors x (negsuc b) d =
+    let q = floorZ x (negsuc b) in
+    subst (λ z. Divided (negsuc b) z (negsuc b) q (floorRem x (negsuc b))) (negℤ-negℤ x)
+    (subst (λ k. Divided (negsuc b) (negℤ (negℤ x)) (negsuc b) k (floorRem x (negsuc b))) (negℤ-negℤ q)
+    (subst (λ r. Divided (negsuc b) (negℤ (negℤ x)) (negsuc b) (negℤ (negℤ q)) r) (sym (exchanged x b))
+    (divisor-neg (dividend-neg (above-divides (pos (suc b)) (negℤ x) b refl) above-zero))))
+
+floored-one : (x y q r : ℤ) → Divided y x y q r → r ≡ floorRem x y
+floored-one x (pos zero) q r t = absurd (no-divisor (t .smaller))
+floored-one x (pos (suc b)) q r t = above-one (pos (suc b)) x b refl q r t .1
+floored-one x (negsuc b) q r t =
+    over (above-one (pos (suc b)) (negℤ x) b refl (negℤ (negℤ q)) (negℤ r) (divisor-neg (dividend-neg t below-zero)) .1) ∙ sym (exchanged x b)
+
+nonzero : (s x y q r : ℤ) → Divided s x y q r → isZero y ≡ false
+nonzero s x (pos zero) q r t = absurd (no-divisor (t .smaller))
+nonzero s x (pos (suc n)) q r t = refl
+nonzero s x (negsuc n) q r t = refl
 
 not-zero : (y : ℤ) → isZero y ≡ false → y ≡ pos 0 → ⊥
 not-zero y e p = not-both (ap isZero p) e
@@ -172,8 +207,8 @@ module _ (x y : ℤ) (w : ℕ) where
       cond-cases (Gives kind) (eqb kind 36) (λ e. at 36 e (fit (x +ℤ y)) (gives-fit 36 (x +ℤ y) plus))
       (λ e. cond-cases (Gives kind) (eqb kind 37) (λ f. at 37 f (fit (x -ℤ y)) (gives-fit 37 (x -ℤ y) (λ h. minus (ap (λ z. z +ℤ y) h ∙ -ℤ-+ℤ-cancel x y))))
       (λ f. cond-cases (Gives kind) (eqb kind 38) (λ g. at 38 g (fit (x *ℤ y)) (gives-fit 38 (x *ℤ y) times))
-      (λ g. cond-cases (Gives kind) (eqb kind 39) (λ h. at 39 h _ (gives-divided 39 (quotZ x y) (λ d i. divide (subst (λ q. Truncated x y q (remZ x y)) (sym i) (truncates x y d)))))
-      (λ h. cond-cases (Gives kind) (eqb kind 40) (λ i. at 40 i _ (gives-divided 40 (remZ x y) (λ d j. remainder (subst (λ r. Truncated x y (quotZ x y) r) (sym j) (truncates x y d)))))
+      (λ g. cond-cases (Gives kind) (eqb kind 39) (λ h. at 39 h _ (gives-divided 39 (quotZ x y) (λ d i. divide (subst (λ q. Divided x x y q (remZ x y)) (sym i) (truncates x y d)))))
+      (λ h. cond-cases (Gives kind) (eqb kind 40) (λ i. at 40 i _ (gives-divided 40 (floorRem x y) (λ d j. remainder (subst (λ r. Divided y x y (floorZ x y) r) (sym j) (floors x y d)))))
       (λ i p. absurd (no-value p))))))
     where
       at : (k : ℕ) → eqb kind k ≡ true → (v : Value) → Gives k v → Gives kind v
@@ -183,8 +218,8 @@ module _ (x y : ℤ) (w : ℕ) where
   given-arithmetic l (plus e) = fit-is (x +ℤ y) w .1 (l, e)
   given-arithmetic l (minus e) = fit-is (x -ℤ y) w .1 (l, sym (+ℤ-negℤ-cancel (number w) y) ∙ ap (λ z. z -ℤ y) e)
   given-arithmetic l (times e) = fit-is (x *ℤ y) w .1 (l, e)
-  given-arithmetic l (divide {r = r} t) = rw (nonzero x y (number w) r t) (fit-is (quotZ x y) w .1 (l, truncated-one x y (number w) r t .0))
-  given-arithmetic l (remainder {q = q} t) = rw (nonzero x y q (number w) t) (fit-is (remZ x y) w .1 (l, truncated-one x y q (number w) t .1))
+  given-arithmetic l (divide {r = r} t) = rw (nonzero x x y (number w) r t) (fit-is (quotZ x y) w .1 (l, truncated-one x y (number w) r t))
+  given-arithmetic l (remainder {q = q} t) = rw (nonzero y x y q (number w) t) (fit-is (floorRem x y) w .1 (l, floored-one x y q (number w) t))
 
   pub operates-is : (kind : ℕ) → (arithmetic kind x y ≡ Present w) ↔ ((w < 2 ^ 32) × Operates kind x y (number w))
   operates-is kind = (arithmetic-gives kind, λ h. given-arithmetic (h .0) (h .1))

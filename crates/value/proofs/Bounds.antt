@@ -1,4 +1,4 @@
--- The sum, difference, product, quotient and remainder of two words' numbers fit 64 bits.
+-- The sum, difference, product and quotient of two words' numbers fit 64 bits.
 -- Assumes nothing.
 use Prim.Native.Nat.{ℕ, zero, suc, _+_, _*_, _-_, _/_, _^_, _<_, _≤_}
 use mathlib.Core.Bool.{Bool, true, false, cond}
@@ -7,11 +7,12 @@ use native.Mathlib.Nat.{mul-le-mul, div-le-self, le-trans}
 use native.Mathlib.Omega.{arith}
 use lib.Dec.{ltb}
 use lib.IntN.{ℤ, pos, negsuc, negℤ, natAbs, subℕ, _+ℤ_, _-ℤ_, _*ℤ_}
-use lib.Signed.{mag, mag-rem, natAbs-le, quotZ, remZ}
+use lib.Signed.{mag, natAbs-le, quotZ}
 use mir.Syntax.{w32, w64}
 use mir.Val.{Fits, SFits, toZ, ofZ}
 use mir.Facts.{toZ-ofZ, sfits-toZ, sfits-widen}
-use Rattle.value.specs.Values.{signedOf}
+use Rattle.value.specs.Values.{signedOf, inRange}
+use Rattle.value.proofs.Words.{in-range}
 
 mag-sub : (a b : ℕ) → mag (subℕ a b) ≤ a + b
 mag-sub a b = by (ltb a b)
@@ -47,9 +48,18 @@ mag-quot (pos a) (negsuc b) = le-trans (mag-neg (a / suc b)) (div-le-self a (suc
 mag-quot (negsuc a) (pos b) = le-trans (mag-neg (suc a / b)) (div-le-self (suc a) b)
 mag-quot (negsuc a) (negsuc b) = div-le-self (suc a) (suc b)
 
+pub quot-fits : (x y : ℤ) → inRange x ≡ true → SFits w64 (quotZ x y)
+quot-fits x y h = record { sfits = omega (arith, mag-quot x y, natAbs-le x (in-range x .0 h)) }
+
+pub word-in-range : {w : ℕ} → Fits w32 w → inRange (signedOf w) ≡ true
+word-in-range {w} f = in-range (signedOf w) .1 (sfits-toZ f .sfits)
+
+pub word-fits : {w : ℕ} → Fits w32 w → SFits w64 (signedOf w)
+word-fits f = sfits-widen {w = w32} tt (sfits-toZ f)
+
 -- a signed local holds bits: what is read back from those of a word's number
 pub whole : {w : ℕ} {x : ℤ} → Fits w32 w → x ≡ signedOf w → toZ w64 (ofZ w64 x) ≡ signedOf w
-whole f e = rw e (toZ-ofZ (sfits-widen {w = w32} tt (sfits-toZ f)))
+whole f e = rw e (toZ-ofZ (word-fits f))
 
 module _ {a b : ℕ} (f : Fits w32 a) (g : Fits w32 b) where
   small-a : mag (signedOf a) < 2 ^ 31
@@ -66,9 +76,3 @@ module _ {a b : ℕ} (f : Fits w32 a) (g : Fits w32 b) where
 
   pub mul-fits : SFits w64 (signedOf a *ℤ signedOf b)
   mul-fits = record { sfits = omega (arith, mag-mul (signedOf a) (signedOf b), mul-le-mul (natAbs-le (signedOf a) small-a) (natAbs-le (signedOf b) small-b)) }
-
-  pub quot-fits : SFits w64 (quotZ (signedOf a) (signedOf b))
-  quot-fits = record { sfits = omega (arith, mag-quot (signedOf a) (signedOf b), natAbs-le (signedOf a) small-a) }
-
-  pub rem-fits : SFits w64 (remZ (signedOf a) (signedOf b))
-  rem-fits = record { sfits = omega (arith, mag-rem (signedOf a) (signedOf b), small-a) }

@@ -1,8 +1,9 @@
 -- Worked examples, as theorems that antt computes: (h), (i), and the edges of the operations.
 -- Assumes nothing.
-use Prim.Native.Nat.{_^_, _-_}
+use Prim.Native.Nat.{ℕ, _^_, _-_}
 use mathlib.Core.Bool.{true, false}
 use mathlib.Core.Path.{_≡_, refl}
+use Rattle.value.specs.declared.Value.{Value}
 use Rattle.value.specs.declared.Value.the-variants.{Absent, Present}
 use Rattle.value.specs.Values.{operate}
 use Rattle.value.specs.Truths.{truth, undefined, compareValues, connect}
@@ -13,34 +14,41 @@ use Rattle.value.specs.Truths.{truth, undefined, compareValues, connect}
 pub sum-over : operate 36 (Present 2147483647) (Present 1) ≡ Absent
 sum-over = refl
 
--- (i) -7 remainder 3 is -1
-pub remainder-sign : operate 40 (Present (2 ^ 32 - 7)) (Present 3) ≡ Present (2 ^ 32 - 1)
-remainder-sign = refl
+-- the quotient, which is truncated, and the remainder, which is floored
+abbrev divided : ℕ → ℕ → Value × Value
+divided x y = (operate 39 (Present x) (Present y), operate 40 (Present x) (Present y))
 
--- and -7 divided by 3 is -2
-pub quotient-truncated : operate 39 (Present (2 ^ 32 - 7)) (Present 3) ≡ Present (2 ^ 32 - 2)
-quotient-truncated = refl
+-- (i) -7 remainder 3 is 2, and -7 divided by 3 is -2
+pub dividend-below : divided (2 ^ 32 - 7) 3 ≡ (Present (2 ^ 32 - 2), Present 2)
+dividend-below = refl
 
--- 7 remainder -3 is 1, and 7 divided by -3 is -2
-pub remainder-dividend : operate 40 (Present 7) (Present (2 ^ 32 - 3)) ≡ Present 1
-remainder-dividend = refl
+-- 7 remainder -3 is -2, and 7 divided by -3 is -2
+pub divisor-below : divided 7 (2 ^ 32 - 3) ≡ (Present (2 ^ 32 - 2), Present (2 ^ 32 - 2))
+divisor-below = refl
 
-pub quotient-divisor : operate 39 (Present 7) (Present (2 ^ 32 - 3)) ≡ Present (2 ^ 32 - 2)
-quotient-divisor = refl
+-- -7 remainder -3 is -1, and -7 divided by -3 is 2
+pub both-below : divided (2 ^ 32 - 7) (2 ^ 32 - 3) ≡ (Present 2, Present (2 ^ 32 - 1))
+both-below = refl
 
--- the least number divided by -1 is absent, and its remainder is 0
-pub quotient-over : operate 39 (Present (2 ^ 31)) (Present (2 ^ 32 - 1)) ≡ Absent
-quotient-over = refl
+-- -1 remainder 10 is 9, and -1 divided by 10 is 0
+pub west-of-zero : divided (2 ^ 32 - 1) 10 ≡ (Present 0, Present 9)
+west-of-zero = refl
 
-pub remainder-least : operate 40 (Present (2 ^ 31)) (Present (2 ^ 32 - 1)) ≡ Present 0
-remainder-least = refl
+-- 6 remainder -3 is 0, and 6 divided by -3 is -2
+pub exact : divided 6 (2 ^ 32 - 3) ≡ (Present (2 ^ 32 - 2), Present 0)
+exact = refl
+
+-- the least number remainder -1 is 0, and divided by -1 it is absent
+pub least-by-minus-one : divided (2 ^ 31) (2 ^ 32 - 1) ≡ (Absent, Present 0)
+least-by-minus-one = refl
+
+-- the least number remainder 10 is 2, and divided by 10 it is -214,748,364
+pub least-by-ten : divided (2 ^ 31) 10 ≡ (Present (2 ^ 32 - 214748364), Present 2)
+least-by-ten = refl
 
 -- by 0 there is neither a quotient nor a remainder
-pub quotient-zero : operate 39 (Present 7) (Present 0) ≡ Absent
-quotient-zero = refl
-
-pub remainder-zero : operate 40 (Present 7) (Present 0) ≡ Absent
-remainder-zero = refl
+pub by-zero : divided 7 0 ≡ (Absent, Absent)
+by-zero = refl
 
 -- a product is judged as a whole number: 65,536 × 65,536, whose 32 bits are 0, is absent, and so is 46,341 × 46,341, of fewer bits
 pub product-over : operate 38 (Present 65536) (Present 65536) ≡ Absent

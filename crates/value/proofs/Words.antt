@@ -2,14 +2,16 @@
 -- Assumes nothing.
 use Prim.Native.Nat.{ℕ, zero, suc, _^_, _<_, _≤_}
 use mathlib.Core.Bool.{true, false, cond, and-true}
-use mathlib.Core.Path.{_≡_, refl}
+use mathlib.Core.Logic.{_↔_}
+use mathlib.Core.Path.{_≡_, refl, sym, _∙_}
 use native.Mathlib.Omega.{arith}
 use lib.Dec.{leb}
 use lib.IntN.{ℤ, pos, negsuc, _+ℤ_, _-ℤ_}
 use lib.Signed.{mag, ltZ}
 use mir.Syntax.{w32, w64}
 use mir.Val.{SFits, toZ, ofZ}
-use borrow.Author.Tests.{lt-ltb, le-ltb, ltb-true, ltb-false, le-leb, lt-leb}
+use borrow.Author.Tests.{lt-ltb, le-ltb, ltb-true, ltb-false, le-leb, lt-leb, leb-true}
+use Rattle.basis.proofs.Tests.{not-both}
 use Rattle.value.specs.declared.Value.{Value}
 use Rattle.value.specs.declared.Value.the-variants.{Absent, Present}
 use Rattle.value.specs.Values.{signedOf, inRange, fit, isZero}
@@ -24,6 +26,12 @@ high-word w l h = simp (lt-ltb w (2 ^ 63) (omega arith), le-ltb w (2 ^ 31) l, lt
 range : (z : ℤ) → inRange z ≡ leb (mag z) 2147483647
 range (pos n) = refl
 range (negsuc n) = and-true (leb n 2147483647)
+
+pub in-range : (z : ℤ) → (inRange z ≡ true) ↔ (mag z < 2 ^ 31)
+in-range z = (
+  λ e. let l = leb-true (mag z) 2147483647 (sym (range z) ∙ e) in omega arith,
+  λ l. range z ∙ le-leb (mag z) 2147483647 (omega arith),
+)
 
 inside : (z : ℤ) → mag z ≤ 2147483647 → Present (ofZ w32 z) ≡ fit z
 inside z h = rw (range z, le-leb (mag z) 2147483647 h)
@@ -64,7 +72,12 @@ zero-divisor {y = pos zero} f h v = refl
 zero-divisor {y = pos (suc n)} f h v = absurd (omega arith)
 zero-divisor {y = negsuc n} f h v = absurd (omega (arith, f .sfits))
 
-pub divisor : (y : ℤ) → (ofZ w64 y ≡ 0 → ⊥) → (v : Value) → v ≡ cond (isZero y) Absent v
-divisor (pos zero) h v = absurd (h refl)
-divisor (pos (suc n)) h v = refl
-divisor (negsuc n) h v = refl
+pub divisor : (y : ℤ) → (ofZ w64 y ≡ 0 → ⊥) → isZero y ≡ false
+divisor (pos zero) h = absurd (h refl)
+divisor (pos (suc n)) h = refl
+divisor (negsuc n) h = refl
+
+pub nonzero-bits : (y : ℤ) → SFits w64 y → isZero y ≡ false → 0 < ofZ w64 y
+nonzero-bits (pos zero) f h = absurd (not-both refl h)
+nonzero-bits (pos (suc n)) f h = omega arith
+nonzero-bits (negsuc n) f h = omega (arith, f .sfits)

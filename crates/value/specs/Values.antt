@@ -2,8 +2,8 @@
 use Prim.Native.Nat.{ℕ, zero, suc}
 use mathlib.Core.Bool.{Bool, true, false, cond, _&&_}
 use lib.Dec.{eqb}
-use lib.IntN.{ℤ, pos, negsuc, _+ℤ_, _-ℤ_, _*ℤ_}
-use lib.Signed.{leZ, quotZ, remZ}
+use lib.IntN.{ℤ, pos, negsuc, negℤ, _+ℤ_, _-ℤ_, _*ℤ_}
+use lib.Signed.{leZ, quotZ, shrZ}
 use mir.Syntax.{w32}
 use mir.Val.{toZ, ofZ}
 use Rattle.basis.specs.Kinds as kind
@@ -27,14 +27,24 @@ isZero (pos zero) = true
 isZero (pos (suc n)) = false
 isZero (negsuc n) = false
 
--- +, -, ×, divide, remainder on two numbers; the last two truncate toward zero, and a zero divisor gives absent
+-- floor(x / y), by a divisor that is not 0 (`shrZ x n` is x / n rounded down)
+abbrev pub floorZ : ℤ → ℤ → ℤ
+floorZ x (pos n) = shrZ x n
+floorZ x (negsuc n) = shrZ (negℤ x) (suc n)
+
+-- the floored remainder: 0, or of the divisor's sign
+abbrev pub floorRem : ℤ → ℤ → ℤ
+floorRem x y = x -ℤ y *ℤ floorZ x y
+
+-- +, -, ×, divide, remainder on two numbers; a zero divisor gives absent. The quotient is truncated toward zero and the
+-- remainder is floored, so the two do not belong together: -7 divided by 3 is -2, and -7 remainder 3 is 2
 abbrev pub arithmetic : ℕ → ℤ → ℤ → Value
 arithmetic k x y =
     cond (eqb k kind.plus) (fit (x +ℤ y))
     (cond (eqb k kind.minus) (fit (x -ℤ y))
     (cond (eqb k kind.times) (fit (x *ℤ y))
     (cond (eqb k kind.divide) (cond (isZero y) Absent (fit (quotZ x y)))
-    (cond (eqb k kind.remainder) (cond (isZero y) Absent (fit (remZ x y)))
+    (cond (eqb k kind.remainder) (cond (isZero y) Absent (fit (floorRem x y)))
     Absent))))
 
 -- the same on two values: an absent operand gives absent

@@ -1,7 +1,8 @@
 // Values, the operations and comparisons on them, and what a comparison comes to.
 use basis::kinds;
 ghost use mathlib.Core.Path.{_≡_};
-ghost use Rattle.value.specs.Values.{signedOf, fit, arithmetic, operate as operateOf};
+ghost use mathlib.Core.Bool.{true, false};
+ghost use Rattle.value.specs.Values.{signedOf, inRange, fit, isZero, floorRem, arithmetic, operate as operateOf};
 ghost use Rattle.value.specs.Truths.{testOf, compareValues as compareOf};
 
 // A value: absent, or a signed 32-bit number as its two's complement word.
@@ -44,6 +45,19 @@ fn fitted(z: i64) -> Value
     }
 }
 
+// The floored remainder, by a divisor that is not 0: 0, or of the divisor's sign.
+fn floored_remainder(x: i64, y: i64) -> i64
+    requires { ⌜ (inRange x ≡ true) × (isZero y ≡ false) ⌝ }
+    ensures { λ r. ⌜ r ≡ floorRem x y ⌝ }
+{
+    let rest = x % y;
+    if y < 0 {
+        if 0 < rest { rest + y } else { rest }
+    } else {
+        if rest < 0 { rest + y } else { rest }
+    }
+}
+
 // An operation on two numbers, given as their words.
 fn compute(kind: u8, a: u32, b: u32) -> Value
     ensures { λ r. ⌜ r ≡ arithmetic kind (signedOf a) (signedOf b) ⌝ }
@@ -55,7 +69,7 @@ fn compute(kind: u8, a: u32, b: u32) -> Value
         kinds::MINUS => fitted(x - y),
         kinds::TIMES => fitted(x * y),
         kinds::DIVIDE => { if y == 0 { Value::Absent } else { fitted(x / y) } }
-        kinds::REMAINDER => { if y == 0 { Value::Absent } else { fitted(x % y) } }
+        kinds::REMAINDER => { if y == 0 { Value::Absent } else { fitted(floored_remainder(x, y)) } }
         _ => Value::Absent,
     }
 }

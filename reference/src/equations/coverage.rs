@@ -68,8 +68,9 @@ pub enum Feature {
     /// Done acts of one run call definition 0 and another one, for an action
     /// that definition 0 does not have.
     TwoDefinitions,
-    /// A quotient or remainder that is written, not exact, of a negative number.
-    Truncated(u8),
+    /// A quotient or remainder that is written, not exact, of numbers of unlike
+    /// signs, the divisor below 0 or not.
+    Inexact(u8, bool),
     /// A done act's guards have a key that has no entry.
     KeyWithoutEntry,
     /// A node with as many derivations as it may have.
@@ -106,7 +107,7 @@ impl fmt::Display for Feature {
             Feature::LaterChoice => write!(out, "choice above 0"),
             Feature::TickJoins => write!(out, "tick joins"),
             Feature::TwoDefinitions => write!(out, "two definitions"),
-            Feature::Truncated(kind) => write!(out, "inexact {kind}"),
+            Feature::Inexact(kind, below) => write!(out, "inexact {kind}, divisor below 0: {below}"),
             Feature::KeyWithoutEntry => write!(out, "key without entry read"),
             Feature::Unconfirmed => write!(out, "key to confirm taken"),
             Feature::FullNode => write!(out, "node with 65,535 derivations"),
@@ -129,7 +130,9 @@ pub fn required() -> BTreeSet<Feature> {
     all.extend((10..=18).map(Feature::Step));
     all.extend(NEIGHBOURS.map(|(first, second)| Feature::Both(first, second)));
     all.extend([17, 18, 19].map(Feature::EqualOperands));
-    all.extend([39, 40].map(Feature::Truncated));
+    for below in [false, true] {
+        all.extend([39, 40].map(|kind| Feature::Inexact(kind, below)));
+    }
     all.extend([
         Feature::UndefinedNegated,
         Feature::LaterChoice,
@@ -327,8 +330,8 @@ impl Observer<'_> {
             let same = |other: &&Operator| other.apply(x, y) == value;
             if OPERATORS.iter().filter(same).count() == 1 {
                 self.see_kind(expression.id);
-                if x < 0 && x.checked_rem(y).is_some_and(|rest| rest != 0) {
-                    self.see(Feature::Truncated(self.kind(expression.id)));
+                if (x < 0) != (y < 0) && x.checked_rem(y).is_some_and(|rest| rest != 0) {
+                    self.see(Feature::Inexact(self.kind(expression.id), y < 0));
                 }
             }
             self.leaves(a);

@@ -2,19 +2,20 @@
 -- Assumes nothing.
 use borrow.Author.Needs.{needs}
 use borrow.Author.Tests.{ne-eqb}
-use mathlib.Core.Bool.{cond}
+use mathlib.Core.Bool.{false, cond}
 use mathlib.Core.Path.{_≡_, _∙_, ap}
 use native.Mathlib.Nat.{pos-of-ne-zero}
 use lib.IntN.{ℤ, _+ℤ_, _-ℤ_, _*ℤ_}
-use lib.Signed.{quotZ, remZ}
+use lib.Signed.{quotZ}
 use mir.Syntax.{w64}
 use mir.Val.{SFits, toZ, ofZ}
 use mir.Facts.{toZ-ofZ, sfits-toZ}
 use Rattle.value.specs.declared.Value.{Value}
 use Rattle.value.specs.declared.Value.the-variants.{Absent}
-use Rattle.value.specs.Values.{signedOf, fit, isZero}
+use Rattle.value.specs.Values.{signedOf, fit, isZero, floorRem}
 use Rattle.value.proofs.Words.{zero-divisor, divisor}
-use Rattle.value.proofs.Bounds.{add-fits, sub-fits, mul-fits, quot-fits, rem-fits, whole}
+use Rattle.value.proofs.Bounds.{add-fits, sub-fits, mul-fits, quot-fits, word-in-range, word-fits, whole}
+use Rattle.value.proofs.Floored.{floor-fits}
 use Rattle.value.proofs.compute.Statement.{statement}
 use Rattle.value.proofs.compute.Tie as tie
 
@@ -32,10 +33,10 @@ product : (c : tie.After-number2) → Fits c _*ℤ_
 product c = mul-fits (c .before .before .fits .a) (c .before .before .fits .b)
 
 quotient : (c : tie.After-number2) → Fits c quotZ
-quotient c = quot-fits (c .before .before .fits .a) (c .before .before .fits .b)
+quotient c = let s = c .before .before in quot-fits (signedOf (s .args .a)) (signedOf (s .args .b)) (word-in-range (s .fits .a))
 
-remainder : (c : tie.After-number2) → Fits c remZ
-remainder c = rem-fits (c .before .before .fits .a) (c .before .before .fits .b)
+remainder : (c : tie.After-number2) → isZero (signedOf (c .before .before .args .b)) ≡ false → Fits c floorRem
+remainder c h = let s = c .before .before in floor-fits (signedOf (s .args .a)) (signedOf (s .args .b)) h (word-fits (s .fits .b))
 
 -- so does its result on the numbers as they are read back, and what `fitted` is handed is the first
 read : (c : tie.After-number2) (op : ℤ → ℤ → ℤ) → Fits c op → SFits w64 (op (toZ w64 (ofZ w64 (c .before .number .result))) (toZ w64 (ofZ w64 (c .number2 .result))))
@@ -50,7 +51,7 @@ handed c op h = rw (whole (c .before .before .fits .a) (c .before .number .ensur
 by-zero : (c : tie.After-number2) → ofZ w64 (c .number2 .result) ≡ 0 → (v : Value) → Absent ≡ cond (isZero (signedOf (c .before .before .args .b))) Absent v
 by-zero c h = zero-divisor (sfits-toZ (c .before .before .fits .b)) (rw (c .number2 .ensures) at h)
 
-by-other : (c : tie.After-number2) → (ofZ w64 (c .number2 .result) ≡ 0 → ⊥) → (v : Value) → v ≡ cond (isZero (signedOf (c .before .before .args .b))) Absent v
+by-other : (c : tie.After-number2) → (ofZ w64 (c .number2 .result) ≡ 0 → ⊥) → isZero (signedOf (c .before .before .args .b)) ≡ false
 by-other c h = divisor (signedOf (c .before .before .args .b)) (rw (c .number2 .ensures) at h)
 
 number-requires : tie.Need-number-requires
@@ -83,8 +84,11 @@ div-fitted c = (pos-of-ne-zero (c .if1 .left), read (c .before .before) quotZ (q
 fitted-requires-4 : tie.Need-fitted-requires-4
 fitted-requires-4 c κs = search needs
 
-rem-fitted : tie.Need-rem-fitted
-rem-fitted c = (pos-of-ne-zero (c .if2 .left), read (c .before .before) quotZ (quotient (c .before .before)))
+floored-remainder-requires : tie.Need-floored-remainder-requires
+floored-remainder-requires c κs =
+    let n = c .before .before in
+    let s = n .before .before in
+    rw (whole (s .fits .a) (n .before .number .ensures), whole (s .fits .b) (n .number2 .ensures)) (word-in-range (s .fits .a), by-other n (c .if2 .left))
 
 fitted-requires-5 : tie.Need-fitted-requires-5
 fitted-requires-5 c κs = search needs
@@ -104,15 +108,18 @@ returns-4 c = rw (c .before .match .keys4) (by-zero (c .before .before) (c .if1 
 returns-5 : tie.Need-returns-5
 returns-5 c =
     let n = c .before .before .before in
-    rw (c .before .before .match .keys4) (c .fitted4 .ensures ∙ handed n quotZ (quotient n) ∙ by-other n (c .before .if1 .left) _)
+    rw (c .before .before .match .keys4, by-other n (c .before .if1 .left)) (c .fitted4 .ensures ∙ handed n quotZ (quotient n))
 
 returns-6 : tie.Need-returns-6
 returns-6 c = rw (c .before .match .keys5) (by-zero (c .before .before) (c .if2 .taken) _)
 
 returns-7 : tie.Need-returns-7
 returns-7 c =
-    let n = c .before .before .before in
-    rw (c .before .before .match .keys5) (c .fitted5 .ensures ∙ handed n remZ (remainder n) ∙ by-other n (c .before .if2 .left) _)
+    let n = c .before .before .before .before in
+    let s = n .before .before in
+    let h = by-other n (c .before .before .if2 .left) in
+    let e = rw (whole (s .fits .a) (n .before .number .ensures), whole (s .fits .b) (n .number2 .ensures)) at (c .before .floored-remainder .ensures) in
+    rw (c .before .before .before .match .keys5, h) (c .fitted5 .ensures ∙ ap fit (ap (λ z. toZ w64 (ofZ w64 z)) e ∙ toZ-ofZ (remainder n h)))
 
 returns-8 : tie.Need-returns-8
 returns-8 c = let r = c .match .rest in simp (ne-eqb _ _ (r .0 .0 .0 .0 .1), ne-eqb _ _ (r .0 .0 .0 .1), ne-eqb _ _ (r .0 .0 .1), ne-eqb _ _ (r .0 .1), ne-eqb _ _ (r .1))
@@ -131,7 +138,7 @@ compute-spec =
     fitted-requires-3
     div-fitted
     fitted-requires-4
-    rem-fitted
+    floored-remainder-requires
     fitted-requires-5
     returns
     returns-2
