@@ -8,7 +8,7 @@ use native.Mathlib.Omega.{arith}
 use lib.Dec.{eqb, ltb}
 use lib.IntN.{ℤ, pos, negsuc, _+ℤ_, _-ℤ_, _*ℤ_}
 use lib.ListN.{getD}
-use lib.Signed.{leZ, quotZ, remZ}
+use lib.Signed.{leZ, quotZ}
 use mir.Syntax.{w32}
 use mir.Val.{ofZ}
 use borrow.Author.Tests.{leb-true}
@@ -16,7 +16,7 @@ use Rattle.basis.proofs.Below.{below-induct}
 use Rattle.basis.proofs.Tests.{and-right, cond-cases}
 use Rattle.value.specs.declared.Value.{Value}
 use Rattle.value.specs.declared.Value.the-variants.{Absent, Present}
-use Rattle.value.specs.Values.{signedOf, inRange, fit, isZero, arithmetic, operate}
+use Rattle.value.specs.Values.{signedOf, inRange, fit, isZero, floorRem, arithmetic, operate}
 use Rattle.table.specs.Tables.{Table, kindAt, pAt, qAt, constantAt}
 use Rattle.state.specs.declared.Store.{Store}
 use Rattle.state.specs.declared.Store.the-variants.{Environment, Attributes, Entries}
@@ -42,7 +42,7 @@ arithmetic-small kind x y =
     (λ e. cond-cases SmallValue (eqb kind 37) (λ f. fit-small (x -ℤ y))
     (λ f. cond-cases SmallValue (eqb kind 38) (λ g. fit-small (x *ℤ y))
     (λ g. cond-cases SmallValue (eqb kind 39) (λ h. divided (quotZ x y))
-    (λ h. cond-cases SmallValue (eqb kind 40) (λ i. divided (remZ x y)) (λ i. tt)))))
+    (λ h. cond-cases SmallValue (eqb kind 40) (λ i. divided (floorRem x y)) (λ i. tt)))))
   where
     divided : (z : ℤ) → SmallValue (cond (isZero y) Absent (fit z))
     divided z = cond-cases SmallValue (isZero y) (λ e. tt) (λ e. fit-small z)

@@ -338,13 +338,14 @@ impl Grower<'_> {
     }
 }
 
-/// Mostly small values, some at the ends.
+/// Mostly small values, some below 0, some at the ends.
 pub fn value(rng: &mut Rng) -> i32 {
     match rng.below(20) {
         0 => i32::MAX,
         1 => i32::MIN,
         2 => i32::MAX - rng.below(3) as i32,
         3 => rng.word() as i32,
+        4 | 5 => -2 - rng.below(6) as i32,
         _ => rng.below(6) as i32 - 1,
     }
 }
