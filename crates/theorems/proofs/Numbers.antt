@@ -6,18 +6,19 @@ use mathlib.Core.Logic.{_⊎_, inl, inr, _↔_}
 use mathlib.Core.Path.{_≡_, refl, sym, ap, subst, _∙_}
 use native.Mathlib.Nat.{mul-add-div, div-eq-of-lt}
 use native.Mathlib.Omega.{arith}
-use lib.Dec.{eqb, ltb, leb}
+use lib.Dec.{eqb, ltb}
 use lib.IntN.{ℤ, pos, negsuc, negℤ, natAbs, _+ℤ_, _-ℤ_, _*ℤ_, negℤ-negℤ, negℤ-+ℤ, pos-ne-negsuc, +ℤ-comm, +ℤ-negℤ-cancel, -ℤ-+ℤ-cancel}
-use lib.Signed.{mag, ltZ, nonNeg, quotZ, remZ}
+use lib.Signed.{ltZ, nonNeg, quotZ, remZ}
 use mir.Syntax.{w32}
 use mir.Val.{Fits, SFits, ofZ}
 use mir.Facts.{fits-of-lt, fits-lt-pow, fits-ofZ, sfits-toZ, toZ-ofZ, ofZ-toZ, toZ-inj}
-use borrow.Author.Tests.{lt-ltb, le-ltb, ltb-true, le-leb, leb-true, eqb-true, eq-eqb}
-use Rattle.basis.proofs.Tests.{not-both, and-left, cond-cases}
+use borrow.Author.Tests.{lt-ltb, le-ltb, ltb-true, eqb-true, eq-eqb}
+use Rattle.basis.proofs.Tests.{not-both, cond-cases}
 use Rattle.value.specs.declared.Value.{Value}
 use Rattle.value.specs.declared.Value.the-variants.{Absent, Present}
 use Rattle.value.specs.Values.{signedOf, inRange, fit, isZero, floorZ, floorRem, arithmetic}
 use Rattle.value.specs.Truths.{testOf}
+use Rattle.value.proofs.Words.{in-range}
 use Rattle.value.proofs.Floored.{times-neg, neg-times, rest-of, of-pos, above-is, exchanged}
 use Rattle.labs.specs.Numbers.{number, Divided, Operates, plus, minus, times, divide, remainder, _≺_, Compares, equal, less, greater}
 
@@ -31,11 +32,6 @@ number-is w l = by (ltb w (2 ^ 31))
     by : (b : Bool) → cond b (pos w) (pos w -ℤ pos (2 ^ 32)) ≡ cond b (pos w) (negsuc (2 ^ 32 - suc w))
     by true = refl
     by false = rw (lt-ltb w (2 ^ 32) l)
-
--- a number of 32 bits
-in-range : (z : ℤ) → (inRange z ≡ true) ↔ (mag z < 2 ^ 31)
-in-range (pos n) = (λ e. let h = leb-true n 2147483647 e in omega arith, λ h. le-leb n 2147483647 (omega arith))
-in-range (negsuc n) = (λ e. let h = leb-true n 2147483647 (and-left (leb n 2147483647) true e) in omega arith, λ h. rw (le-leb n 2147483647 (omega arith)))
 
 -- a number is a value where a word holds it
 fit-is : (z : ℤ) (w : ℕ) → (fit z ≡ Present w) ↔ ((w < 2 ^ 32) × (number w ≡ z))

@@ -21,7 +21,7 @@ mag-sub a b = by (ltb a b)
     by true = omega arith
     by false = omega arith
 
-mag-neg : (r : ℕ) → mag (negℤ (pos r)) ≤ r
+pub mag-neg : (r : ℕ) → mag (negℤ (pos r)) ≤ r
 mag-neg zero = omega arith
 mag-neg (suc r) = omega arith
 

@@ -8,13 +8,14 @@ use mathlib.Core.Path.{_≡_, refl, sym, ap, _∙_}
 use native.Mathlib.Nat.{mod-lt, div-add-mod, mul-add-mod-self-left, mod-eq-of-lt}
 use native.Mathlib.Omega.{arith}
 use borrow.Author.Tests.{le-ltb, lt-ltb}
-use lib.Dec.{ltb}
 use lib.IntN.{ℤ, pos, negsuc, negℤ, _+ℤ_, _-ℤ_, _*ℤ_, negℤ-negℤ, negℤ-+ℤ, +ℤ-comm, +ℤ-negℤ-cancel, *ℤ-zero, *ℤ-negsuc, *ℤ-comm}
 use lib.Signed.{mag, ltZ, remZ, shrZ}
 use mir.Syntax.{w64}
 use mir.Val.{SFits}
 use Rattle.basis.proofs.Tests.{not-both, lt-or-le}
-use Rattle.value.specs.Values.{floorRem, isZero}
+use Rattle.value.specs.Values.{inRange, isZero, floorRem}
+use Rattle.value.proofs.Words.{in-range}
+use Rattle.value.proofs.Bounds.{mag-neg}
 
 -- signs in a product
 pub times-neg : (y q : ℤ) → y *ℤ negℤ q ≡ negℤ (y *ℤ q)
@@ -33,7 +34,7 @@ rest-of p r e = ap (λ z. z -ℤ p) (e ∙ +ℤ-comm p r) ∙ +ℤ-negℤ-cancel
 pub of-pos : (a b : ℕ) → floorRem (pos a) (pos (suc b)) ≡ pos (a % suc b)
 of-pos a b = rest-of (pos (suc b * (a / suc b))) (pos (a % suc b)) (ap pos (sym (div-add-mod a (suc b))))
 
-pub of-neg : (a b : ℕ) → floorRem (negsuc a) (pos (suc b)) ≡ pos (b - a % suc b)
+of-neg : (a b : ℕ) → floorRem (negsuc a) (pos (suc b)) ≡ pos (b - a % suc b)
 of-neg a b =
     let e = div-add-mod a (suc b) in
     let l = mod-lt a {m = suc b} (omega arith) in
@@ -95,14 +96,14 @@ floored x (negsuc b) h =
     exchanged x b ∙ ap negℤ (above (negℤ x) b) ∙ ap (λ r. negℤ (raised (pos (suc b)) r)) (rem-neg x b) ∙ lowered-is b (remZ x (negsuc b))
 
 -- so it is no farther from 0 than the divisor
-mag-neg : (c b : ℕ) → c < suc b → mag (negℤ (pos c)) ≤ b
-mag-neg zero b l = omega arith
-mag-neg (suc c) b l = omega arith
-
 floor-mag : (x y : ℤ) → isZero y ≡ false → mag (floorRem x y) ≤ mag y
 floor-mag x (pos zero) e = absurd (not-both refl e)
 floor-mag x (pos (suc b)) e = let w = above-is x b in rw (w .2) (omega (arith, w .1))
-floor-mag x (negsuc b) e = let w = above-is (negℤ x) b in rw (exchanged x b, w .2) (mag-neg (w .0) b (w .1))
+floor-mag x (negsuc b) e = let w = above-is (negℤ x) b in rw (exchanged x b, w .2) (omega (arith, mag-neg (w .0), w .1))
+
+-- and fits where the divisor does
+pub floor-in-range : (x y : ℤ) → isZero y ≡ false → inRange y ≡ true → inRange (floorRem x y) ≡ true
+floor-in-range x y e r = in-range (floorRem x y) .1 (omega (arith, floor-mag x y e, in-range y .0 r))
 
 pub floor-fits : (x y : ℤ) → isZero y ≡ false → SFits w64 y → SFits w64 (floorRem x y)
 floor-fits x y e f = record { sfits = omega (arith, floor-mag x y e, f .sfits) }

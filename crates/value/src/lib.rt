@@ -69,7 +69,13 @@ fn compute(kind: u8, a: u32, b: u32) -> Value
         kinds::MINUS => fitted(x - y),
         kinds::TIMES => fitted(x * y),
         kinds::DIVIDE => { if y == 0 { Value::Absent } else { fitted(x / y) } }
-        kinds::REMAINDER => { if y == 0 { Value::Absent } else { fitted(floored_remainder(x, y)) } }
+        kinds::REMAINDER => {
+            if y == 0 {
+                Value::Absent
+            } else {
+                fitted(floored_remainder(x, y))
+            }
+        }
         _ => Value::Absent,
     }
 }

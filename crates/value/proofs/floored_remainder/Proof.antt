@@ -1,6 +1,6 @@
 -- `value::floored_remainder` meets its contract: by the tests, the rest is handed back or the divisor is added, as `floored` has it.
 -- Assumes nothing.
-use mathlib.Core.Bool.{cond}
+use mathlib.Core.Bool.{Bool, true, false, cond}
 use mathlib.Core.Path.{_≡_, sym, _∙_, subst}
 use native.Mathlib.Omega.{arith}
 use lib.IntN.{ℤ, pos, _+ℤ_}
@@ -36,39 +36,38 @@ module _ (c : tie.Start) where
   chosen : floorRem x y ≡ cond (ltZ divisor (pos 0)) (cond (ltZ (pos 0) rest) (rest +ℤ divisor) rest) (cond (ltZ rest (pos 0)) (rest +ℤ divisor) rest)
   chosen = rw (toZ-ofZ (c .fits .x), toZ-ofZ (c .fits .y), toZ-ofZ rest-fits) (floored x y (c .pre .1))
 
+  below : {b : Bool} → ltZ divisor (pos 0) ≡ true → ltZ (pos 0) rest ≡ b → floorRem x y ≡ cond b (rest +ℤ divisor) rest
+  below e f = rw (e, f) at chosen
+
+  above : {b : Bool} → ltZ divisor (pos 0) ≡ false → ltZ rest (pos 0) ≡ b → floorRem x y ≡ cond b (rest +ℤ divisor) rest
+  above e f = rw (e, f) at chosen
+
   result-fits : {z : ℤ} → floorRem x y ≡ z → SFits w64 z
   result-fits e = subst (SFits w64) e (floor-fits x y (c .pre .1) (c .fits .y))
 
   result-is : {z : ℤ} → floorRem x y ≡ z → toZ w64 (ofZ w64 z) ≡ floorRem x y
   result-is e = toZ-ofZ (result-fits e) ∙ sym e
 
--- where the divisor is added
-lowered : (c : tie.Then2) → floorRem (x (c .before .before)) (y (c .before .before)) ≡ rest (c .before .before) +ℤ divisor (c .before .before)
-lowered c = rw (c .before .if1 .taken, c .if2 .taken) at (chosen (c .before .before))
-
-raised : (c : tie.Then3) → floorRem (x (c .before .before)) (y (c .before .before)) ≡ rest (c .before .before) +ℤ divisor (c .before .before)
-raised c = rw (c .before .if1 .left, c .if3 .taken) at (chosen (c .before .before))
-
 rem-rest : tie.Need-rem-rest
 rem-rest c = rw (toZ-ofZ (c .fits .x), toZ-ofZ (c .fits .y)) (nonzero-bits (y c) (c .fits .y) (c .pre .1), quot-fits (x c) (y c) (c .pre .0))
 
-add-result : tie.Need-add-result
-add-result c = result-fits (c .before .before) (lowered c)
-
-add-result-2 : tie.Need-add-result-2
-add-result-2 c = result-fits (c .before .before) (raised c)
-
 returns : tie.Need-returns
-returns c = result-is (c .before .before) (lowered c)
+returns c = let s = c .before .before in result-is s (below s (c .before .if1 .taken) (c .if2 .taken))
 
 returns-2 : tie.Need-returns-2
-returns-2 c = sym (rw (c .before .if1 .taken, c .if2 .left) at (chosen (c .before .before)))
+returns-2 c = sym (below (c .before .before) (c .before .if1 .taken) (c .if2 .left))
 
 returns-3 : tie.Need-returns-3
-returns-3 c = result-is (c .before .before) (raised c)
+returns-3 c = let s = c .before .before in result-is s (above s (c .before .if1 .left) (c .if3 .taken))
 
 returns-4 : tie.Need-returns-4
-returns-4 c = sym (rw (c .before .if1 .left, c .if3 .left) at (chosen (c .before .before)))
+returns-4 c = sym (above (c .before .before) (c .before .if1 .left) (c .if3 .left))
+
+add-result : tie.Need-add-result
+add-result c = let s = c .before .before in result-fits s (below s (c .before .if1 .taken) (c .if2 .taken))
+
+add-result-2 : tie.Need-add-result-2
+add-result-2 c = let s = c .before .before in result-fits s (above s (c .before .if1 .left) (c .if3 .taken))
 
 pub floored-remainder-spec : {M : Type 1} → statement M
 floored-remainder-spec = tie.close (tie.spec rem-rest add-result add-result-2 returns returns-2 returns-3 returns-4)
