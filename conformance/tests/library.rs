@@ -4,11 +4,13 @@ use conformance::fleets::long_link;
 use conformance::{call, expected, Given};
 use reference::cases::{Call, Case, ANSWER_FILL};
 use reference::describe::describe;
+use reference::draft::Draft;
 use reference::faults::pairs;
 use reference::generate::case;
-use reference::generate::edges::deep_chain;
+use reference::generate::edges::{accept, deep_chain};
 use reference::on_deep_stack;
-use reference::state::STATE_WORDS;
+use reference::schedule;
+use reference::state::{World, STATE_WORDS};
 use reference::stats::Tally;
 use reference::step::Step;
 use reference::table::MAX_NODES;
@@ -104,6 +106,59 @@ fn calls_that_hold_two_faults_answer_as_the_reference_does() {
             &pair.case,
             &format!("{:?} with {:?}", pair.asked, pair.faults),
         );
+    }
+}
+
+/// Numbers of each sign, small ones and those at the ends.
+const OPERANDS: [i32; 17] = [
+    i32::MIN,
+    i32::MIN + 1,
+    -65_536,
+    -10,
+    -7,
+    -3,
+    -2,
+    -1,
+    0,
+    1,
+    2,
+    3,
+    7,
+    10,
+    65_536,
+    i32::MAX - 1,
+    i32::MAX,
+];
+
+/// Five agents, of which each sets an attribute by an operator of its own.
+fn by_every_operator(x: i32, y: i32) -> Case {
+    let mut draft = Draft::new(1, 0);
+    for operator in 0..5 {
+        let (x, y) = (draft.constant(x), draft.constant(y));
+        let value = draft.binary(operator, x, y);
+        let set = draft.set_attribute(0, value);
+        draft.agent(set);
+    }
+    let (table, fleet) = accept(&draft);
+    let acts = [0, 1, 2, 3, 4].map(|agent| Step::act(agent, 0));
+    Case {
+        table,
+        state: World::start(&fleet).words(),
+        fill: 0,
+        scratch: 2 * MAX_NODES,
+        call: Call::Run {
+            schedule: schedule::write(&acts),
+            answers: acts.len(),
+        },
+    }
+}
+
+#[test]
+fn operators_answer_as_the_reference_does() {
+    for x in OPERANDS {
+        for y in OPERANDS {
+            agreed(&by_every_operator(x, y), &format!("{x} and {y}"));
+        }
     }
 }
 

@@ -49,16 +49,11 @@ impl Operator {
     }
 }
 
-/// a less b times floor(a / b), unless b is 0. What a is above the next lower
-/// multiple of b is never negative; by a divisor below 0 the multiple next
-/// above a is meant.
+/// a less b times floor(a / b), unless b is 0. Euclid's remainder is never
+/// below 0; by a divisor below 0 the floored one never is above.
 fn floored_remainder(a: i64, b: i64) -> Option<i64> {
     let above = a.checked_rem_euclid(b)?;
-    Some(if b < 0 && above > 0 {
-        above + b
-    } else {
-        above
-    })
+    Some(if b < 0 && above > 0 { above + b } else { above })
 }
 
 impl Expr {

@@ -68,8 +68,8 @@ pub enum Feature {
     /// Done acts of one run call definition 0 and another one, for an action
     /// that definition 0 does not have.
     TwoDefinitions,
-    /// A quotient or remainder that is written, not exact, of numbers of unlike
-    /// signs, the divisor below 0 or not.
+    /// A quotient or remainder that is written, not exact, and either the
+    /// divisor is below 0 (true) or the dividend, but not both.
     Inexact(u8, bool),
     /// A done act's guards have a key that has no entry.
     KeyWithoutEntry,
@@ -107,7 +107,8 @@ impl fmt::Display for Feature {
             Feature::LaterChoice => write!(out, "choice above 0"),
             Feature::TickJoins => write!(out, "tick joins"),
             Feature::TwoDefinitions => write!(out, "two definitions"),
-            Feature::Inexact(kind, below) => write!(out, "inexact {kind}, divisor below 0: {below}"),
+            Feature::Inexact(kind, true) => write!(out, "inexact {kind}, divisor below 0"),
+            Feature::Inexact(kind, false) => write!(out, "inexact {kind}, dividend below 0"),
             Feature::KeyWithoutEntry => write!(out, "key without entry read"),
             Feature::Unconfirmed => write!(out, "key to confirm taken"),
             Feature::FullNode => write!(out, "node with 65,535 derivations"),
@@ -130,8 +131,8 @@ pub fn required() -> BTreeSet<Feature> {
     all.extend((10..=18).map(Feature::Step));
     all.extend(NEIGHBOURS.map(|(first, second)| Feature::Both(first, second)));
     all.extend([17, 18, 19].map(Feature::EqualOperands));
-    for below in [false, true] {
-        all.extend([39, 40].map(|kind| Feature::Inexact(kind, below)));
+    for divisor in [false, true] {
+        all.extend([39, 40].map(|kind| Feature::Inexact(kind, divisor)));
     }
     all.extend([
         Feature::UndefinedNegated,
