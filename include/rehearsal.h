@@ -73,8 +73,8 @@ enum labs_node {
     LABS_NODE_ADD = 36,
     LABS_NODE_SUBTRACT = 37,
     LABS_NODE_MULTIPLY = 38,
-    LABS_NODE_DIVIDE = 39,
-    LABS_NODE_REMAINDER = 40,
+    LABS_NODE_DIVIDE = 39, /* truncated toward 0 */
+    LABS_NODE_REMAINDER = 40, /* floored: 0, or of the divisor's sign */
     LABS_NODE_ROOT = 64
 };
 
