@@ -27,7 +27,7 @@ isZero (pos zero) = true
 isZero (pos (suc n)) = false
 isZero (negsuc n) = false
 
--- floor(x / y), by a divisor that is not 0 (`shrZ x n` is x / n rounded down)
+-- floor(x / y), by a divisor that is not 0: `shrZ x n` is x / n rounded down, and x / -n is -x / n
 abbrev pub floorZ : ℤ → ℤ → ℤ
 floorZ x (pos n) = shrZ x n
 floorZ x (negsuc n) = shrZ (negℤ x) (suc n)

@@ -38,14 +38,21 @@ quotient c = let s = c .before .before in quot-fits (signedOf (s .args .a)) (sig
 remainder : (c : tie.After-number2) → isZero (signedOf (c .before .before .args .b)) ≡ false → Fits c floorRem
 remainder c h = let s = c .before .before in floor-fits (signedOf (s .args .a)) (signedOf (s .args .b)) h (word-fits (s .fits .b))
 
--- so does its result on the numbers as they are read back, and what `fitted` is handed is the first
+-- the numbers as they are read back
+first : (c : tie.After-number2) → toZ w64 (ofZ w64 (c .before .number .result)) ≡ signedOf (c .before .before .args .a)
+first c = whole (c .before .before .fits .a) (c .before .number .ensures)
+
+second : (c : tie.After-number2) → toZ w64 (ofZ w64 (c .number2 .result)) ≡ signedOf (c .before .before .args .b)
+second c = whole (c .before .before .fits .b) (c .number2 .ensures)
+
+-- an operation's result on these fits too, and what `fitted` is handed is the result on the words' numbers
 read : (c : tie.After-number2) (op : ℤ → ℤ → ℤ) → Fits c op → SFits w64 (op (toZ w64 (ofZ w64 (c .before .number .result))) (toZ w64 (ofZ w64 (c .number2 .result))))
-read c op h = rw (whole (c .before .before .fits .a) (c .before .number .ensures), whole (c .before .before .fits .b) (c .number2 .ensures)) h
+read c op h = rw (first c, second c) h
 
 handed : (c : tie.After-number2) (op : ℤ → ℤ → ℤ) → Fits c op
     → fit (toZ w64 (ofZ w64 (op (toZ w64 (ofZ w64 (c .before .number .result))) (toZ w64 (ofZ w64 (c .number2 .result))))))
     ≡ fit (op (signedOf (c .before .before .args .a)) (signedOf (c .before .before .args .b)))
-handed c op h = rw (whole (c .before .before .fits .a) (c .before .number .ensures), whole (c .before .before .fits .b) (c .number2 .ensures)) (ap fit (toZ-ofZ h))
+handed c op h = rw (first c, second c) (ap fit (toZ-ofZ h))
 
 -- the divisor's test
 by-zero : (c : tie.After-number2) → ofZ w64 (c .number2 .result) ≡ 0 → (v : Value) → Absent ≡ cond (isZero (signedOf (c .before .before .args .b))) Absent v
@@ -87,8 +94,7 @@ fitted-requires-4 c κs = search needs
 floored-remainder-requires : tie.Need-floored-remainder-requires
 floored-remainder-requires c κs =
     let n = c .before .before in
-    let s = n .before .before in
-    rw (whole (s .fits .a) (n .before .number .ensures), whole (s .fits .b) (n .number2 .ensures)) (word-in-range (s .fits .a), by-other n (c .if2 .left))
+    rw (first n, second n) (word-in-range (n .before .before .fits .a), by-other n (c .if2 .left))
 
 fitted-requires-5 : tie.Need-fitted-requires-5
 fitted-requires-5 c κs = search needs
@@ -116,9 +122,8 @@ returns-6 c = rw (c .before .match .keys5) (by-zero (c .before .before) (c .if2 
 returns-7 : tie.Need-returns-7
 returns-7 c =
     let n = c .before .before .before .before in
-    let s = n .before .before in
     let h = by-other n (c .before .before .if2 .left) in
-    let e = rw (whole (s .fits .a) (n .before .number .ensures), whole (s .fits .b) (n .number2 .ensures)) at (c .before .floored-remainder .ensures) in
+    let e = rw (first n, second n) at (c .before .floored-remainder .ensures) in
     rw (c .before .before .before .match .keys5, h) (c .fitted5 .ensures ∙ ap fit (ap (λ z. toZ w64 (ofZ w64 z)) e ∙ toZ-ofZ (remainder n h)))
 
 returns-8 : tie.Need-returns-8
