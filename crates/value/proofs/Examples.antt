@@ -47,8 +47,8 @@ pub least-by-ten : divided (2 ^ 31) 10 ≡ (Present (2 ^ 32 - 214748364), Presen
 least-by-ten = refl
 
 -- by 0 there is neither a quotient nor a remainder
-pub by-zero : divided 7 0 ≡ (Absent, Absent)
-by-zero = refl
+pub by-zero : (x : ℕ) → divided x 0 ≡ (Absent, Absent)
+by-zero x = refl
 
 -- a product is judged as a whole number: 65,536 × 65,536, whose 32 bits are 0, is absent, and so is 46,341 × 46,341, of fewer bits
 pub product-over : operate 38 (Present 65536) (Present 65536) ≡ Absent
