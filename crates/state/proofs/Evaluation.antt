@@ -1,22 +1,19 @@
 -- Every value is a word of 32 bits.
 -- Assumes nothing.
 use Prim.Native.Nat.{ℕ, _+_, _*_, _^_, _<_}
-use mathlib.Core.Bool.{true, cond}
-use mathlib.Core.Path.{_≡_}
+use mathlib.Core.Bool.{cond}
 use mathlib.Core.List.{List}
 use native.Mathlib.Omega.{arith}
 use lib.Dec.{eqb, ltb}
-use lib.IntN.{ℤ, pos, negsuc, _+ℤ_, _-ℤ_, _*ℤ_}
+use lib.IntN.{ℤ, _+ℤ_, _-ℤ_, _*ℤ_}
 use lib.ListN.{getD}
-use lib.Signed.{leZ, quotZ}
-use mir.Syntax.{w32}
-use mir.Val.{ofZ}
-use borrow.Author.Tests.{leb-true}
+use lib.Signed.{quotZ}
 use Rattle.basis.proofs.Below.{below-induct}
-use Rattle.basis.proofs.Tests.{and-right, cond-cases}
+use Rattle.basis.proofs.Tests.{cond-cases}
 use Rattle.value.specs.declared.Value.{Value}
 use Rattle.value.specs.declared.Value.the-variants.{Absent, Present}
 use Rattle.value.specs.Values.{signedOf, inRange, fit, isZero, floorRem, arithmetic, operate}
+use Rattle.value.proofs.Words.{word-small}
 use Rattle.table.specs.Tables.{Table, kindAt, pAt, qAt, constantAt}
 use Rattle.state.specs.declared.Store.{Store}
 use Rattle.state.specs.declared.Store.the-variants.{Environment, Attributes, Entries}
@@ -29,12 +26,8 @@ abbrev pub SmallValue : Value → Type 0
 SmallValue Absent = Unit {0}
 SmallValue (Present v) = v < 2 ^ 32
 
-in-range : (z : ℤ) → inRange z ≡ true → ofZ w32 z < 2 ^ 32
-in-range (pos n) e = let l = leb-true n 2147483647 (and-right (leZ (negsuc 2147483647) (pos n)) (leZ (pos n) (pos 2147483647)) e) in omega arith
-in-range (negsuc n) e = omega arith
-
 fit-small : (z : ℤ) → SmallValue (fit z)
-fit-small z = cond-cases SmallValue (inRange z) (in-range z) (λ e. tt)
+fit-small z = cond-cases SmallValue (inRange z) (word-small z) (λ e. tt)
 
 arithmetic-small : (kind : ℕ) (x y : ℤ) → SmallValue (arithmetic kind x y)
 arithmetic-small kind x y =

@@ -10,15 +10,16 @@ use lib.Dec.{eqb, ltb}
 use lib.IntN.{ℤ, pos, negsuc, negℤ, natAbs, _+ℤ_, _-ℤ_, _*ℤ_, negℤ-negℤ, negℤ-+ℤ, pos-ne-negsuc, +ℤ-comm, +ℤ-negℤ-cancel, -ℤ-+ℤ-cancel}
 use lib.Signed.{ltZ, nonNeg, quotZ, remZ}
 use mir.Syntax.{w32}
-use mir.Val.{Fits, SFits, ofZ}
-use mir.Facts.{fits-of-lt, fits-lt-pow, fits-ofZ, sfits-toZ, toZ-ofZ, ofZ-toZ, toZ-inj}
+use mir.Val.{Fits, ofZ}
+use mir.Facts.{fits-of-lt, toZ-ofZ, ofZ-toZ, toZ-inj}
 use borrow.Author.Tests.{lt-ltb, le-ltb, ltb-true, eqb-true, eq-eqb}
 use Rattle.basis.proofs.Tests.{not-both, cond-cases}
 use Rattle.value.specs.declared.Value.{Value}
 use Rattle.value.specs.declared.Value.the-variants.{Absent, Present}
 use Rattle.value.specs.Values.{signedOf, inRange, fit, isZero, floorZ, floorRem, arithmetic}
 use Rattle.value.specs.Truths.{testOf}
-use Rattle.value.proofs.Words.{in-range}
+use Rattle.value.proofs.Words.{in-range, word-small}
+use Rattle.value.proofs.Bounds.{word-in-range}
 use Rattle.value.proofs.Floored.{times-neg, neg-times, rest-of, of-pos, above-is, exchanged}
 use Rattle.labs.specs.Numbers.{number, Divided, Operates, plus, minus, times, divide, remainder, _≺_, Compares, equal, less, greater}
 
@@ -40,16 +41,15 @@ fit-is z w = (by (inRange z) refl, back)
     by : (b : Bool) → inRange z ≡ b → cond b (Present (ofZ w32 z)) Absent ≡ Present w → (w < 2 ^ 32) × (number w ≡ z)
     by true e p =
         let i : ofZ w32 z ≡ w = cc in
-        let f : SFits w32 z = record { sfits = in-range z .0 e } in
-        let l : ofZ w32 z < 2 ^ 32 = fits-lt-pow (fits-ofZ f) in
-        subst (λ (o : ℕ). (o < 2 ^ 32) × (number o ≡ z)) i (l, number-is (ofZ w32 z) l ∙ toZ-ofZ f)
+        let l = word-small z e in
+        subst (λ (o : ℕ). (o < 2 ^ 32) × (number o ≡ z)) i (l, number-is (ofZ w32 z) l ∙ toZ-ofZ (record { sfits = in-range z .0 e }))
     by false e p = absurd (no-value p)
 
     back : (w < 2 ^ 32) × (number w ≡ z) → fit z ≡ Present w
     back h =
         let e : signedOf w ≡ z = sym (number-is w (h .0)) ∙ h .1 in
         let f : Fits w32 w = fits-of-lt (h .0) in
-        subst (λ (o : ℤ). fit o ≡ Present w) e (rw (in-range (signedOf w) .1 (sfits-toZ f .sfits), ofZ-toZ f))
+        subst (λ (o : ℤ). fit o ≡ Present w) e (rw (word-in-range f, ofZ-toZ f))
 
 -- DIVISION: signs are taken off, and what is left is division by a number above 0
 abs-neg : (z : ℤ) → natAbs (negℤ z) ≡ natAbs z

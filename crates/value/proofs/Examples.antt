@@ -31,8 +31,8 @@ pub both-below : divided (2 ^ 32 - 7) (2 ^ 32 - 3) ≡ (Present 2, Present (2 ^ 
 both-below = refl
 
 -- -1 remainder 10 is 9, and -1 divided by 10 is 0
-pub west-of-zero : divided (2 ^ 32 - 1) 10 ≡ (Present 0, Present 9)
-west-of-zero = refl
+pub minus-one-by-ten : divided (2 ^ 32 - 1) 10 ≡ (Present 0, Present 9)
+minus-one-by-ten = refl
 
 -- 6 remainder -3 is 0, and 6 divided by -3 is -2
 pub exact : divided 6 (2 ^ 32 - 3) ≡ (Present (2 ^ 32 - 2), Present 0)

@@ -1,7 +1,7 @@
 -- Numbers of 32 bits and their two's complement words: what `number` and `fitted` compute, and in which case a number is.
 -- Assumes nothing.
 use Prim.Native.Nat.{ℕ, zero, suc, _^_, _<_, _≤_}
-use mathlib.Core.Bool.{true, false, cond, and-true}
+use mathlib.Core.Bool.{true, false, and-true}
 use mathlib.Core.Logic.{_↔_}
 use mathlib.Core.Path.{_≡_, refl, sym, _∙_}
 use native.Mathlib.Omega.{arith}
@@ -10,9 +10,9 @@ use lib.IntN.{ℤ, pos, negsuc, _+ℤ_, _-ℤ_}
 use lib.Signed.{mag, ltZ}
 use mir.Syntax.{w32, w64}
 use mir.Val.{SFits, toZ, ofZ}
+use mir.Facts.{fits-lt-pow, fits-ofZ}
 use borrow.Author.Tests.{lt-ltb, le-ltb, ltb-true, ltb-false, le-leb, lt-leb, leb-true}
 use Rattle.basis.proofs.Tests.{not-both}
-use Rattle.value.specs.declared.Value.{Value}
 use Rattle.value.specs.declared.Value.the-variants.{Absent, Present}
 use Rattle.value.specs.Values.{signedOf, inRange, fit, isZero}
 
@@ -32,6 +32,10 @@ in-range z = (
   λ e. let l = leb-true (mag z) 2147483647 (sym (range z) ∙ e) in omega arith,
   λ l. range z ∙ le-leb (mag z) 2147483647 (omega arith),
 )
+
+-- such a number's word is one of 32 bits
+pub word-small : (z : ℤ) → inRange z ≡ true → ofZ w32 z < 2 ^ 32
+word-small z e = fits-lt-pow (fits-ofZ {w = w32} {z = z} (record { sfits = in-range z .0 e }))
 
 inside : (z : ℤ) → mag z ≤ 2147483647 → Present (ofZ w32 z) ≡ fit z
 inside z h = rw (range z, le-leb (mag z) 2147483647 h)
@@ -67,17 +71,17 @@ positive (pos n) h k =
 positive (negsuc n) h k = record { is = cc; small = omega arith; fits = cc }
 
 -- a divisor's test, as it is made on the bits
-pub zero-divisor : {y : ℤ} → SFits w32 y → ofZ w64 y ≡ 0 → (v : Value) → Absent ≡ cond (isZero y) Absent v
-zero-divisor {y = pos zero} f h v = refl
-zero-divisor {y = pos (suc n)} f h v = absurd (omega arith)
-zero-divisor {y = negsuc n} f h v = absurd (omega (arith, f .sfits))
-
-pub divisor : (y : ℤ) → (ofZ w64 y ≡ 0 → ⊥) → isZero y ≡ false
-divisor (pos zero) h = absurd (h refl)
-divisor (pos (suc n)) h = refl
-divisor (negsuc n) h = refl
-
 pub nonzero-bits : (y : ℤ) → SFits w64 y → isZero y ≡ false → 0 < ofZ w64 y
 nonzero-bits (pos zero) f h = absurd (not-both refl h)
 nonzero-bits (pos (suc n)) f h = omega arith
 nonzero-bits (negsuc n) f h = omega (arith, f .sfits)
+
+pub zero-bits : (y : ℤ) → SFits w64 y → ofZ w64 y ≡ 0 → isZero y ≡ true
+zero-bits (pos zero) f h = refl
+zero-bits (pos (suc n)) f h = absurd (omega arith)
+zero-bits (negsuc n) f h = absurd (omega (arith, f .sfits))
+
+pub nonzero : (y : ℤ) → (ofZ w64 y ≡ 0 → ⊥) → isZero y ≡ false
+nonzero (pos zero) h = absurd (h refl)
+nonzero (pos (suc n)) h = refl
+nonzero (negsuc n) h = refl

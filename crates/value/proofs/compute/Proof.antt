@@ -2,18 +2,16 @@
 -- Assumes nothing.
 use borrow.Author.Needs.{needs}
 use borrow.Author.Tests.{ne-eqb}
-use mathlib.Core.Bool.{false, cond}
-use mathlib.Core.Path.{_≡_, _∙_, ap}
+use mathlib.Core.Bool.{true, false}
+use mathlib.Core.Path.{_≡_, refl, _∙_, ap}
 use native.Mathlib.Nat.{pos-of-ne-zero}
 use lib.IntN.{ℤ, _+ℤ_, _-ℤ_, _*ℤ_}
 use lib.Signed.{quotZ}
 use mir.Syntax.{w64}
 use mir.Val.{SFits, toZ, ofZ}
-use mir.Facts.{toZ-ofZ, sfits-toZ}
-use Rattle.value.specs.declared.Value.{Value}
-use Rattle.value.specs.declared.Value.the-variants.{Absent}
+use mir.Facts.{toZ-ofZ}
 use Rattle.value.specs.Values.{signedOf, fit, isZero, floorRem}
-use Rattle.value.proofs.Words.{zero-divisor, divisor}
+use Rattle.value.proofs.Words.{zero-bits, nonzero}
 use Rattle.value.proofs.Bounds.{add-fits, sub-fits, mul-fits, quot-fits, word-in-range, word-fits, whole}
 use Rattle.value.proofs.Floored.{floor-fits}
 use Rattle.value.proofs.compute.Statement.{statement}
@@ -55,11 +53,11 @@ handed : (c : tie.After-number2) (op : ℤ → ℤ → ℤ) → Fits c op
 handed c op h = rw (first c, second c) (ap fit (toZ-ofZ h))
 
 -- the divisor's test
-by-zero : (c : tie.After-number2) → ofZ w64 (c .number2 .result) ≡ 0 → (v : Value) → Absent ≡ cond (isZero (signedOf (c .before .before .args .b))) Absent v
-by-zero c h = zero-divisor (sfits-toZ (c .before .before .fits .b)) (rw (c .number2 .ensures) at h)
+by-zero : (c : tie.After-number2) → ofZ w64 (c .number2 .result) ≡ 0 → isZero (signedOf (c .before .before .args .b)) ≡ true
+by-zero c h = let s = c .before .before in zero-bits (signedOf (s .args .b)) (word-fits (s .fits .b)) (rw (c .number2 .ensures) at h)
 
 by-other : (c : tie.After-number2) → (ofZ w64 (c .number2 .result) ≡ 0 → ⊥) → isZero (signedOf (c .before .before .args .b)) ≡ false
-by-other c h = divisor (signedOf (c .before .before .args .b)) (rw (c .number2 .ensures) at h)
+by-other c h = nonzero (signedOf (c .before .before .args .b)) (rw (c .number2 .ensures) at h)
 
 number-requires : tie.Need-number-requires
 number-requires c κs = search needs
@@ -109,7 +107,7 @@ returns-3 : tie.Need-returns-3
 returns-3 c = rw (c .before .match .keys3) (c .fitted3 .ensures ∙ handed (c .before .before) _*ℤ_ (product (c .before .before)))
 
 returns-4 : tie.Need-returns-4
-returns-4 c = rw (c .before .match .keys4) (by-zero (c .before .before) (c .if1 .taken) _)
+returns-4 c = rw (c .before .match .keys4, by-zero (c .before .before) (c .if1 .taken)) refl
 
 returns-5 : tie.Need-returns-5
 returns-5 c =
@@ -117,7 +115,7 @@ returns-5 c =
     rw (c .before .before .match .keys4, by-other n (c .before .if1 .left)) (c .fitted4 .ensures ∙ handed n quotZ (quotient n))
 
 returns-6 : tie.Need-returns-6
-returns-6 c = rw (c .before .match .keys5) (by-zero (c .before .before) (c .if2 .taken) _)
+returns-6 c = rw (c .before .match .keys5, by-zero (c .before .before) (c .if2 .taken)) refl
 
 returns-7 : tie.Need-returns-7
 returns-7 c =
