@@ -7,7 +7,7 @@ use mathlib.Core.Logic.{_⊎_, ⊎-elim}
 use mathlib.Core.List.{List}
 use native.Mathlib.Omega.{arith}
 use lib.Bits.{bitOr}
-use lib.Dec.{leb, eqb}
+use lib.Dec.{eqb}
 use lib.ListN.{length, set}
 use lib.Seq.{getD-set-same, getD-set-other}
 use borrow.Author.Count.{below-more}
@@ -15,10 +15,10 @@ use borrow.Author.Tests.{eqb-true}
 use Rattle.basis.proofs.KeySets.{has-plusIf, has-nothing, has-both, has-either}
 use Rattle.basis.proofs.Tests.{and-left, and-right, and-both, or-either, or-left, or-right, or-neither, is-false, not-both}
 use Rattle.table.specs.Tables.{Table, kindAt, pAt, qAt}
-use Rattle.table.specs.Nodes.{fitting, leftNode, rightNode, names}
-use Rattle.table.specs.Reach.{processNode, linkRoot, reaches, reachedFrom, wrongKey}
+use Rattle.table.specs.Nodes.{isKeyKind, fitting, leftNode, rightNode, names}
+use Rattle.table.specs.Reach.{processNode, linkRoot, reaches, reachedFrom, wrongHere, wrongKey}
 use Rattle.basis.specs.KeySets.{has, plusIf}
-use Rattle.table.specs.Marks.{namedBit, notProcessBit, notLinkBit, ownBits, isMarked, wordIf, risen, doubted, wrongHere, Looked}
+use Rattle.table.specs.Marks.{namedBit, notProcessBit, notLinkBit, ownBits, isMarked, wordIf, risen, doubted, Looked}
 use Rattle.table.specs.declared.Look.{Look}
 use Rattle.table.proofs.Operands.{left-lower, right-lower, names-lower, names-left, names-right}
 use Rattle.table.proofs.Reaches.{ByLeft, ByRight, reaches-how, reached-which}
@@ -120,7 +120,7 @@ pub none-wrong : (t : Table) (k : ℕ) → (reachedFrom t (processNode t) k ≡ 
     → (reachedFrom t (linkRoot t) k ≡ true → wrongHere (kindAt t k) (qAt t k) false true ≡ false) → wrongKey t k ≡ false
 unfolding wrongKey
 none-wrong t k f g =
-    wrong-test (leb 33 (kindAt t k) && leb (kindAt t k) 35) (not (eqb (qAt t k) 0)) (eqb (kindAt t k) 35 || eqb (qAt t k) 0)
+    wrong-test (isKeyKind (kindAt t k)) (not (eqb (qAt t k) 0)) (eqb (kindAt t k) 35 || eqb (qAt t k) 0)
     (reachedFrom t (processNode t) k) (reachedFrom t (linkRoot t) k) f g
 
 -- BOTH BITS, of a process and of a link. 96 has these two

@@ -15,8 +15,8 @@ use Rattle.basis.proofs.Numbers.{some-not, lowest-none}
 use Rattle.basis.proofs.Tests.{same-test, and-left, and-right, and-both, or-either, or-left, or-right, same-or-other}
 use Rattle.table.specs.Tables.{Table, kindAt, pAt, qAt}
 use Rattle.table.specs.Nodes.{fitting, leftNode, rightNode, names}
-use Rattle.table.specs.Reach.{processNode, linkRoot, reachedFrom, wrongKey}
-use Rattle.table.specs.Marks.{leftBit, rightBit, processBit, linkBit, isMarked, marking, TwoMarks, Shows, Shown, Handed, Above, wrongHere}
+use Rattle.table.specs.Reach.{processNode, linkRoot, reachedFrom, wrongHere, wrongKey}
+use Rattle.table.specs.Marks.{leftBit, rightBit, processBit, linkBit, isMarked, marking, TwoMarks, Shows, Shown, Handed, Above}
 use Rattle.table.proofs.Operands.{names-lower}
 use Rattle.table.proofs.Reaches.{reached-start, reached-named, reached-how}
 use Rattle.table.proofs.Marking.{twice-is}

@@ -1,19 +1,17 @@
 -- Bits in lent words, a word for each node, as refusals 4 and 5 use them. And what is found of a node.
 use Prim.Native.Nat.{ℕ, _+_, _<_, _≤_}
 use mathlib.Core.Path.{_≡_}
-use mathlib.Core.Bool.{Bool, true, false, cond, not, _&&_, _||_}
+use mathlib.Core.Bool.{Bool, true, false, cond, _&&_, _||_}
 use mathlib.Core.List.{List}
 use lib.Bits.{bitAnd, bitOr}
-use lib.Dec.{leb, eqb}
 use lib.ListN.{length, getD, set}
 use Rattle.basis.specs.KeySets.{has, plus, plusIf}
-use Rattle.basis.specs.Kinds as kind
 use Rattle.basis.specs.Numbers.{lowest}
 use Rattle.table.specs.declared.Look.{Look}
 use Rattle.table.specs.declared.Scan.{Scan}
 use Rattle.table.specs.Tables.{Table, pAt, qAt}
 use Rattle.table.specs.Nodes.{fitting, leftNode, rightNode, names, badNode}
-use Rattle.table.specs.Reach.{processNode, linkRoot, reachedFrom, wrongKey}
+use Rattle.table.specs.Reach.{processNode, linkRoot, reachedFrom, wrongHere, wrongKey}
 use Rattle.table.specs.Sound.{Shaped}
 
 -- the bits of a node's word: another node names it; its p, its q is a node; a process, a link reaches it; it reaches a
@@ -45,13 +43,6 @@ firstWord left right process link = plusIf (plusIf (plusIf (plusIf 0 leftBit lef
 
 abbrev pub isMarked : List ℕ → ℕ → ℕ → Bool
 isMarked words bit x = has (getD words x 0) bit
-
--- a node of this kind and party is wrong, by what reaches it
-abbrev pub wrongHere : ℕ → ℕ → Bool → Bool → Bool
-wrongHere k party process link =
-    (leb kind.attribute k && leb k kind.environment)
-    && ((process && not (eqb party 0))
-    || (link && (eqb k kind.environment || eqb party 0)))
 
 -- the bits that a node of this kind and party has by itself: of keys alone
 abbrev pub ownBits : ℕ → ℕ → ℕ

@@ -77,6 +77,10 @@ isGuard k = leb kind.true k && leb k kind.or
 abbrev pub isExpression : ℕ → Bool
 isExpression k = leb kind.constant k && leb k kind.remainder
 
+-- among them those of attribute, stigmergy and environment keys
+abbrev pub isKeyKind : ℕ → Bool
+isKeyKind k = leb kind.attribute k && leb k kind.environment
+
 -- a field that names a node
 abbrev pub isNode : Field → Bool
 isNode Never = false

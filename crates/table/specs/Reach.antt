@@ -6,18 +6,19 @@ use Rattle.basis.specs.Numbers.{someBelow}
 use Rattle.basis.specs.Below.{below}
 use Rattle.basis.specs.Kinds as kind
 use Rattle.table.specs.Tables.{Table, kindAt, pAt, qAt, firstLinkRoot, firstAgentRoot}
-use Rattle.table.specs.Nodes.{isProcess, leftNode, rightNode}
+use Rattle.table.specs.Nodes.{isProcess, isKeyKind, leftNode, rightNode}
+
+-- a key whose party is not 0 where a process node reaches it, or is 0 where a link does; an environment key that a link reaches
+abbrev pub wrongHere : ℕ → ℕ → Bool → Bool → Bool
+wrongHere k party process link = isKeyKind k && ((process && not (eqb party 0)) || (link && (eqb k kind.environment || eqb party 0)))
 
 module _ (t : Table) where
-  -- process nodes, rooted or not; roots of links; attribute, stigmergy and environment keys
+  -- process nodes, rooted or not; roots of links
   abbrev pub processNode : ℕ → Bool
   processNode n = isProcess (kindAt t n)
 
   abbrev pub linkRoot : ℕ → Bool
   linkRoot n = leb (firstLinkRoot t) n && ltb n (firstAgentRoot t)
-
-  abbrev pub keyNode : ℕ → Bool
-  keyNode n = leb kind.attribute (kindAt t n) && leb (kindAt t n) kind.environment
 
   -- node n reaches itself, and what the nodes reach that it names
   unfoldable pub reachStep : (ℕ → ℕ → Bool) → ℕ → ℕ → Bool
@@ -30,9 +31,5 @@ module _ (t : Table) where
   unfoldable pub reachedFrom : (ℕ → Bool) → ℕ → Bool
   reachedFrom start m = someBelow (λ (n : ℕ). start n && reaches n m) (t .sizes .nodes)
 
-  -- a key whose party is not 0 where a process node reaches it, or is 0 where a link does; an environment key that a link reaches
   unfoldable pub wrongKey : ℕ → Bool
-  wrongKey n =
-      keyNode n
-      && ((reachedFrom processNode n && not (eqb (qAt t n) 0))
-      || (reachedFrom linkRoot n && (eqb (kindAt t n) kind.environment || eqb (qAt t n) 0)))
+  wrongKey n = wrongHere (kindAt t n) (qAt t n) (reachedFrom processNode n) (reachedFrom linkRoot n)

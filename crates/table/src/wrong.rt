@@ -1,18 +1,16 @@
 // Refusal 5, where it is in doubt: the nodes in descending order, which hand on to those that they name what reaches
 // them.
 ghost use mathlib.Core.Path.{_≡_};
-ghost use mathlib.Core.Bool.{false, cond, _&&_};
+ghost use mathlib.Core.Bool.{false, cond};
 ghost use mathlib.Core.List.{List};
 ghost use Prim.Native.Nat.{ℕ, _<_, _≤_};
-ghost use lib.Dec.{leb};
 ghost use lib.ListN.{length};
-ghost use Rattle.basis.specs.Kinds as keys;
 ghost use Rattle.basis.specs.Numbers.{lowest};
 ghost use Rattle.table.specs.Tables.{table};
-ghost use Rattle.table.specs.Nodes.{badNode};
-ghost use Rattle.table.specs.Reach.{wrongKey};
+ghost use Rattle.table.specs.Nodes.{isKeyKind, badNode};
+ghost use Rattle.table.specs.Reach.{wrongHere, wrongKey};
 ghost use Rattle.table.specs.Sound.{Limits, Shaped};
-ghost use Rattle.table.specs.Marks.{Shown, wrongHere, Descends, Visit};
+ghost use Rattle.table.specs.Marks.{Shown, Descends, Visit};
 use super::Sizes;
 use super::kinds::fields_here;
 use super::marks::LEFT;
@@ -28,7 +26,7 @@ use basis::has;
 
 // Whether a kind is that of a key.
 pub fn is_key(kind: u8) -> bool
-    ensures { λ r. ⌜ r ≡ (leb keys.attribute kind && leb kind keys.environment) ⌝ }
+    ensures { λ r. ⌜ r ≡ isKeyKind kind ⌝ }
 {
     (basis::kinds::ATTRIBUTE <= kind) & (kind <= basis::kinds::ENVIRONMENT)
 }
