@@ -29,14 +29,21 @@ fn store_of(kind: u8, agent: usize) -> Store
     Store::Environment
 }
 
-// An entry takes the next stamp, which becomes the clock, and its key waits to be propagated.
+// An agent's entry takes the next stamp, which becomes the clock; its writer is the agent; and its key waits to be
+// propagated.
 fn write_entry(state: &mut [u32], agent: usize, key: usize, value: u32)
     requires { ⌜ Entering (now state) agent key ⌝ }
     ensures { λ _. ⌜ now (state .exit) ≡ entered (now (state .entry)) agent key value ⌝ }
 {
     let at = zp_at(agent);
     let stamp = clock_of(state) + 1;
-    put_entry(state, agent, key, Entry { value, stamp });
+    let writer = agent as u32;
+    let entry = Entry {
+        value,
+        stamp,
+        writer,
+    };
+    put_entry(state, agent, key, entry);
     add_key(state, at, key);
     set_clock(state, stamp);
 }

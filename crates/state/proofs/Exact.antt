@@ -18,17 +18,18 @@ use Rattle.table.specs.Tables.{Table}
 use Rattle.term.specs.Terms.{Term, words}
 use Rattle.state.specs.declared.Store.{Store}
 use Rattle.state.specs.declared.Store.the-variants.{Environment, Attributes, Entries}
-use Rattle.state.specs.Layout.{stateWords, keyLimit, markOf, wordOf, stampOf, termIn, valueIn}
+use Rattle.state.specs.Layout.{stateWords, keyLimit, markOf, wordOf, stampOf, writerOf, termIn, valueIn}
 use Rattle.state.specs.Entries.{clockOf}
-use Rattle.state.proofs.Places.{Place, KeySet, Clock, Agents, Mark, Word, Waits, Length, Residual, placeAt, Inside, placeKind, placeAgent, place-past, placed}
+use Rattle.state.proofs.Places.{Place, KeySet, Clock, Agents, Mark, Word, Writer, Waits, Length, Residual, placeAt, Inside, placeKind, placeAgent, place-past, placed}
 use Rattle.state.proofs.Frames.{wordAt, SameAt}
 use Rattle.state.proofs.Formed.{PairFormed, WellFormed, There, highestIn, keysIn}
 
--- what two states show of a table's fleet is the same: clock, values, stamps, pending keys, residual terms
+-- what two states show of a table's fleet is the same: clock, values, stamps, writers of entries, pending keys, residual terms
 pub record ShowSame (t : Table) (s u : List ℕ) : Type 0 where
   pub clock : clockOf s ≡ clockOf u
   pub values : (store : Store) → There t store → (k : ℕ) → k < keyLimit → valueIn s store k ≡ valueIn u store k
   pub stamps : (a : ℕ) → a < t .sizes .agents → (k : ℕ) → k < keyLimit → stampOf s a k ≡ stampOf u a k
+  pub writers : (a : ℕ) → a < t .sizes .agents → (k : ℕ) → k < keyLimit → 0 < stampOf s a k → writerOf s a k ≡ writerOf u a k
   pub sets : (z : KeySet) (a : ℕ) → a < t .sizes .agents → (k : ℕ) → k < keyLimit → has (wordAt s (Waits z a)) k ≡ has (wordAt u (Waits z a)) k
   pub terms : (a : ℕ) → a < t .sizes .agents → termIn s a ≡ termIn u a
 
@@ -65,6 +66,13 @@ module _ (t : Table) (s u : List ℕ) (w : WellFormed t s) (x : WellFormed t u) 
   marks (Attributes a) h k l = let p = pair (Attributes a) h k l in same-flag _ _ (here (Attributes a) h k l .bound) (other (Attributes a) h k l .bound) (p .1) (p .2)
   marks (Entries a) h k l = same .stamps a h k l
 
+  -- the writers of entries are the same, and the others are 0
+  writer : (a : ℕ) → a < t .sizes .agents → (k : ℕ) → k < keyLimit → writerOf s a k ≡ writerOf u a k
+  writer a l k h =
+      ⊎-elim (same .writers a l k h)
+      (λ (z : stampOf s a k ≤ 0). w .formed .writers a l k h .none (omega arith) ∙ sym (x .formed .writers a l k h .none (omega (arith, same .stamps a l k h))))
+      (lt-or-le 0 (stampOf s a k))
+
   -- an agent's place: the blocks past the last agent's are not used
   owned : (p : Place) → 0 < placeKind p → (placeAgent p < t .sizes .agents → SameAt s u p) → SameAt s u p
   owned p k h =
@@ -80,6 +88,7 @@ module _ (t : Table) (s u : List ℕ) (w : WellFormed t s) (x : WellFormed t u) 
   at (Word Environment k) h = pair Environment tt k h .0
   at (Word (Attributes a) k) h = owned (Word (Attributes a) k) (omega arith) (λ l. pair (Attributes a) l k h .0)
   at (Word (Entries a) k) h = owned (Word (Entries a) k) (omega arith) (λ l. pair (Entries a) l k h .0)
+  at (Writer a k) h = owned (Writer a k) (omega arith) (λ l. writer a l k h)
   at (Waits z a) h =
       owned (Waits z a) (omega arith) (λ l.
       same-keys keyLimit (wordAt s (Waits z a)) (wordAt u (Waits z a)) (w .formed .sets z a l .narrow) (x .formed .sets z a l .narrow) (same .sets z a l))

@@ -21,9 +21,9 @@ use Rattle.term.specs.Accepted.{Over}
 use Rattle.term.proofs.Words.{over-low, over-whole, whole-read}
 use Rattle.state.specs.declared.Store.{Store}
 use Rattle.state.specs.declared.Store.the-variants.{Environment, Attributes, Entries}
-use Rattle.state.specs.Layout.{stateWords, agentsAt, blockAt, keyLimit, residualWords, markOf, wordOf, stampOf, zcOf, zpOf, lengthOf, residualOf, termIn}
-use Rattle.state.specs.Entries.{clockOf}
-use Rattle.state.specs.WellFormed.{allZero, pairFormed, pendingFormed, residualFormed, agentFormed, wellFormed, Proper, Words}
+use Rattle.state.specs.Layout.{stateWords, agentsAt, blockAt, keyLimit, residualWords, markOf, wordOf, stampOf, writerOf, zcOf, zpOf, lengthOf, residualOf, termIn}
+use Rattle.state.specs.Entries.{entryOf, clockOf}
+use Rattle.state.specs.WellFormed.{allZero, writerFormed, pairFormed, pendingFormed, entryFormed, residualFormed, agentFormed, wellFormed, Proper, Words}
 use Rattle.state.proofs.Places.{KeySet, Zc, Zp, Waits, Residual}
 use Rattle.state.specs.Standing.{HasBlocks}
 use Rattle.state.proofs.Frames.{wordAt}
@@ -34,6 +34,11 @@ pub record PairFormed (s : List ℕ) (store : Store) (highest keys k : ℕ) : Ty
   pub bound : markOf s store k ≤ highest
   pub absent : markOf s store k ≡ 0 → wordOf s store k ≡ 0
   pub unused : keys ≤ k → markOf s store k ≡ 0
+
+-- the writer of agent a's entry for k is one of so many agents; where there is no entry, it is 0
+pub record WriterFormed (s : List ℕ) (agents a k : ℕ) : Type 0 where
+  pub none : stampOf s a k ≡ 0 → writerOf s a k ≡ 0
+  pub agent : 0 < stampOf s a k → writerOf s a k < agents
 
 -- the set w of agent a: no key from the limit on, and every key has an entry
 pub record SetFormed (s : List ℕ) (a w : ℕ) : Type 0 where
@@ -67,6 +72,7 @@ keysIn t (Entries a) = t .sizes .stigmergy
 pub record Formed (t : Table) (c : ℕ) (s : List ℕ) : Type 0 where
   pub agents : getD s agentsAt 0 ≡ t .sizes .agents
   pub pairs : (store : Store) → There t store → (k : ℕ) → k < keyLimit → PairFormed s store (highestIn c store) (keysIn t store) k
+  pub writers : (a : ℕ) → a < t .sizes .agents → (k : ℕ) → k < keyLimit → WriterFormed s (t .sizes .agents) a k
   pub sets : (z : KeySet) (a : ℕ) → a < t .sizes .agents → SetFormed s a (wordAt s (Waits z a))
   pub residuals : (a : ℕ) → a < t .sizes .agents → ResidualFormed t s a
   pub unused : (i : ℕ) → blockAt (t .sizes .agents) ≤ i → getD s i 0 ≡ 0
@@ -102,6 +108,25 @@ module _ (t : Table) (s : List ℕ) (store : Store) (highest keys k : ℕ) where
       by : (z : Bool) → eqb (markOf s store k) 0 ≡ z → cond z (eqb (wordOf s store k) 0) (ltb k keys) ≡ true
       by true f = eq-eqb (wordOf s store k) 0 (p .absent (eqb-true (markOf s store k) 0 f))
       by false f = ⊎-elim (λ (l : k < keys). lt-ltb k keys l) (λ (l : keys ≤ k). absurd (eqb-false (markOf s store k) 0 f (p .unused l))) (lt-or-le k keys)
+
+-- WRITERS
+module _ (s : List ℕ) (agents a k : ℕ) where
+  writer-read : writerFormed agents (entryOf s a k) ≡ true → WriterFormed s agents a k
+  unfolding writerFormed
+  writer-read e = by (eqb (stampOf s a k) 0) refl e
+    where
+      by : (z : Bool) → eqb (stampOf s a k) 0 ≡ z → cond z (eqb (writerOf s a k) 0) (ltb (writerOf s a k) agents) ≡ true → WriterFormed s agents a k
+      by true f g = record { none = λ h. eqb-true (writerOf s a k) 0 g; agent = λ l. absurd (omega (arith, eqb-true (stampOf s a k) 0 f)) }
+      by false f g = record { none = λ h. absurd (eqb-false (stampOf s a k) 0 f h); agent = λ l. ltb-true (writerOf s a k) agents g }
+
+  writer-test : WriterFormed s agents a k → writerFormed agents (entryOf s a k) ≡ true
+  unfolding writerFormed
+  writer-test w = by (eqb (stampOf s a k) 0) refl
+    where
+      by : (z : Bool) → eqb (stampOf s a k) 0 ≡ z → cond z (eqb (writerOf s a k) 0) (ltb (writerOf s a k) agents) ≡ true
+      by true f = eq-eqb (writerOf s a k) 0 (w .none (eqb-true (stampOf s a k) 0 f))
+      by false f = ⊎-elim (λ (l : 0 < stampOf s a k). lt-ltb (writerOf s a k) agents (w .agent l))
+          (λ (l : stampOf s a k ≤ 0). absurd (eqb-false (stampOf s a k) 0 f (omega arith))) (lt-or-le 0 (stampOf s a k))
 
 -- SETS
 module _ (t : Table) (s : List ℕ) (a : ℕ) where
@@ -179,7 +204,7 @@ module _ (t : Table) (limits : Limits (t .sizes)) (s : List ℕ) (room : HasBloc
     entries : every (pairFormed s (Entries a) (clockOf s) (t .sizes .stigmergy)) keyLimit ≡ true
     toConfirm : zcOf s a < 2 ^ keyLimit
     toPropagate : zpOf s a < 2 ^ keyLimit
-    pending : every (pendingFormed s a) keyLimit ≡ true
+    each-entry : every (entryFormed s (t .sizes .agents) a) keyLimit ≡ true
     residual : residualFormed t s a ≡ true
 
   tested : (a : ℕ) → agentFormed t s a ≡ true → Tested a
@@ -194,9 +219,17 @@ module _ (t : Table) (limits : Limits (t .sizes)) (s : List ℕ) (room : HasBloc
         entries = and-left (every (pairFormed s (Entries a) (clockOf s) (t .sizes .stigmergy)) keyLimit) _ f;
         toConfirm = ltb-true (zcOf s a) (2 ^ keyLimit) (and-left (ltb (zcOf s a) (2 ^ keyLimit)) _ h);
         toPropagate = ltb-true (zpOf s a) (2 ^ keyLimit) (and-right (ltb (zcOf s a) (2 ^ keyLimit)) _ h);
-        pending = and-left (every (pendingFormed s a) keyLimit) _ i;
-        residual = and-right (every (pendingFormed s a) keyLimit) _ i;
+        each-entry = and-left (every (entryFormed s (t .sizes .agents) a) keyLimit) _ i;
+        residual = and-right (every (entryFormed s (t .sizes .agents) a) keyLimit) _ i;
       }
+
+  -- an entry's test: its writer's, and that of its key in the sets
+  entry-tested : (a k : ℕ) → entryFormed s (t .sizes .agents) a k ≡ true → (writerFormed (t .sizes .agents) (entryOf s a k) ≡ true) × (pendingFormed s a k ≡ true)
+  unfolding entryFormed
+  entry-tested a k e = (and-left (writerFormed (t .sizes .agents) (entryOf s a k)) _ e, and-right (writerFormed (t .sizes .agents) (entryOf s a k)) _ e)
+
+  entries-tested : (a : ℕ) → Tested a → (k : ℕ) → k < keyLimit → (writerFormed (t .sizes .agents) (entryOf s a k) ≡ true) × (pendingFormed s a k ≡ true)
+  entries-tested a b k l = entry-tested a k (every-at (entryFormed s (t .sizes .agents) a) keyLimit (b .each-entry) k l)
 
   pub well-formed-read : wellFormed t s ≡ true → WellFormed t s
   unfolding wellFormed
@@ -212,7 +245,8 @@ module _ (t : Table) (limits : Limits (t .sizes)) (s : List ℕ) (room : HasBloc
         formed = record {
           agents = eqb-true (getD s agentsAt 0) n (and-left (eqb (getD s agentsAt 0) n) _ e);
           pairs = pairs (and-left (every (pairFormed s Environment 1 (t .sizes .environment)) keyLimit) _ g) each;
-          sets = λ z a l. let b = each a l in sets-read t s a (b .toConfirm) (b .toPropagate) (every-at (pendingFormed s a) keyLimit (b .pending)) z;
+          writers = λ a l k h. writer-read s n a k (entries-tested a (each a l) k h .0);
+          sets = λ z a l. let b = each a l in sets-read t s a (b .toConfirm) (b .toPropagate) (λ k h. entries-tested a b k h .1) z;
           residuals = λ a l. residual-read t few s room a (omega arith) (each a l .residual);
           unused = λ i l. let j : i ≡ blockAt n + (i - blockAt n) = omega arith in
               ap (λ (m : ℕ). getD s m 0) j ∙ sym (getD-drop (blockAt n) s (i - blockAt n) 0) ∙ zeros (i - blockAt n);
@@ -230,13 +264,19 @@ module _ (t : Table) (limits : Limits (t .sizes)) (s : List ℕ) (room : HasBloc
     pairs-test store h = every-all (pairFormed s store (highestIn (clockOf s) store) (keysIn t store)) keyLimit
         (λ k l. pair-test t s store (highestIn (clockOf s) store) (keysIn t store) k (w .formed .pairs store h k l))
 
+    entry-test : (a : ℕ) → a < t .sizes .agents → (k : ℕ) → k < keyLimit → entryFormed s (t .sizes .agents) a k ≡ true
+    unfolding entryFormed
+    entry-test a l k h =
+        and-both (writerFormed (t .sizes .agents) (entryOf s a k)) (pendingFormed s a k) (writer-test s (t .sizes .agents) a k (w .formed .writers a l k h))
+        (sets-test t s a (λ z. w .formed .sets z a l) k h)
+
     agent-test : (a : ℕ) → a < t .sizes .agents → agentFormed t s a ≡ true
     unfolding agentFormed
     agent-test a l =
         and-both _ _ (pairs-test (Attributes a) l)
         (and-both _ _ (pairs-test (Entries a) l)
         (and-both _ _ (and-both _ _ (lt-ltb (zcOf s a) (2 ^ keyLimit) (w .formed .sets Zc a l .narrow)) (lt-ltb (zpOf s a) (2 ^ keyLimit) (w .formed .sets Zp a l .narrow)))
-        (and-both _ _ (every-all (pendingFormed s a) keyLimit (sets-test t s a (λ z. w .formed .sets z a l)))
+        (and-both _ _ (every-all (entryFormed s (t .sizes .agents) a) keyLimit (entry-test a l))
         (residual-test t few s room a (omega arith) (w .formed .residuals a l)))))
 
     pub well-formed-test : wellFormed t s ≡ true

@@ -17,10 +17,13 @@ use Rattle.basis.proofs.Tests.{not-both, lt-or-le, same-or-other}
 use Rattle.value.specs.declared.Value.the-variants.{Absent, Present}
 use Rattle.term.specs.Terms.{termOf}
 use Rattle.state.specs.declared.Store.{Store}
+use Rattle.state.specs.declared.Store.the-variants.{Entries}
+use Rattle.state.specs.declared.Entry.{Entry}
+use Rattle.state.specs.Entries.{entry, putEntry}
 use Rattle.state.specs.Standing.{HasBlocks}
 use Rattle.state.specs.WellFormed.{Words}
-use Rattle.state.specs.Layout.{keyLimit, residualWords, residualAt, markOf, wordOf, residualOf, termIn, valueIn, put, addKey, dropKey}
-use Rattle.state.proofs.Places.{Place, KeySet, Mark, Word, Waits, Length, Residual, placeAt, Inside, placeAgent, storeAgent, same, sameStore, same-self, same-not, settled, same-place, place-fits}
+use Rattle.state.specs.Layout.{keyLimit, residualWords, residualAt, writerAt, markOf, wordOf, stampOf, writerOf, residualOf, termIn, valueIn, put, addKey, dropKey}
+use Rattle.state.proofs.Places.{Place, KeySet, Mark, Word, Writer, Waits, Length, Residual, placeAt, Inside, placeAgent, storeAgent, same, sameStore, same-self, same-not, settled, same-place, place-fits}
 
 abbrev pub wordAt : List ℕ → Place → ℕ
 wordAt s p = getD s (placeAt p) 0
@@ -40,7 +43,7 @@ module _ (s : List ℕ) (p : Place) (v : ℕ) (inside : Inside p) where
   pub set-other : (q : Place) → Inside q → same q p ≡ false → SameAt (set s (placeAt p) v) s q
   set-other q h e = getD-set-other s (placeAt p) (placeAt q) v 0 (eqb-false (placeAt q) (placeAt p) (same-place q p h inside ∙ e))
 
-  -- a settled word, after a change of the clock or of a set of keys
+  -- a settled word, after a change of the clock, a writer or a set of keys
   pub set-settled : settled p ≡ false → (q : Place) → Inside q → settled q ≡ true → SameAt (set s (placeAt p) v) s q
   set-settled e q h f = set-other q h (same-not q p (λ i. not-both f (ap settled i ∙ e)))
 
@@ -81,9 +84,6 @@ module _ (store : Store) (k v m : ℕ) (s : List ℕ) where
       pub put-mark : markOf (put store k v m s) store k ≡ m
       put-mark = put-word (Mark store k) key ∙ rw (same-self (Mark store k))
 
-      pub put-value : wordOf (put store k v m s) store k ≡ v
-      put-value = put-word (Word store k) key ∙ rw (same-self (Word store k))
-
       -- the value that it then has, and those of all other keys
       pub put-valueIn : 0 < m → (other : Store) (j : ℕ) → valueIn (put store k v m s) other j ≡ cond (eqb j k && sameStore other store) (Present v) (valueIn s other j)
       unfolding valueIn
@@ -102,6 +102,39 @@ module _ (store : Store) (k v m : ℕ) (s : List ℕ) where
               let l = ltb-true j keyLimit e in
               rw (put-word (Mark other j) l, put-word (Word other j) l) (pick (eqb j k && sameStore other store))
           by false e = let l = ltb-false j keyLimit e in rw (ne-eqb j k (omega arith))
+
+-- AN ENTRY: its pair and its writer
+pub pick-entry : (b : Bool) (e f : Entry) → entry (cond b (e .value) (f .value)) (cond b (e .stamp) (f .stamp)) (cond b (e .writer) (f .writer)) ≡ cond b e f
+pick-entry true e f = refl
+pick-entry false e f = refl
+
+module _ (a k : ℕ) (e : Entry) (s : List ℕ) where
+  abbrev pair-put : List ℕ
+  pair-put = put (Entries a) k (e .value) (e .stamp) s
+
+  pub put-entry-length : length (putEntry a k e s) ≡ length s
+  put-entry-length = length-set pair-put (writerAt a k) (e .writer) ∙ put-length (Entries a) k (e .value) (e .stamp) s
+
+  module _ (key : k < keyLimit) where
+    pub put-entry-other : (q : Place) → Inside q → same q (Mark (Entries a) k) ≡ false → same q (Word (Entries a) k) ≡ false → same q (Writer a k) ≡ false
+        → SameAt (putEntry a k e s) s q
+    put-entry-other q h m w r = set-other pair-put (Writer a k) (e .writer) key q h r ∙ put-other (Entries a) k (e .value) (e .stamp) s key q h m w
+
+    module _ (room : HasBlocks s) (there : a < 32) where
+      pub put-entry-word : (q : Place) → Inside q → wordAt (putEntry a k e s) q
+          ≡ cond (same q (Writer a k)) (e .writer) (cond (same q (Mark (Entries a) k)) (e .stamp) (cond (same q (Word (Entries a) k)) (e .value) (wordAt s q)))
+      put-entry-word q h =
+          set-word pair-put (Writer a k) (e .writer) key (omega (arith, put-length (Entries a) k (e .value) (e .stamp) s, room)) there q h
+          ∙ ap (λ w. cond (same q (Writer a k)) (e .writer) w) (put-word (Entries a) k (e .value) (e .stamp) s key room there q h)
+
+      pub put-entry-stamp : stampOf (putEntry a k e s) a k ≡ e .stamp
+      put-entry-stamp = put-entry-word (Mark (Entries a) k) key ∙ rw (same-self (Mark (Entries a) k))
+
+      pub put-entry-value : wordOf (putEntry a k e s) (Entries a) k ≡ e .value
+      put-entry-value = put-entry-word (Word (Entries a) k) key ∙ rw (same-self (Word (Entries a) k))
+
+      pub put-entry-writer : writerOf (putEntry a k e s) a k ≡ e .writer
+      put-entry-writer = put-entry-word (Writer a k) key ∙ rw (same-self (Writer a k))
 
 -- A SET OF KEYS, Zc or Zp of agent a
 module _ (z : KeySet) (a k : ℕ) (s : List ℕ) where

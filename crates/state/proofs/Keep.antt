@@ -12,22 +12,26 @@ use lib.Seq.{getD-set-other}
 use borrow.Author.Tests.{eqb-true}
 use Rattle.basis.specs.KeySets.{has, plus, minus, plusAll}
 use Rattle.basis.proofs.KeySets.{has-plus, has-minus, has-plusAll, plus-small, minus-small, plusAll-small}
-use Rattle.basis.proofs.Tests.{and-right, or-either, cond-cases, either}
+use Rattle.basis.proofs.Tests.{and-right, or-either, lt-or-le, cond-cases, either}
 use Rattle.table.specs.Tables.{Table}
 use Rattle.table.specs.Sound.{Limits}
 use Rattle.state.specs.declared.Store.{Store}
 use Rattle.state.specs.declared.Store.the-variants.{Environment, Attributes, Entries}
 use Rattle.state.specs.Layout.{stateWords, blockAt, keyLimit, residualWords, clockAt, stampOf, termIn, put, addKey, dropKey}
-use Rattle.state.specs.Entries.{clockOf}
-use Rattle.state.proofs.Places.{settled, Place, KeySet, Clock, Agents, Mark, Word, Waits, Length, Residual, placeAt, Inside, placeAgent, storeAgent, same, same-one, place-bound}
+use Rattle.state.specs.declared.Entry.{Entry}
+use Rattle.state.specs.Entries.{putEntry, clockOf}
+use Rattle.state.proofs.Places.{settled, Place, KeySet, Clock, Agents, Mark, Word, Writer, Waits, Length, Residual, placeAt, Inside, placeAgent, placeIndex, storeAgent, same, same-one, place-bound}
 use Rattle.state.specs.Standing.{HasBlocks}
 use Rattle.state.specs.WellFormed.{Words}
 use Rattle.state.proofs.Frames.{wordAt, SameAt, set-small, set-other, set-here, set-settled, set-word, put-other, put-word, put-mark, put-length, put-small, term-same}
-use Rattle.state.proofs.Formed.{PairFormed, SetFormed, ResidualFormed, There, highestIn, keysIn, Formed, ProperFacts}
+use Rattle.state.proofs.Formed.{PairFormed, WriterFormed, SetFormed, ResidualFormed, There, highestIn, keysIn, Formed, ProperFacts}
 
 -- WHAT STAYS where the words stay
 pub pair-kept : (s u : List ℕ) (store : Store) (highest keys k : ℕ) → SameAt u s (Mark store k) → SameAt u s (Word store k) → PairFormed s store highest keys k → PairFormed u store highest keys k
 pair-kept s u store highest keys k e f p = record { bound = rw e (p .bound); absent = λ z. f ∙ p .absent (sym e ∙ z); unused = λ l. e ∙ p .unused l }
+
+pub writer-kept : (s u : List ℕ) (agents a k : ℕ) → SameAt u s (Mark (Entries a) k) → SameAt u s (Writer a k) → WriterFormed s agents a k → WriterFormed u agents a k
+writer-kept s u agents a k e f w = record { none = λ z. f ∙ w .none (sym e ∙ z); agent = λ l. rw f (w .agent (rw e at l)) }
 
 pub set-kept : (s u : List ℕ) (a w : ℕ) → ((k : ℕ) → k < keyLimit → 0 < stampOf s a k → 0 < stampOf u a k) → SetFormed s a w → SetFormed u a w
 set-kept s u a w h f = record { narrow = f .narrow; entered = λ k l e. h k l (f .entered k l e) }
@@ -69,7 +73,7 @@ module _ (t : Table) (limits : Limits (t .sizes)) where
   there-agent (Entries a) h = h
 
   formed-later : (c d : ℕ) (s : List ℕ) → c ≤ d → Formed t c s → Formed t d s
-  formed-later c d s l f = record { agents = f .agents; pairs = pairs; sets = f .sets; residuals = f .residuals; unused = f .unused }
+  formed-later c d s l f = record { agents = f .agents; pairs = pairs; writers = f .writers; sets = f .sets; residuals = f .residuals; unused = f .unused }
     where
       pairs : (store : Store) → There t store → (k : ℕ) → k < keyLimit → PairFormed s store (highestIn d store) (keysIn t store) k
       pairs Environment h k i = f .pairs Environment h k i
@@ -81,10 +85,11 @@ module _ (t : Table) (limits : Limits (t .sizes)) where
     still-unused : (u : List ℕ) (p : Place) (v : ℕ) → Inside p → placeAgent p < agents → ((i : ℕ) → blockAt agents ≤ i → getD u i 0 ≡ 0) → (i : ℕ) → blockAt agents ≤ i → getD (set u (placeAt p) v) i 0 ≡ 0
     still-unused u p v h l z i m = getD-set-other u (placeAt p) i v 0 (λ e. omega (arith, place-bound p agents h l)) ∙ z i m
 
-    -- A SET'S WORD, OR THE CLOCK
+    -- A SET'S WORD, A WRITER, OR THE CLOCK
     module _ (p : Place) (v : ℕ) (inside : Inside p) (there : placeAgent p < agents)
         (loose : settled p ≡ false)
-        (sets : (z : KeySet) (a : ℕ) → a < agents → SetFormed s a (wordAt (set s (placeAt p) v) (Waits z a))) where
+        (sets : (z : KeySet) (a : ℕ) → a < agents → SetFormed s a (wordAt (set s (placeAt p) v) (Waits z a)))
+        (writers : (a : ℕ) → a < agents → (k : ℕ) → k < keyLimit → WriterFormed (set s (placeAt p) v) agents a k) where
       abbrev changed : List ℕ
       changed = set s (placeAt p) v
 
@@ -95,22 +100,50 @@ module _ (t : Table) (limits : Limits (t .sizes)) where
       formed-set = record {
         agents = still Agents tt refl ∙ f .agents;
         pairs = λ store h k l. pair-kept s changed store (highestIn c store) (keysIn t store) k (still (Mark store k) l refl) (still (Word store k) l refl) (f .pairs store h k l);
+        writers = writers;
         sets = λ z a l. set-kept s changed a (wordAt changed (Waits z a)) (λ k h m. rw (still (Mark (Entries a) k) h refl) m) (sets z a l);
         residuals = λ a l. residual-kept t s changed a (length-set s (placeAt p) v) (still (Length a) tt refl) (λ i h. still (Residual a i) h refl) (f .residuals a l);
         unused = still-unused s p v inside there (f .unused);
       }
 
+    -- the writers, after a change of no mark and no writer
+    same-writers : (p : Place) (v : ℕ) → Inside p → ((a k : ℕ) → same (Mark (Entries a) k) p ≡ false) → ((a k : ℕ) → same (Writer a k) p ≡ false)
+        → (a : ℕ) → a < agents → (k : ℕ) → k < keyLimit → WriterFormed (set s (placeAt p) v) agents a k
+    same-writers p v inside m r a l k h =
+        writer-kept s (set s (placeAt p) v) agents a k (set-other s p v inside (Mark (Entries a) k) h (m a k)) (set-other s p v inside (Writer a k) h (r a k)) (f .writers a l k h)
+
     formed-clock : (v : ℕ) → Formed t c (set s clockAt v)
     formed-clock v = formed-set Clock v tt (omega arith) refl
         (λ z a l. rw (set-other s Clock v tt (Waits z a) tt refl) (f .sets z a l))
+        (same-writers Clock v tt (λ a k. refl) (λ a k. refl))
 
     formed-keys : (z : KeySet) (a w : ℕ) → a < agents → SetFormed s a w → Formed t c (set s (placeAt (Waits z a)) w)
-    formed-keys z a w there g = formed-set (Waits z a) w tt there refl sets
+    formed-keys z a w there g = formed-set (Waits z a) w tt there refl sets (same-writers (Waits z a) w tt (λ b k. refl) (λ b k. refl))
       where
         sets : (y : KeySet) (b : ℕ) → b < agents → SetFormed s b (wordAt (set s (placeAt (Waits z a)) w) (Waits y b))
         sets y b l = rw (set-word s (Waits z a) w tt room (omega arith) (Waits y b) tt)
             (cond-cases (SetFormed s b) (same (Waits y b) (Waits z a))
             (λ e. subst (λ (d : ℕ). SetFormed s d w) (sym (ap placeAgent (same-one (Waits y b) (Waits z a) e))) g) (λ e. f .sets y b l))
+
+    -- the writer of an entry
+    formed-writer : (a k w : ℕ) → a < agents → k < keyLimit → 0 < stampOf s a k → w < agents → Formed t c (set s (placeAt (Writer a k)) w)
+    formed-writer a k w there key pos below =
+        formed-set (Writer a k) w key there refl (λ z b l. rw (set-other s (Writer a k) w key (Waits z b) tt refl) (f .sets z b l)) writers
+      where
+        stays : (b j : ℕ) → j < keyLimit → stampOf (set s (placeAt (Writer a k)) w) b j ≡ stampOf s b j
+        stays b j h = set-other s (Writer a k) w key (Mark (Entries b) j) h refl
+
+        mine : WriterFormed (set s (placeAt (Writer a k)) w) agents a k
+        mine = record { none = λ z. absurd (omega (arith, stays a k key)); agent = λ i. rw (set-here s (Writer a k) w key room (omega arith)) below }
+
+        writers : (b : ℕ) → b < agents → (j : ℕ) → j < keyLimit → WriterFormed (set s (placeAt (Writer a k)) w) agents b j
+        writers b l j h =
+            ⊎-elim (λ e. let g = same-one (Writer b j) (Writer a k) e in
+            let d : b ≡ a = ap placeAgent g in
+            let i : j ≡ k = ap placeIndex g in
+            rw (d, i) mine)
+            (λ e. writer-kept s (set s (placeAt (Writer a k)) w) agents b j (stays b j h) (set-other s (Writer a k) w key (Writer b j) h e) (f .writers b l j h))
+            (either (same (Writer b j) (Writer a k)))
 
     -- A PAIR
     module _ (store : Store) (k v m : ℕ) (there : There t store) (key : k < keyLimit) (used : k < keysIn t store) (pos : 0 < m) (bound : m ≤ highestIn c store) where
@@ -138,11 +171,20 @@ module _ (t : Table) (limits : Limits (t .sizes)) where
       stamps a j l h = rw (put-word store k v m s key room few (Mark (Entries a) j) l)
           (cond-cases (λ (n : ℕ). 0 < n) (same (Mark (Entries a) j) (Mark store k)) (λ e. pos) (λ e. h))
 
+      -- writers stay; where there was no entry it is 0, which is an agent
+      writers : (a : ℕ) → a < agents → (j : ℕ) → j < keyLimit → WriterFormed with-pair agents a j
+      writers a below j l =
+          let w = f .writers a below j l in
+          let r : SameAt with-pair s (Writer a j) = put-other store k v m s key (Writer a j) l refl refl in
+          ⊎-elim (λ (p : 0 < stampOf s a j). record { none = λ z. absurd (omega (arith, stamps a j l p)); agent = λ i. rw r (w .agent p) })
+          (λ (p : stampOf s a j ≤ 0). let z = r ∙ w .none (omega arith) in record { none = λ e. z; agent = λ i. omega arith }) (lt-or-le 0 (stampOf s a j))
+
       formed-put : Formed t c (put store k v m s)
       unfolding put
       formed-put = record {
         agents = put-other store k v m s key Agents tt refl refl ∙ f .agents;
         pairs = pairs;
+        writers = writers;
         sets = λ z a l. rw (put-other store k v m s key (Waits z a) tt refl refl) (set-kept s with-pair a (wordAt s (Waits z a)) (stamps a) (f .sets z a l));
         residuals = λ a l. residual-kept t s with-pair a (put-length store k v m s) (put-other store k v m s key (Length a) tt refl refl) (λ i h. put-other store k v m s key (Residual a i) h refl refl) (f .residuals a l);
         unused = still-unused (set s (placeAt (Word store k)) v) (Mark store k) m key (there-agent store there) (still-unused s (Word store k) v key (there-agent store there) (f .unused));
@@ -168,24 +210,31 @@ module _ (t : Table) (limits : Limits (t .sizes)) (was : List ℕ) where
     pub kept-later : (d : ℕ) → c ≤ d → Kept t d n was s
     kept-later d l = record { whole = h .whole; small = h .small; clock = h .clock; formed = formed-later t limits c d s l (h .formed); stamps = h .stamps }
 
-    pub kept-clock : (v : ℕ) → v < 2 ^ 32 → Kept t c v was (set s clockAt v)
-    kept-clock v l = record {
-      whole = length-set s clockAt v ∙ h .whole;
-      small = set-small s clockAt v (h .small) l;
-      clock = set-here s Clock v tt (omega (arith, h .whole)) (omega arith);
-      formed = formed-clock t limits c s (omega (arith, h .whole)) (h .formed) v;
-      stamps = λ a k i m. rw (set-other s Clock v tt (Mark (Entries a) k) i refl) (h .stamps a k i m);
+    -- the clock, a set's word or a writer changes, and the clock then shows m
+    kept-set : (p : Place) (v m : ℕ) → Inside p → settled p ≡ false → v < 2 ^ 32 → clockOf (set s (placeAt p) v) ≡ m → Formed t c (set s (placeAt p) v)
+        → Kept t c m was (set s (placeAt p) v)
+    kept-set p v m inside loose low shows f = record {
+      whole = length-set s (placeAt p) v ∙ h .whole;
+      small = set-small s (placeAt p) v (h .small) low;
+      clock = shows;
+      formed = f;
+      stamps = λ a k i q. rw (set-settled s p v inside loose (Mark (Entries a) k) i refl) (h .stamps a k i q);
     }
+
+    pub kept-clock : (v : ℕ) → v < 2 ^ 32 → Kept t c v was (set s clockAt v)
+    kept-clock v l = kept-set Clock v v tt refl l (set-here s Clock v tt (omega (arith, h .whole)) (omega arith)) (formed-clock t limits c s (omega (arith, h .whole)) (h .formed) v)
 
     -- an agent's set gets a word of keys that have entries
     pub kept-keys : (z : KeySet) (a w : ℕ) → a < t .sizes .agents → SetFormed s a w → Kept t c n was (set s (placeAt (Waits z a)) w)
-    kept-keys z a w l f = record {
-      whole = length-set s (placeAt (Waits z a)) w ∙ h .whole;
-      small = set-small s (placeAt (Waits z a)) w (h .small) (omega (arith, f .narrow));
-      clock = set-other s (Waits z a) w tt Clock tt refl ∙ h .clock;
-      formed = formed-keys t limits c s (omega (arith, h .whole)) (h .formed) z a w l f;
-      stamps = λ b k i m. rw (set-other s (Waits z a) w tt (Mark (Entries b) k) i refl) (h .stamps b k i m);
-    }
+    kept-keys z a w l f =
+        kept-set (Waits z a) w n tt refl (omega (arith, f .narrow)) (set-other s (Waits z a) w tt Clock tt refl ∙ h .clock)
+        (formed-keys t limits c s (omega (arith, h .whole)) (h .formed) z a w l f)
+
+    -- an entry's writer becomes an agent
+    kept-writer : (a k w : ℕ) → a < t .sizes .agents → k < keyLimit → 0 < stampOf s a k → w < t .sizes .agents → Kept t c n was (set s (placeAt (Writer a k)) w)
+    kept-writer a k w there key pos below =
+        kept-set (Writer a k) w n key refl (omega arith) (set-other s (Writer a k) w key Clock tt refl ∙ h .clock)
+        (formed-writer t limits c s (omega (arith, h .whole)) (h .formed) a k w there key pos below)
 
     pub kept-add : (z : KeySet) (a k : ℕ) → a < t .sizes .agents → k < keyLimit → 0 < stampOf s a k → Kept t c n was (addKey (placeAt (Waits z a)) k s)
     unfolding addKey
@@ -204,3 +253,9 @@ module _ (t : Table) (limits : Limits (t .sizes)) (was : List ℕ) where
       formed = formed-put t limits c s (omega (arith, h .whole)) (h .formed) store k v m there key used pos bound;
       stamps = λ a j l i. stamps t limits c s (omega (arith, h .whole)) (h .formed) store k v m there key used pos bound a j l (h .stamps a j l i);
     }
+
+  pub kept-entry : (c n : ℕ) (s : List ℕ) → Kept t c n was s → (a k : ℕ) (e : Entry) → a < t .sizes .agents → k < keyLimit → k < t .sizes .stigmergy
+      → 0 < e .stamp → e .stamp ≤ c → e .value < 2 ^ 32 → e .stamp < 2 ^ 32 → e .writer < t .sizes .agents → Kept t c n was (putEntry a k e s)
+  kept-entry c n s h a k e there key used pos bound smallValue smallStamp below =
+      kept-writer c n (put (Entries a) k (e .value) (e .stamp) s) (kept-put c n s h (Entries a) k (e .value) (e .stamp) there key used pos bound smallValue smallStamp)
+      a k (e .writer) there key (rw (put-mark (Entries a) k (e .value) (e .stamp) s key (omega (arith, h .whole)) (omega arith)) pos) below

@@ -21,10 +21,11 @@ use Rattle.table.specs.Sound.{Limits}
 use Rattle.term.specs.Terms.{Node, words}
 use Rattle.term.specs.Accepted.{Over}
 use Rattle.state.specs.declared.Store.{Store}
-use Rattle.state.specs.Layout.{stateWords, agentsAt, blockAt, lengthAt, residualAt, residualWords, keyLimit, markOf, lengthOf, termIn, valueIn}
+use Rattle.state.specs.declared.Store.the-variants.{Entries}
+use Rattle.state.specs.Layout.{stateWords, agentsAt, blockAt, lengthAt, residualAt, residualWords, keyLimit, markOf, writerOf, lengthOf, termIn, valueIn}
 use Rattle.state.specs.Entries.{clockOf}
 use Rattle.state.specs.WellFormed.{started, loaded, Words}
-use Rattle.state.proofs.Places.{Place, KeySet, Clock, Agents, Mark, Word, Waits, Length, Residual, placeAt, Inside, placeAgent, same, other-agent, past-agent, placed}
+use Rattle.state.proofs.Places.{Place, KeySet, Clock, Agents, Mark, Word, Writer, Waits, Length, Residual, placeAt, Inside, placeAgent, same, other-agent, past-agent, placed}
 use Rattle.state.proofs.Frames.{wordAt, SameAt, set-small, set-other, set-here}
 use Rattle.state.proofs.Residuals.{term-read}
 use Rattle.state.proofs.Formed.{WellFormed, ProperFacts, residual-formed}
@@ -81,6 +82,9 @@ module _ (t : Table) where
   -- no value, no entry, no pending key
   pub loaded-mark : (store : Store) (k : ℕ) → k < keyLimit → markOf (loaded t) store k ≡ 0
   loaded-mark store k l = loaded-zero (Mark store k) l refl (λ a i. refl) (λ a i. refl)
+
+  pub loaded-writer : (a k : ℕ) → k < keyLimit → writerOf (loaded t) a k ≡ 0
+  loaded-writer a k l = loaded-zero (Writer a k) l refl (λ b i. refl) (λ b i. refl)
 
   pub loaded-value : (store : Store) (k : ℕ) → valueIn (loaded t) store k ≡ Absent
   unfolding valueIn
@@ -154,6 +158,7 @@ module _ (t : Table) where
                   absent = λ e. loaded-zero (Word store k) l refl (λ a i. refl) (λ a i. refl);
                   unused = λ e. m;
                 };
+            writers = λ a l k h. record { none = λ e. loaded-writer a k h; agent = λ i. absurd (omega (arith, loaded-mark (Entries a) k h)) };
             sets = λ z a l. rw (loaded-set z a)
                 (record { narrow = omega arith; entered = λ k h e. absurd (not-both e (has-nothing k)) });
             residuals = λ a l. residual-formed t (omega arith) (loaded t) (omega (arith, loaded-length)) a (omega arith) (Node (startAt t a)) (starts a l) (loaded-size (omega arith) a l) (omega arith) (loaded-word (omega arith) a l);

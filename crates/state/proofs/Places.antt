@@ -9,12 +9,12 @@ use mathlib.Core.List.{[], _∷_}
 use native.Mathlib.Omega.{arith}
 use lib.Dec.{eqb, ltb}
 use lib.ListN.{getD}
-use borrow.Author.Tests.{eqb-true, eq-eqb, lt-ltb, le-ltb}
-use Rattle.basis.proofs.Tests.{is-false, and-left, and-right, lt-or-le, same-test}
+use borrow.Author.Tests.{eqb-true, eq-eqb, ltb-true, ltb-false, lt-ltb, le-ltb}
+use Rattle.basis.proofs.Tests.{is-false, and-left, and-right, lt-or-le, cond-cases, same-test}
 use Rattle.state.specs.declared.Store.{Store}
 use Rattle.state.specs.declared.Store.the-variants.{Environment, Attributes, Entries}
 pub use Rattle.state.specs.Standing.{storeAgent}
-use Rattle.state.specs.Layout.{agentLimit, keyLimit, pairWords, entryWords, residualWords, blockWords, stateWords, clockAt, agentsAt, environmentAt, blocksAt, blockAt, entriesAt, zcAt, zpAt, lengthAt, residualAt, markAt, valueAt}
+use Rattle.state.specs.Layout.{agentLimit, keyLimit, pairWords, entryWords, residualWords, blockWords, stateWords, clockAt, agentsAt, environmentAt, blocksAt, blockAt, entriesAt, zcAt, zpAt, lengthAt, residualAt, markAt, valueAt, writerAt}
 
 -- an agent's sets of keys: Zc and Zp
 pub data KeySet : Type 0 where
@@ -23,6 +23,7 @@ pub data KeySet : Type 0 where
 pub data Place : Type 0 where
   Clock Agents : Place
   Mark Word : Store → ℕ → Place
+  Writer : ℕ → ℕ → Place
   Waits : KeySet → ℕ → Place
   Length : ℕ → Place
   Residual : ℕ → ℕ → Place
@@ -33,6 +34,7 @@ placeAt Clock = clockAt
 placeAt Agents = agentsAt
 placeAt (Mark store k) = markAt store k
 placeAt (Word store k) = valueAt store k
+placeAt (Writer a k) = writerAt a k
 placeAt (Waits Zc a) = zcAt a
 placeAt (Waits Zp a) = zpAt a
 placeAt (Length a) = lengthAt a
@@ -44,6 +46,7 @@ Inside Clock = Unit {0}
 Inside Agents = Unit {0}
 Inside (Mark store k) = k < keyLimit
 Inside (Word store k) = k < keyLimit
+Inside (Writer a k) = k < keyLimit
 Inside (Waits z a) = Unit {0}
 Inside (Length a) = Unit {0}
 Inside (Residual a i) = i < residualWords
@@ -59,6 +62,7 @@ placeKind Clock = 0
 placeKind Agents = 0
 placeKind (Mark store k) = storeKind store
 placeKind (Word store k) = storeKind store
+placeKind (Writer a k) = 2
 placeKind (Waits z a) = 1
 placeKind (Length a) = 1
 placeKind (Residual a i) = 1
@@ -68,6 +72,7 @@ placeAgent Clock = 0
 placeAgent Agents = 0
 placeAgent (Mark store k) = storeAgent store
 placeAgent (Word store k) = storeAgent store
+placeAgent (Writer a k) = a
 placeAgent (Waits z a) = a
 placeAgent (Length a) = a
 placeAgent (Residual a i) = a
@@ -78,26 +83,29 @@ placeSort Clock = 0
 placeSort Agents = 1
 placeSort (Mark store k) = 2
 placeSort (Word store k) = 3
-placeSort (Waits z a) = 4
-placeSort (Length a) = 5
-placeSort (Residual a i) = 6
+placeSort (Writer a k) = 4
+placeSort (Waits z a) = 5
+placeSort (Length a) = 6
+placeSort (Residual a i) = 7
 
 abbrev pub placeIndex : Place → ℕ
 placeIndex Clock = 0
 placeIndex Agents = 0
 placeIndex (Mark store k) = k
 placeIndex (Word store k) = k
+placeIndex (Writer a k) = k
 placeIndex (Waits Zc a) = 0
 placeIndex (Waits Zp a) = 1
 placeIndex (Length a) = 0
 placeIndex (Residual a i) = i
 
--- a word that is neither the clock nor a set of keys
+-- a word that is neither the clock, nor a writer, nor a set of keys
 abbrev pub settled : Place → Bool
 settled Clock = false
 settled Agents = true
 settled (Mark store k) = true
 settled (Word store k) = true
+settled (Writer a k) = false
 settled (Waits z a) = false
 settled (Length a) = true
 settled (Residual a i) = true
@@ -115,7 +123,7 @@ storeFrom kind a = getD (Environment ∷ Attributes a ∷ Entries a ∷ []) kind
 abbrev placeFrom : ℕ → ℕ → ℕ → ℕ → Place
 placeFrom sort i kind a =
     getD
-    (Clock ∷ Agents ∷ Mark (storeFrom kind a) i ∷ Word (storeFrom kind a) i ∷
+    (Clock ∷ Agents ∷ Mark (storeFrom kind a) i ∷ Word (storeFrom kind a) i ∷ Writer a i ∷
     Waits (getD (Zc ∷ Zp ∷ []) i Zc) a ∷ Length a ∷ Residual a i ∷ []) sort Clock
 
 store-made : (s : Store) → storeFrom (storeKind s) (storeAgent s) ≡ s
@@ -128,6 +136,7 @@ place-made Clock = refl
 place-made Agents = refl
 place-made (Mark store k) = ap (λ s. Mark s k) (store-made store)
 place-made (Word store k) = ap (λ s. Word s k) (store-made store)
+place-made (Writer a k) = refl
 place-made (Waits Zc a) = refl
 place-made (Waits Zp a) = refl
 place-made (Length a) = refl
@@ -156,19 +165,19 @@ other-agent p q d = same-not p q (λ e. d (ap placeAgent e))
 pub else-agent : (p q : Place) → 0 < placeKind q → (0 < placeKind p → placeAgent p ≡ placeAgent q → ⊥) → same p q ≡ false
 else-agent p q k d = same-not p q (λ e. d (rw e k) (ap placeAgent e))
 
--- THE PLACE OF A NUMBER. The words of a key stand in a row in its store; `late` is the second of them
+-- THE PLACE OF A NUMBER. The words of a key stand in a row in its store; `inKey store k j` is word j of key k
 abbrev keyWords : Store → ℕ
 keyWords Environment = pairWords
 keyWords (Attributes a) = pairWords
 keyWords (Entries a) = entryWords
 
-abbrev inPair : Store → ℕ → Bool → Place
-inPair Environment k late = cond late (Word Environment k) (Mark Environment k)
-inPair (Attributes a) k late = cond late (Word (Attributes a) k) (Mark (Attributes a) k)
-inPair (Entries a) k late = cond late (Mark (Entries a) k) (Word (Entries a) k)
+abbrev inKey : Store → ℕ → ℕ → Place
+inKey Environment k j = cond (ltb j 1) (Mark Environment k) (Word Environment k)
+inKey (Attributes a) k j = cond (ltb j 1) (Mark (Attributes a) k) (Word (Attributes a) k)
+inKey (Entries a) k j = cond (ltb j 1) (Word (Entries a) k) (cond (ltb j 2) (Mark (Entries a) k) (Writer a k))
 
 abbrev inStore : Store → ℕ → Place
-inStore store i = inPair store (i / keyWords store) (eqb (i % keyWords store) 1)
+inStore store i = inKey store (i / keyWords store) (i % keyWords store)
 
 -- where a thing begins in a block, from where it begins in the first
 abbrev inside : (ℕ → ℕ) → ℕ
@@ -196,8 +205,8 @@ divided Environment i k j l h = (omega arith, omega arith)
 divided (Attributes a) i k j l h = (omega arith, omega arith)
 divided (Entries a) i k j l h = (omega arith, omega arith)
 
-in-pair : (store : Store) (k j : ℕ) → j < keyWords store → inStore store (keyWords store * k + j) ≡ inPair store k (eqb j 1)
-in-pair store k j l = let d = divided store (keyWords store * k + j) k j l refl in rw (d .0, d .1)
+in-key : (store : Store) (k j : ℕ) → j < keyWords store → inStore store (keyWords store * k + j) ≡ inKey store k j
+in-key store k j l = let d = divided store (keyWords store * k + j) k j l refl in rw (d .0, d .1)
 
 in-environment : (i n : ℕ) → i < keyLimit * pairWords → n ≡ environmentAt + i → placeOf n ≡ inStore Environment i
 unfolding placeOf
@@ -226,12 +235,13 @@ pub place-of : (p : Place) → Inside p → placeOf (placeAt p) ≡ p
 unfolding placeOf
 place-of Clock h = refl
 place-of Agents h = refl
-place-of (Mark Environment k) h = in-environment (pairWords * k + 0) (placeAt (Mark Environment k)) (omega arith) (omega arith) ∙ in-pair Environment k 0 (omega arith)
-place-of (Mark (Attributes a) k) h = in-attributes a (pairWords * k + 0) (placeAt (Mark (Attributes a) k)) (omega arith) (omega arith) ∙ in-pair (Attributes a) k 0 (omega arith)
-place-of (Mark (Entries a) k) h = in-entries a (entryWords * k + 1) (placeAt (Mark (Entries a) k)) (omega arith) (omega arith) ∙ in-pair (Entries a) k 1 (omega arith)
-place-of (Word Environment k) h = in-environment (pairWords * k + 1) (placeAt (Word Environment k)) (omega arith) (omega arith) ∙ in-pair Environment k 1 (omega arith)
-place-of (Word (Attributes a) k) h = in-attributes a (pairWords * k + 1) (placeAt (Word (Attributes a) k)) (omega arith) (omega arith) ∙ in-pair (Attributes a) k 1 (omega arith)
-place-of (Word (Entries a) k) h = in-entries a (entryWords * k + 0) (placeAt (Word (Entries a) k)) (omega arith) (omega arith) ∙ in-pair (Entries a) k 0 (omega arith)
+place-of (Mark Environment k) h = in-environment (pairWords * k + 0) (placeAt (Mark Environment k)) (omega arith) (omega arith) ∙ in-key Environment k 0 (omega arith)
+place-of (Mark (Attributes a) k) h = in-attributes a (pairWords * k + 0) (placeAt (Mark (Attributes a) k)) (omega arith) (omega arith) ∙ in-key (Attributes a) k 0 (omega arith)
+place-of (Mark (Entries a) k) h = in-entries a (entryWords * k + 1) (placeAt (Mark (Entries a) k)) (omega arith) (omega arith) ∙ in-key (Entries a) k 1 (omega arith)
+place-of (Word Environment k) h = in-environment (pairWords * k + 1) (placeAt (Word Environment k)) (omega arith) (omega arith) ∙ in-key Environment k 1 (omega arith)
+place-of (Word (Attributes a) k) h = in-attributes a (pairWords * k + 1) (placeAt (Word (Attributes a) k)) (omega arith) (omega arith) ∙ in-key (Attributes a) k 1 (omega arith)
+place-of (Word (Entries a) k) h = in-entries a (entryWords * k + 0) (placeAt (Word (Entries a) k)) (omega arith) (omega arith) ∙ in-key (Entries a) k 0 (omega arith)
+place-of (Writer a k) h = in-entries a (entryWords * k + 2) (placeAt (Writer a k)) (omega arith) (omega arith) ∙ in-key (Entries a) k 2 (omega arith)
 place-of (Waits Zc a) h = in-block a (inside zcAt) (placeAt (Waits Zc a)) (omega arith) (omega arith)
 place-of (Waits Zp a) h = in-block a (inside zpAt) (placeAt (Waits Zp a)) (omega arith) (omega arith)
 place-of (Length a) h = in-block a (inside lengthAt) (placeAt (Length a)) (omega arith) (omega arith)
@@ -268,6 +278,7 @@ place-bound (Mark (Entries a) k) n h l = omega arith
 place-bound (Word Environment k) n h l = omega arith
 place-bound (Word (Attributes a) k) n h l = omega arith
 place-bound (Word (Entries a) k) n h l = omega arith
+place-bound (Writer a k) n h l = omega arith
 place-bound (Waits Zc a) n h l = omega arith
 place-bound (Waits Zp a) n h l = omega arith
 place-bound (Length a) n h l = omega arith
@@ -282,6 +293,7 @@ place-past (Mark (Entries a) k) n h l = omega arith
 place-past (Word Environment k) n h l = absurd (omega arith)
 place-past (Word (Attributes a) k) n h l = omega arith
 place-past (Word (Entries a) k) n h l = omega arith
+place-past (Writer a k) n h l = omega arith
 place-past (Waits Zc a) n h l = omega arith
 place-past (Waits Zp a) n h l = omega arith
 place-past (Length a) n h l = omega arith
@@ -302,32 +314,40 @@ pub record Placed (n : ℕ) : Type 0 where
   pub inside : Inside place
   pub at : placeAt place ≡ n
 
-placed-pair : (store : Store) (k n : ℕ) → k < keyLimit → (late : Bool) → n ≡ placeAt (inPair store k late) → Placed n
-placed-pair Environment k n l true e = record { place = Word Environment k; inside = l; at = sym e }
-placed-pair Environment k n l false e = record { place = Mark Environment k; inside = l; at = sym e }
-placed-pair (Attributes a) k n l true e = record { place = Word (Attributes a) k; inside = l; at = sym e }
-placed-pair (Attributes a) k n l false e = record { place = Mark (Attributes a) k; inside = l; at = sym e }
-placed-pair (Entries a) k n l true e = record { place = Mark (Entries a) k; inside = l; at = sym e }
-placed-pair (Entries a) k n l false e = record { place = Word (Entries a) k; inside = l; at = sym e }
+inside-key : (store : Store) (k j : ℕ) → k < keyLimit → Inside (inKey store k j)
+inside-key Environment k j l = cond-cases Inside (ltb j 1) (λ e. l) (λ e. l)
+inside-key (Attributes a) k j l = cond-cases Inside (ltb j 1) (λ e. l) (λ e. l)
+inside-key (Entries a) k j l = cond-cases Inside (ltb j 1) (λ e. l) (λ e. cond-cases Inside (ltb j 2) (λ f. l) (λ f. l))
 
--- word i of a store
-abbrev Found : Store → ℕ → Bool → Type 0
-Found store i late = (i / keyWords store < keyLimit) × (placeAt (inPair store 0 false) + i ≡ placeAt (inPair store (i / keyWords store) late))
+-- where word j of key k stands in its store
+two-words : (first second : Place) (at k j : ℕ) → j < pairWords → placeAt first ≡ at + pairWords * k → placeAt second ≡ at + pairWords * k + 1
+    → placeAt (cond (ltb j 1) first second) ≡ at + (pairWords * k + j)
+two-words first second at k j l p q =
+    cond-cases (λ (r : Place). placeAt r ≡ at + (pairWords * k + j)) (ltb j 1) (λ e. omega (arith, ltb-true j 1 e)) (λ e. omega (arith, ltb-false j 1 e))
 
-early : (store : Store) (i : ℕ) → i < keyWords store * keyLimit → i % keyWords store < 1 → Found store i false
-early Environment i l o = (omega arith, omega arith)
-early (Attributes a) i l o = (omega arith, omega arith)
-early (Entries a) i l o = (omega arith, omega arith)
+word-at : (store : Store) (k j : ℕ) → j < keyWords store → placeAt (inKey store k j) ≡ placeAt (inKey store 0 0) + (keyWords store * k + j)
+word-at Environment k j l = two-words (Mark Environment k) (Word Environment k) _ k j l (omega arith) (omega arith)
+word-at (Attributes a) k j l = two-words (Mark (Attributes a) k) (Word (Attributes a) k) _ k j l (omega arith) (omega arith)
+word-at (Entries a) k j l =
+    cond-cases (λ (p : Place). placeAt p ≡ placeAt (inKey (Entries a) 0 0) + (entryWords * k + j)) (ltb j 1) (λ e. omega (arith, ltb-true j 1 e))
+    (λ e. cond-cases (λ (p : Place). placeAt p ≡ placeAt (inKey (Entries a) 0 0) + (entryWords * k + j)) (ltb j 2)
+    (λ f. omega (arith, ltb-false j 1 e, ltb-true j 2 f)) (λ f. omega (arith, ltb-false j 2 f)))
 
-late : (store : Store) (i : ℕ) → i < keyWords store * keyLimit → 1 ≤ i % keyWords store → Found store i true
-late Environment i l o = (omega arith, omega arith)
-late (Attributes a) i l o = (omega arith, omega arith)
-late (Entries a) i l o = (omega arith, omega arith)
+-- word i of a store is a word of a key
+word-of-key : (store : Store) (i : ℕ) → i < keyWords store * keyLimit
+    → (i / keyWords store < keyLimit) × (i % keyWords store < keyWords store) × (keyWords store * (i / keyWords store) + i % keyWords store ≡ i)
+word-of-key Environment i l = (omega arith, omega arith, omega arith)
+word-of-key (Attributes a) i l = (omega arith, omega arith, omega arith)
+word-of-key (Entries a) i l = (omega arith, omega arith, omega arith)
 
-placed-store : (store : Store) (i n : ℕ) → i < keyWords store * keyLimit → n ≡ placeAt (inPair store 0 false) + i → Placed n
+placed-store : (store : Store) (i n : ℕ) → i < keyWords store * keyLimit → n ≡ placeAt (inKey store 0 0) + i → Placed n
 placed-store store i n l e =
-    ⊎-elim (λ o. let w = early store i l o in placed-pair store (i / keyWords store) n (w .0) false (e ∙ w .1))
-    (λ o. let w = late store i l o in placed-pair store (i / keyWords store) n (w .0) true (e ∙ w .1)) (lt-or-le (i % keyWords store) 1)
+    let p = word-of-key store i l in
+    record {
+      place = inStore store i;
+      inside = inside-key store (i / keyWords store) (i % keyWords store) (p .0);
+      at = word-at store (i / keyWords store) (i % keyWords store) (p .1) ∙ ap (λ (j : ℕ). placeAt (inKey store 0 0) + j) (p .2) ∙ sym e;
+    }
 
 placed-block : (a n : ℕ) → blockAt a ≤ n → n < blockAt (a + 1) → Placed n
 placed-block a n h l =

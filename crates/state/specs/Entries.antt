@@ -6,14 +6,14 @@ use lib.Dec.{ltb}
 use lib.ListN.{getD, set}
 use Rattle.state.specs.declared.Store.the-variants.{Entries}
 use Rattle.state.specs.declared.Entry.{Entry}
-use Rattle.state.specs.Layout.{clockAt, wordOf, stampOf, put}
+use Rattle.state.specs.Layout.{clockAt, writerAt, wordOf, stampOf, writerOf, put}
 
-abbrev pub entry : ℕ → ℕ → Entry
-entry v stamp = record { value = v; stamp = stamp }
+abbrev pub entry : ℕ → ℕ → ℕ → Entry
+entry v stamp writer = record { value = v; stamp = stamp; writer = writer }
 
 -- agent a's entry for key k; where there is none, its stamp is 0
 abbrev pub entryOf : List ℕ → ℕ → ℕ → Entry
-entryOf s a k = entry (wordOf s (Entries a) k) (stampOf s a k)
+entryOf s a k = entry (wordOf s (Entries a) k) (stampOf s a k) (writerOf s a k)
 
 -- the first is newer than the second; any entry is newer than none
 abbrev pub newer : Entry → Entry → Bool
@@ -21,7 +21,7 @@ newer e f = ltb (f .stamp) (e .stamp)
 
 -- agent a's entry for key k becomes e
 abbrev pub putEntry : ℕ → ℕ → Entry → List ℕ → List ℕ
-putEntry a k e s = put (Entries a) k (e .value) (e .stamp) s
+putEntry a k e s = set (put (Entries a) k (e .value) (e .stamp) s) (writerAt a k) (e .writer)
 
 -- THE CLOCK: the highest stamp so far. A write takes the next stamp; a clock at its limit has none
 abbrev pub clockLimit : ℕ

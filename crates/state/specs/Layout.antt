@@ -12,12 +12,13 @@ use Rattle.term.specs.Terms.{Term, termOf}
 use Rattle.state.specs.declared.Store.{Store}
 use Rattle.state.specs.declared.Store.the-variants.{Environment, Attributes, Entries}
 
--- HOW MANY. Words of a pair (environment and attributes), of an entry and of a residual
+-- HOW MANY. Words of a key of the environment or of the attributes, its pair of mark and value; of an entry, which has its writer beside them;
+-- and of a residual
 abbrev pub pairWords : ℕ
 pairWords = 2
 
 abbrev pub entryWords : ℕ
-entryWords = 2
+entryWords = 3
 
 abbrev pub residualWords : ℕ
 residualWords = 63
@@ -70,8 +71,8 @@ stateWords = blocksEnd
 abbrev pub isWhole : List ℕ → Bool
 isWhole s = eqb (length s) stateWords
 
--- the word of a pair that says whether there is a value, present or the stamp; and the word of the value.
--- Environment and attributes: (present, value); stigmergy entries: (value, stamp)
+-- the word that says whether there is a value, present or the stamp; the word of the value; and that of an entry's writer.
+-- Environment and attributes: (present, value); stigmergy entries: (value, stamp, writer)
 abbrev pub markAt : Store → ℕ → ℕ
 markAt Environment k = environmentAt + pairWords * k
 markAt (Attributes a) k = attributesAt a + pairWords * k
@@ -82,6 +83,9 @@ valueAt Environment k = environmentAt + pairWords * k + 1
 valueAt (Attributes a) k = attributesAt a + pairWords * k + 1
 valueAt (Entries a) k = entriesAt a + entryWords * k
 
+abbrev pub writerAt : ℕ → ℕ → ℕ
+writerAt a k = entriesAt a + entryWords * k + 2
+
 -- WHAT STANDS THERE
 abbrev pub markOf : List ℕ → Store → ℕ → ℕ
 markOf s store k = getD s (markAt store k) 0
@@ -91,6 +95,9 @@ wordOf s store k = getD s (valueAt store k) 0
 
 abbrev pub stampOf : List ℕ → ℕ → ℕ → ℕ
 stampOf s a k = markOf s (Entries a) k
+
+abbrev pub writerOf : List ℕ → ℕ → ℕ → ℕ
+writerOf s a k = getD s (writerAt a k) 0
 
 abbrev pub zcOf : List ℕ → ℕ → ℕ
 zcOf s a = getD s (zcAt a) 0
@@ -115,7 +122,7 @@ valueIn s store k =
     (cond (eqb (markOf s store k) 0) Absent (Present (wordOf s store k)))
     Absent
 
--- CHANGES. A pair gets a value and a mark; the set of keys at place i gets key k, or loses it
+-- CHANGES. A key of a store gets a value and a mark; the set of keys at place i gets key k, or loses it
 unfoldable pub put : Store → ℕ → ℕ → ℕ → List ℕ → List ℕ
 put store k v mark s = set (set s (valueAt store k) v) (markAt store k) mark
 

@@ -13,7 +13,7 @@ storeAgent Environment = 0
 storeAgent (Attributes a) = a
 storeAgent (Entries a) = a
 
--- a pair that a state has
+-- a key of a store that a state has
 pub record Pair (store : Store) (k : ℕ) : Type 0 where
   pub agent : storeAgent store < agentLimit
   pub key : k < keyLimit

@@ -11,12 +11,17 @@ use Rattle.table.specs.Tables.{Table, startAt}
 use Rattle.term.specs.Terms.{areTerms}
 use Rattle.state.specs.declared.Store.{Store}
 use Rattle.state.specs.declared.Store.the-variants.{Environment, Attributes, Entries}
-use Rattle.state.specs.Entries.{clockLimit, clockOf}
+use Rattle.state.specs.declared.Entry.{Entry}
+use Rattle.state.specs.Entries.{entryOf, clockLimit, clockOf}
 use Rattle.state.specs.Layout.{stateWords, agentsAt, blockAt, lengthAt, residualAt, residualWords, keyLimit, markOf, wordOf, stampOf, zcOf, zpOf, lengthOf, residualOf}
 
 unfoldable pub allZero : List ℕ → Bool
 allZero [] = true
 allZero (w ∷ ws) = eqb w 0 && allZero ws
+
+-- the writer of an entry is one of so many agents; where there is no entry, it is 0
+unfoldable pub writerFormed : ℕ → Entry → Bool
+writerFormed agents e = cond (eqb (e .stamp) 0) (eqb (e .writer) 0) (ltb (e .writer) agents)
 
 module _ (s : List ℕ) where
   -- pair k of a store of so many keys: no mark is over the highest, absent has value 0, a key that the table does not have is absent
@@ -28,6 +33,10 @@ module _ (s : List ℕ) where
   -- a pending key has an entry
   unfoldable pub pendingFormed : ℕ → ℕ → Bool
   pendingFormed a k = not (has (zcOf s a) k || has (zpOf s a) k) || ltb 0 (stampOf s a k)
+
+  -- agent a's entry for key k, where there are so many agents: its writer, and that it is there if the key is pending
+  unfoldable pub entryFormed : ℕ → ℕ → ℕ → Bool
+  entryFormed agents a k = writerFormed agents (entryOf s a k) && pendingFormed a k
 
 module _ (t : Table) (s : List ℕ) where
   -- the residual is one whole term, and 0 after it
@@ -41,7 +50,7 @@ module _ (t : Table) (s : List ℕ) where
       every (pairFormed s (Attributes a) 1 (t .sizes .attributes)) keyLimit
       && (every (pairFormed s (Entries a) (clockOf s) (t .sizes .stigmergy)) keyLimit
       && ((ltb (zcOf s a) (2 ^ keyLimit) && ltb (zpOf s a) (2 ^ keyLimit))
-      && (every (pendingFormed s a) keyLimit
+      && (every (entryFormed s (t .sizes .agents) a) keyLimit
       && residualFormed a)))
 
   -- A agrees with the table, the clock is at most 65,535, and the blocks past agent A - 1 are 0

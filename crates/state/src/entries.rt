@@ -4,6 +4,7 @@ use super::Store;
 use super::layout::CLOCK;
 use super::layout::mark_at;
 use super::layout::value_at;
+use super::layout::writer_at;
 use super::stores::put;
 ghost use mathlib.Core.Path.{_≡_};
 ghost use Prim.Native.Nat.{_<_};
@@ -20,7 +21,12 @@ pub fn entry_of(state: &[u32], agent: usize, key: usize) -> Entry
 {
     let value = state[value_at(Store::Entries(agent), key)];
     let stamp = state[mark_at(Store::Entries(agent), key)];
-    Entry { value, stamp }
+    let writer = state[writer_at(agent, key)];
+    Entry {
+        value,
+        stamp,
+        writer,
+    }
 }
 
 // Whether the first entry is newer than the second.
@@ -36,6 +42,8 @@ pub fn put_entry(state: &mut [u32], agent: usize, key: usize, entry: Entry)
     ensures { λ _. ⌜ now (state .exit) ≡ putEntry agent key entry (now (state .entry)) ⌝ }
 {
     put(state, Store::Entries(agent), key, entry.value, entry.stamp);
+    let at = writer_at(agent, key);
+    state[at] = entry.writer;
 }
 
 // The clock.

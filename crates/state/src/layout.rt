@@ -1,7 +1,8 @@
 // Where things stand in the state's words.
 ghost use Prim.Native.Nat.{_<_, _≤_};
 ghost use Rattle.table.specs.Tables.{agentLimit};
-ghost use Rattle.state.specs.Layout.{residualWords, blockAt, zcAt, zpAt, lengthAt, residualAt, markAt, valueAt};
+ghost use Rattle.state.specs.declared.Store.the-variants.{Entries};
+ghost use Rattle.state.specs.Layout.{residualWords, blockAt, zcAt, zpAt, lengthAt, residualAt, markAt, valueAt, writerAt};
 ghost use Rattle.state.specs.Standing.{Pair, Standing};
 use super::Store;
 use table::KEYS;
@@ -14,7 +15,7 @@ pub const AGENTS: usize = 1;
 // Words of a pair of the environment or of the attributes, of an entry, and of a residual.
 pub const PAIR_WORDS: usize = 2;
 
-pub const ENTRY_WORDS: usize = 2;
+pub const ENTRY_WORDS: usize = 3;
 
 pub const RESIDUAL_WORDS: usize = 63;
 
@@ -83,7 +84,7 @@ pub fn residual_at(agent: usize) -> usize
     block_at(agent) + RESIDUAL
 }
 
-// The word of a pair that says whether there is a value.
+// The word of a key that says whether there is a value.
 pub fn mark_at(store: Store, key: usize) -> usize
     requires { ⌜ Pair store key ⌝ }
     ensures { λ r. ⌜ Standing (markAt store key) 1 r ⌝ }
@@ -95,7 +96,7 @@ pub fn mark_at(store: Store, key: usize) -> usize
     }
 }
 
-// The word of a pair that holds the value.
+// The word of a key that holds the value.
 pub fn value_at(store: Store, key: usize) -> usize
     requires { ⌜ Pair store key ⌝ }
     ensures { λ r. ⌜ Standing (valueAt store key) 1 r ⌝ }
@@ -105,4 +106,12 @@ pub fn value_at(store: Store, key: usize) -> usize
         Store::Attributes(agent) => block_at(agent) + PAIR_WORDS * key + 1,
         Store::Entries(agent) => block_at(agent) + ENTRIES + ENTRY_WORDS * key,
     }
+}
+
+// The word of an entry that holds its writer.
+pub fn writer_at(agent: usize, key: usize) -> usize
+    requires { ⌜ Pair (Entries agent) key ⌝ }
+    ensures { λ r. ⌜ Standing (writerAt agent key) 1 r ⌝ }
+{
+    block_at(agent) + ENTRIES + ENTRY_WORDS * key + 2
 }

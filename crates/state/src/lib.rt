@@ -1,6 +1,6 @@
 // The state's words: where things stand, and how they are read and changed.
 mod layout; // layout.rt: where things stand
-mod stores; // stores.rt: values of keys, and changes of pairs and of sets of keys
+mod stores; // stores.rt: values of keys, and changes of them and of sets of keys
 mod entries; // entries.rt: entries of agents, and the clock
 
 pub use entries::clock_of;
@@ -25,15 +25,17 @@ pub use stores::drop_key;
 pub use stores::put;
 pub use stores::value_in;
 
-// A store of 16 pairs: the environment's, or an agent's attributes or stigmergy entries.
+// A store of 16 keys: the environment's, or an agent's attributes or stigmergy entries.
 pub enum Store {
     Environment,
     Attributes(usize),
     Entries(usize),
 }
 
-// An agent's entry for a stigmergy key: its value and its stamp, which is 0 where there is none.
+// An agent's entry for a stigmergy key: its value, its stamp, which is 0 where there is none, and the agent that wrote
+// it.
 pub struct Entry {
     pub value: u32,
     pub stamp: u32,
+    pub writer: u32,
 }

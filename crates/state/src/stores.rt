@@ -1,4 +1,4 @@
-// Values of keys in a store, and changes of a pair and of a set of keys.
+// Values of keys in a store, and changes of one and of a set of keys.
 ghost use mathlib.Core.Path.{_≡_};
 ghost use Prim.Native.Nat.{_<_};
 ghost use lib.ListN.{length};
@@ -28,7 +28,7 @@ pub fn value_in(state: &[u32], store: Store, key: usize) -> Value
     }
 }
 
-// A pair gets a value and a mark.
+// A key of a store gets a value and a mark.
 pub fn put(state: &mut [u32], store: Store, key: usize, value: u32, mark: u32)
     requires { ⌜ HasBlocks (now state) × Pair store key ⌝ }
     ensures { λ _. ⌜ now (state .exit) ≡ putIn store key value mark (now (state .entry)) ⌝ }

@@ -26,11 +26,12 @@ use Rattle.term.proofs.Members.{place-in}
 use Rattle.term.proofs.Inside.{Inside as InsideTable, derivation-inside}
 use Rattle.state.specs.declared.Store.{Store}
 use Rattle.state.specs.declared.Store.the-variants.{Environment, Attributes, Entries}
+use Rattle.state.specs.declared.Entry.{Entry}
 use Rattle.state.specs.Layout.{clockAt, zcAt, zpAt, keyLimit, residualWords, zcOf, zpOf, termIn, put, addKey}
-use Rattle.state.specs.Entries.{nextStamp}
+use Rattle.state.specs.Entries.{entry, putEntry, nextStamp}
 use Rattle.state.specs.Standing.{HasBlocks}
-use Rattle.state.proofs.Places.{Place, Zc, Zp, Clock, Mark, Word, Waits, Length, Residual, Inside, storeKind, same}
-use Rattle.state.proofs.Frames.{wordAt, SameAt, set-other, set-here, set-word, put-length, put-other, put-word, add-length, add-other, add-word}
+use Rattle.state.proofs.Places.{Place, Zc, Zp, Clock, Mark, Word, Writer, Waits, Length, Residual, Inside, storeKind, same}
+use Rattle.state.proofs.Frames.{wordAt, SameAt, set-other, set-here, set-word, put-length, put-other, put-entry-length, put-entry-other, put-entry-word, add-length, add-other, add-word}
 use Rattle.steps.specs.Acts.{entered, wordIn, choices, chosen, valueFor, toConfirm, storeOf, setKey, acted}
 use Rattle.steps.proofs.Leave.{leave-length, leave-other, leave-term}
 
@@ -99,8 +100,11 @@ module _ (t : Table) (was : List ℕ) (x : ℕ) where
     abbrev v : ℕ
     v = wordIn (valueFor t was x n)
 
+    abbrev written : Entry
+    written = entry v (nextStamp was) x
+
     abbrev put-in : List ℕ
-    put-in = put (Entries x) k v (nextStamp was) was
+    put-in = putEntry x k written was
 
     abbrev queued : List ℕ
     queued = addKey (zpAt x) k put-in
@@ -111,33 +115,35 @@ module _ (t : Table) (was : List ℕ) (x : ℕ) where
     set-entry e = rw e
 
     queued-length : length queued ≡ length was
-    queued-length = add-length Zp x k put-in ∙ put-length (Entries x) k v (nextStamp was) was
+    queued-length = add-length Zp x k put-in ∙ put-entry-length x k written was
 
     -- the word that is at q after a stigmergy write
     pub entry-word : HasBlocks was → x < 32 → kindAt t n ≡ 3 → pAt t n < keyLimit → (q : Place) → Inside q
         → wordAt (setKey t was x (Acting n)) q
         ≡ cond (same q Clock) (nextStamp was)
         (cond (same q (Waits Zp x)) (plus (zpOf was x) (pAt t n))
+        (cond (same q (Writer x (pAt t n))) x
         (cond (same q (Mark (Entries x) (pAt t n))) (nextStamp was)
-        (cond (same q (Word (Entries x) (pAt t n))) (wordIn (valueFor t was x n)) (wordAt was q))))
+        (cond (same q (Word (Entries x) (pAt t n))) (wordIn (valueFor t was x n)) (wordAt was q)))))
     entry-word room there e key q h =
         ap (λ (s : List ℕ). wordAt s q) (set-entry e)
         ∙ set-word queued Clock (nextStamp was) tt (omega (arith, queued-length, room)) (omega arith) q h
         ∙ ap (λ w. cond (same q Clock) (nextStamp was) w)
-        (add-word Zp x k put-in (omega (arith, put-length (Entries x) k v (nextStamp was) was, room)) there q h
+        (add-word Zp x k put-in (omega (arith, put-entry-length x k written was, room)) there q h
         ∙ ap₂ (λ a b. cond (same q (Waits Zp x)) (plus a k) b)
-        (put-other (Entries x) k v (nextStamp was) was key (Waits Zp x) tt refl refl)
-        (put-word (Entries x) k v (nextStamp was) was key room there q h))
+        (put-entry-other x k written was key (Waits Zp x) tt refl refl refl)
+        (put-entry-word x k written was key room there q h))
 
-    -- of other words, the clock and Zp change where it is a stigmergy key, and nothing else
+    -- of other words, the clock, Zp and the writer change where it is a stigmergy key, and nothing else
     pub set-key-other : pAt t n < keyLimit → (q : Place) → Inside q → same q Clock ≡ false → same q (Waits Zp x) ≡ false
-        → same q (Mark (storeOf t x n) (pAt t n)) ≡ false → same q (Word (storeOf t x n) (pAt t n)) ≡ false → SameAt (setKey t was x (Acting n)) was q
+        → same q (Mark (storeOf t x n) (pAt t n)) ≡ false → same q (Word (storeOf t x n) (pAt t n)) ≡ false → same q (Writer x (pAt t n)) ≡ false
+        → SameAt (setKey t was x (Acting n)) was q
     unfolding setKey
-    set-key-other key q h c z m w =
+    set-key-other key q h c z m w r =
         cond-cases (λ (u : List ℕ). SameAt u was q) (eqb (kindAt t n) 3)
         (λ e. let f = store-entry t x n (eqb-true (kindAt t n) 3 e) in
         set-other queued Clock (nextStamp was) tt q h c ∙ add-other Zp x k put-in q h z
-        ∙ put-other (Entries x) k v (nextStamp was) was key q h (subst (λ (s : Store). same q (Mark s k) ≡ false) f m) (subst (λ (s : Store). same q (Word s k) ≡ false) f w))
+        ∙ put-entry-other x k written was key q h (subst (λ (s : Store). same q (Mark s k) ≡ false) f m) (subst (λ (s : Store). same q (Word s k) ≡ false) f w) r)
         (λ e. put-other store k v 1 was key q h m w)
       where
         store : Store

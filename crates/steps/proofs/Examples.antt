@@ -9,6 +9,7 @@ use Rattle.table.specs.Checks.{firstOf, passes, numberOf}
 use Rattle.term.specs.Acceptance.{tableChecks}
 use Rattle.term.proofs.Acceptance.{passes-accepted}
 use Rattle.state.specs.Layout.{stateWords, isWhole, zcAt, zpAt}
+use Rattle.state.specs.Entries.{entry}
 use Rattle.state.specs.WellFormed.{wellFormed, loaded}
 use Rattle.steps.specs.Tallies.{noTally}
 use Rattle.steps.specs.Steps.{outcome, stepIn, stepOf}
@@ -34,11 +35,11 @@ unfolding computing leftBy
 all-given = (
   ap (λ (n : ℕ). n ∷ []) (loads (replicate stateWords 0) refl),
   (
-    steps (holding (zpAt 0) 9 3 5 3) 1 refl refl,
+    steps (holding (zpAt 0) (entry 9 3 1) (entry 5 3 0)) 1 refl refl,
     (
-      steps (holding (zpAt 0) 9 4 5 3) 1 refl refl,
+      steps (holding (zpAt 0) (entry 9 4 1) (entry 5 3 0)) 1 refl refl,
       (
-        steps (holding (zpAt 0) 5 3 0 0) 1 refl refl,
+        steps (holding (zpAt 0) (entry 5 3 0) (entry 0 0 0)) 1 refl refl,
         (
           refl,
           (
@@ -51,7 +52,7 @@ all-given = (
                   refl,
                   (
                     refl,
-                    (steps (holding (zcAt 0) 5 3 9 4) 2 refl refl, tt),
+                    (steps (holding (zcAt 0) (entry 5 3 1) (entry 9 4 0)) 2 refl refl, tt),
                   ),
                 ),
               ),

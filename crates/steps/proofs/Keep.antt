@@ -28,13 +28,13 @@ use Rattle.term.proofs.Words.{over-low, words-small}
 use Rattle.state.specs.declared.Store.{Store}
 use Rattle.state.specs.declared.Store.the-variants.{Environment, Attributes, Entries}
 use Rattle.state.specs.Layout.{blockAt, keyLimit, residualWords, stampOf, zcAt, zpAt, zcOf, put, addKey, dropKey}
-use Rattle.state.specs.Entries.{entryOf, newer, putEntry, clockOf, nextStamp}
+use Rattle.state.specs.Entries.{entry, entryOf, newer, putEntry, clockOf, nextStamp}
 use Rattle.state.specs.declared.Entry.{Entry}
-use Rattle.state.proofs.Places.{Place, KeySet, Zc, Zp, Clock, Agents, Mark, Word, Waits, Length, Residual, placeAt, Inside, placeAgent, other-agent, past-agent, placed}
-use Rattle.state.proofs.Frames.{wordAt, SameAt, put-mark, drop-other}
+use Rattle.state.proofs.Places.{Place, KeySet, Zc, Zp, Clock, Agents, Mark, Word, Writer, Waits, Length, Residual, placeAt, Inside, placeAgent, other-agent, past-agent, placed}
+use Rattle.state.proofs.Frames.{wordAt, SameAt, put-entry-stamp, drop-other}
 use Rattle.state.proofs.Evaluation.{SmallValue, valueOf-small}
 use Rattle.state.proofs.Formed.{ResidualFormed, ProperFacts, There, highestIn, keysIn, residual-formed}
-use Rattle.state.proofs.Keep.{Kept, kept-proper, kept-start, kept-later, kept-clock, kept-keys, kept-add, kept-drop, kept-put, pair-kept, set-kept, residual-kept, set-plusAll}
+use Rattle.state.proofs.Keep.{Kept, kept-proper, kept-start, kept-later, kept-clock, kept-keys, kept-add, kept-drop, kept-put, kept-entry, pair-kept, writer-kept, set-kept, residual-kept, set-plusAll}
 use Rattle.steps.specs.Acts.{wordIn, leave, valueFor, writesEntry, guardsRead, labelReads, toConfirm, setKey, acted}
 use Rattle.steps.specs.declared.Response.the-variants.{Takes, Propagates, Ignores}
 use Rattle.steps.specs.Offers.{takeEntry, responded, linked, takes, holdsNewer, response, offer, offered}
@@ -79,6 +79,7 @@ module _ (t : Table) (limits : Limits (t .sizes)) (was : List ℕ) where
         agents = leave-other x (words T) s Agents tt refl (λ j l. refl) ∙ h .formed .agents;
         pairs = λ store i k l. pair-kept s left store (highestIn c store) (keysIn t store) k
             (leave-other x (words T) s (Mark store k) l refl (λ j m. refl)) (leave-other x (words T) s (Word store k) l refl (λ j m. refl)) (h .formed .pairs store i k l);
+        writers = λ a l k i. writer-kept s left agents a k (leave-other x (words T) s (Mark (Entries a) k) i refl (λ j m. refl)) (leave-other x (words T) s (Writer a k) i refl (λ j m. refl)) (h .formed .writers a l k i);
         sets = λ z a l. rw (leave-other x (words T) s (Waits z a) tt refl (λ j m. refl))
             (set-kept s left a (wordAt s (Waits z a)) (λ k i m. rw (leave-other x (words T) s (Mark (Entries a) k) i refl (λ j o. refl)) m) (h .formed .sets z a l));
         residuals = residuals;
@@ -106,12 +107,12 @@ module _ (t : Table) (limits : Limits (t .sizes)) (was : List ℕ) where
         e : Entry
         e = entryOf was x k
 
-        entry : Kept t now now was (putEntry y k e s)
-        entry = kept-put t limits was now now s h (Entries y) k (e .value) (e .stamp) l k16 key entered early (proper .small _) (let c = proper .formed .clock in omega (arith, early))
+        held : Kept t now now was (putEntry y k e s)
+        held = kept-entry t limits was now now s h y k e l k16 key entered early (proper .small _) (let c = proper .formed .clock in omega (arith, early)) (proper .formed .formed .writers x there k k16 .agent entered)
 
         take : Kept t now now was (takeEntry k e y s)
-        take = kept-add t limits was now now (dropKey (zcAt y) k (putEntry y k e s)) (kept-drop t limits was now now (putEntry y k e s) entry Zc y k l) Zp y k l k16
-            (rw (drop-other Zc y k (putEntry y k e s) (Mark (Entries y) k) k16 refl, put-mark (Entries y) k (e .value) (e .stamp) s k16 (omega (arith, h .whole)) (omega arith)) entered)
+        take = kept-add t limits was now now (dropKey (zcAt y) k (putEntry y k e s)) (kept-drop t limits was now now (putEntry y k e s) held Zc y k l) Zp y k l k16
+            (rw (drop-other Zc y k (putEntry y k e s) (Mark (Entries y) k) k16 refl, put-entry-stamp y k e s k16 (omega (arith, h .whole)) (omega arith)) entered)
 
         answer : holdsNewer t was x k counts y ≡ true → Kept t now now was (addKey (zpAt y) k s)
         answer f =
@@ -165,15 +166,16 @@ module _ (t : Table) (sound : Sound t) (bytes : (i : ℕ) → getD (t .operands)
   )
 
   entry-set : (n : ℕ) → pAt t n < t .sizes .stigmergy → clockOf was < 65535
-      → Set (set (addKey (zpAt x) (pAt t n) (put (Entries x) (pAt t n) (wordIn (valueFor t was x n)) (nextStamp was) was)) (placeAt Clock) (nextStamp was))
+      → Set (set (addKey (zpAt x) (pAt t n) (putEntry x (pAt t n) (entry (wordIn (valueFor t was x n)) (nextStamp was) x) was)) (placeAt Clock) (nextStamp was))
   entry-set n l room =
       let c = nextStamp was in
       let k = pAt t n in
-      let u = put (Entries x) k (word n) c was in
+      let e = entry (word n) c x in
+      let u = putEntry x k e was in
       let k16 : k < keyLimit = omega arith in
       let later = kept-later t limits was (clockOf was) (clockOf was) was start c (omega arith) in
-      let entry = kept-put t limits was c (clockOf was) was later (Entries x) k (word n) c there k16 l (omega arith) (omega arith) (small n) (omega arith) in
-      let pending = kept-add t limits was c (clockOf was) u entry Zp x k there k16 (rw (put-mark (Entries x) k (word n) c was k16 (omega (arith, proper .whole)) (omega arith)) (omega arith)) in
+      let held = kept-entry t limits was c (clockOf was) was later x k e there k16 l (omega arith) (omega arith) (small n) (omega arith) there in
+      let pending = kept-add t limits was c (clockOf was) u held Zp x k there k16 (rw (put-entry-stamp x k e was k16 (omega (arith, proper .whole)) (omega arith)) (omega arith)) in
       (c, omega arith, kept-clock t limits was c (clockOf was) (addKey (zpAt x) k u) pending c (omega arith))
 
   node-set : (n : ℕ) → ActionNode t n → (writesEntry t (Acting n) ≡ true → clockOf was < 65535) → Set (setKey t was x (Acting n))

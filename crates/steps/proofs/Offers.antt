@@ -16,11 +16,11 @@ use Rattle.basis.proofs.Tests.{same-or-other}
 use Rattle.table.specs.Tables.{Table}
 use Rattle.state.specs.declared.Store.the-variants.{Entries}
 use Rattle.state.specs.declared.Entry.{Entry}
-use Rattle.state.specs.Layout.{keyLimit, zcAt, wordOf, stampOf, zpOf, dropKey}
-use Rattle.state.specs.Entries.{entryOf, putEntry}
+use Rattle.state.specs.Layout.{keyLimit, zcAt, zpOf, dropKey}
+use Rattle.state.specs.Entries.{entry, entryOf, putEntry}
 use Rattle.state.specs.Standing.{HasBlocks}
-use Rattle.state.proofs.Places.{Place, Zc, Zp, Mark, Word, Waits, Inside, placeKind, placeAgent, same, else-agent}
-use Rattle.state.proofs.Frames.{wordAt, SameAt, put-length, put-other, put-word, add-length, add-other, add-word, drop-length, drop-other, drop-word}
+use Rattle.state.proofs.Places.{Place, Zc, Zp, Mark, Word, Writer, Waits, Inside, placeKind, placeAgent, same, else-agent}
+use Rattle.state.proofs.Frames.{wordAt, SameAt, pick-entry, put-entry-length, put-entry-other, put-entry-word, add-length, add-other, add-word, drop-length, drop-other, drop-word}
 use Rattle.steps.specs.declared.Response.{Response}
 use Rattle.steps.specs.declared.Response.the-variants.{Takes, Propagates, Ignores}
 use Rattle.steps.specs.Offers.{takeEntry, responded, linked, takes, holdsNewer, response, offer, offered}
@@ -37,8 +37,9 @@ abbrev pub tookWord : (k : ℕ) (e : Entry) (y : ℕ) → (Place → ℕ) → Pl
 tookWord k e y word q =
     cond (same q (Waits Zp y)) (plus (word (Waits Zp y)) k)
     (cond (same q (Waits Zc y)) (minus (word (Waits Zc y)) k)
+    (cond (same q (Writer y k)) (e .writer)
     (cond (same q (Mark (Entries y) k)) (e .stamp)
-    (cond (same q (Word (Entries y) k)) (e .value) (word q))))
+    (cond (same q (Word (Entries y) k)) (e .value) (word q)))))
 
 -- and after any response
 abbrev pub respondedWord : (k : ℕ) (e : Entry) (y : ℕ) → Response → (Place → ℕ) → Place → ℕ
@@ -62,7 +63,7 @@ module _ (k : ℕ) (e : Entry) (y : ℕ) (s : List ℕ) where
 
   pub take-length : length (takeEntry k e y s) ≡ length s
   unfolding takeEntry
-  take-length = add-length Zp y k settled ∙ drop-length Zc y k given ∙ put-length (Entries y) k (e .value) (e .stamp) s
+  take-length = add-length Zp y k settled ∙ drop-length Zc y k given ∙ put-entry-length y k e s
 
   pub responded-length : (r : Response) → length (responded k e y r s) ≡ length s
   unfolding responded
@@ -76,7 +77,7 @@ module _ (k : ℕ) (e : Entry) (y : ℕ) (s : List ℕ) where
     take-other q h f =
         add-other Zp y k settled q h (elsewhere q (Waits Zp y) (omega arith) f)
         ∙ drop-other Zc y k given q h (elsewhere q (Waits Zc y) (omega arith) f)
-        ∙ put-other (Entries y) k (e .value) (e .stamp) s key q h (elsewhere q (Mark (Entries y) k) (omega arith) f) (elsewhere q (Word (Entries y) k) (omega arith) f)
+        ∙ put-entry-other y k e s key q h (elsewhere q (Mark (Entries y) k) (omega arith) f) (elsewhere q (Word (Entries y) k) (omega arith) f) (elsewhere q (Writer y k) (omega arith) f)
 
     responded-other : (r : Response) (q : Place) → Inside q → Elsewhere y q → SameAt (responded k e y r s) s q
     unfolding responded
@@ -88,13 +89,13 @@ module _ (k : ℕ) (e : Entry) (y : ℕ) (s : List ℕ) where
       pub take-word : (q : Place) → Inside q → wordAt (takeEntry k e y s) q ≡ tookWord k e y (wordAt s) q
       unfolding takeEntry
       take-word q h =
-          let l : HasBlocks given = omega (arith, put-length (Entries y) k (e .value) (e .stamp) s, room) in
-          let c : SameAt given s (Waits Zc y) = put-other (Entries y) k (e .value) (e .stamp) s key (Waits Zc y) tt refl refl in
+          let l : HasBlocks given = omega (arith, put-entry-length y k e s, room) in
+          let c : SameAt given s (Waits Zc y) = put-entry-other y k e s key (Waits Zc y) tt refl refl refl in
           let p : SameAt settled s (Waits Zp y) =
-          drop-other Zc y k given (Waits Zp y) tt refl ∙ put-other (Entries y) k (e .value) (e .stamp) s key (Waits Zp y) tt refl refl in
+          drop-other Zc y k given (Waits Zp y) tt refl ∙ put-entry-other y k e s key (Waits Zp y) tt refl refl refl in
           add-word Zp y k settled (omega (arith, drop-length Zc y k given, l)) there q h
           ∙ ap₂ (λ a b. cond (same q (Waits Zp y)) (plus a k) b) p (drop-word Zc y k given l there q h
-          ∙ ap₂ (λ a b. cond (same q (Waits Zc y)) (minus a k) b) c (put-word (Entries y) k (e .value) (e .stamp) s key room there q h))
+          ∙ ap₂ (λ a b. cond (same q (Waits Zc y)) (minus a k) b) c (put-entry-word y k e s key room there q h))
 
       responded-word : (r : Response) (q : Place) → Inside q → wordAt (responded k e y r s) q ≡ respondedWord k e y r (wordAt s) q
       unfolding responded
@@ -109,7 +110,7 @@ module _ (t : Table) (was : List ℕ) (x k : ℕ) (counts confirming : Bool) whe
 
   pub offer-length : (y : ℕ) (s : List ℕ) → length (offer t was x k counts confirming y s) ≡ length s
   unfolding offer
-  offer-length y s = responded-length k (entryOf was x k) y s (response t was x k counts confirming y)
+  offer-length y s = responded-length k _ y s (response t was x k counts confirming y)
 
   pub offered-length : (agents : ℕ) → length (offered t was x k counts confirming agents) ≡ length was
   offered-length agents = forEach-same (offer t was x k counts confirming) (λ (u : List ℕ). length u) agents (λ y l s. offer-length y s) was
@@ -122,11 +123,11 @@ module _ (t : Table) (was : List ℕ) (x k : ℕ) (counts confirming : Bool) whe
   module _ (key : k < keyLimit) where
     pub offer-other : (y : ℕ) (s : List ℕ) (q : Place) → Inside q → Elsewhere y q → SameAt (offer t was x k counts confirming y s) s q
     unfolding offer
-    offer-other y s q h f = responded-other k (entryOf was x k) y s key (response t was x k counts confirming y) q h f
+    offer-other y s q h f = responded-other k _ y s key (response t was x k counts confirming y) q h f
 
     pub offer-word : (y : ℕ) (s : List ℕ) → HasBlocks s → y < 32 → (q : Place) → Inside q → wordAt (offer t was x k counts confirming y s) q ≡ offerWord y (wordAt s) q
     unfolding offer
-    offer-word y s room there q h = responded-word k (entryOf was x k) y s key room there (response t was x k counts confirming y) q h
+    offer-word y s room there q h = responded-word k _ y s key room there (response t was x k counts confirming y) q h
 
     -- the offers to agents below n leave what is everyone's, what is x's, and what is of agents from n on
     pub offered-other : (n : ℕ) (q : Place) → Inside q → ((y : ℕ) → y < n → (y ≡ x → ⊥) → Elsewhere y q) → SameAt (offered t was x k counts confirming n) was q
@@ -167,20 +168,13 @@ module _ (t : Table) (was : List ℕ) (x k : ℕ) (counts confirming : Bool) whe
         unfolding response
         offered-answer q h e = offered-word y there q h e
 
-        pub offered-stamp : (j : ℕ) → j < keyLimit → stampOf (offered t was x k counts confirming agents) y j ≡ cond (takes t was x k counts y && eqb j k) (stampOf was x k) (stampOf was y j)
-        offered-stamp j l = offered-answer (Mark (Entries y) j) l refl ∙ by T N
+        -- its entry for key j: x's where it takes that
+        pub offered-entry : (j : ℕ) → j < keyLimit → entryOf (offered t was x k counts confirming agents) y j ≡ cond (takes t was x k counts y && eqb j k) (entryOf was x k) (entryOf was y j)
+        offered-entry j l =
+            rw (offered-answer (Word (Entries y) j) l refl, offered-answer (Mark (Entries y) j) l refl, offered-answer (Writer y j) l refl) (by T N)
           where
-            by : (a b : Bool) → answer a b (Mark (Entries y) j) ≡ cond (a && eqb j k) (stampOf was x k) (stampOf was y j)
-            by true b = simp (eq-eqb y y refl, and-true)
-            by false true = refl
-            by false false = refl
-
-        pub offered-value : (j : ℕ) → j < keyLimit
-            → wordOf (offered t was x k counts confirming agents) (Entries y) j ≡ cond (takes t was x k counts y && eqb j k) (wordOf was (Entries x) k) (wordOf was (Entries y) j)
-        offered-value j l = offered-answer (Word (Entries y) j) l refl ∙ by T N
-          where
-            by : (a b : Bool) → answer a b (Word (Entries y) j) ≡ cond (a && eqb j k) (wordOf was (Entries x) k) (wordOf was (Entries y) j)
-            by true b = simp (eq-eqb y y refl, and-true)
+            by : (a b : Bool) → entry (answer a b (Word (Entries y) j)) (answer a b (Mark (Entries y) j)) (answer a b (Writer y j)) ≡ cond (a && eqb j k) (entryOf was x k) (entryOf was y j)
+            by true b = simp (eq-eqb y y refl, and-true) (pick-entry (eqb j k) (entryOf was x k) (entryOf was y j))
             by false true = refl
             by false false = refl
 

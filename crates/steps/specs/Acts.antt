@@ -30,9 +30,10 @@ abbrev pub wordIn : Value → ℕ
 wordIn Absent = 0
 wordIn (Present v) = v
 
--- agent x writes v to stigmergy key k: the entry takes the next stamp, which becomes the clock, and the key waits to be propagated
+-- agent x writes v to stigmergy key k: the entry takes the next stamp, which becomes the clock; its writer is x; and the key waits to be
+-- propagated
 abbrev pub entered : List ℕ → ℕ → ℕ → ℕ → List ℕ
-entered s x k v = setClock (nextStamp s) (addKey (zpAt x) k (putEntry x k (entry v (nextStamp s)) s))
+entered s x k v = setClock (nextStamp s) (addKey (zpAt x) k (putEntry x k (entry v (nextStamp s) x) s))
 
 -- the residual of agent x becomes these words, and 0 after them
 unfoldable pub leave : ℕ → List ℕ → List ℕ → List ℕ

@@ -1,5 +1,5 @@
 -- The rehearsed examples (a) to (j), over one table of bytes.
-use Prim.Native.Nat.{ℕ, _^_, _-_}
+use Prim.Native.Nat.{ℕ}
 use mathlib.Core.Bool.{Bool, cond}
 use mathlib.Core.Path.{_≡_}
 use mathlib.Core.List.{List, [], _∷_, _++_}
@@ -11,7 +11,8 @@ use Rattle.table.specs.Tables.{Table, tableOf}
 use Rattle.term.specs.Terms.{Node, parWord, tickWord, words}
 use Rattle.term.specs.Processes.{Derivation, derivations, process}
 use Rattle.state.specs.declared.Store.the-variants.{Attributes, Entries}
-use Rattle.state.specs.Layout.{stateWords, zcAt, zpAt, wordOf, stampOf, zcOf, zpOf, put, addKey}
+use Rattle.state.specs.declared.Entry.{Entry}
+use Rattle.state.specs.Layout.{stateWords, zcAt, zpAt, wordOf, stampOf, writerOf, zcOf, zpOf, put, addKey}
 use Rattle.state.specs.Entries.{entry, putEntry, setClock}
 use Rattle.state.specs.Evaluation.{valueOf, holds}
 use Rattle.state.specs.WellFormed.{loaded}
@@ -38,27 +39,26 @@ abbrev pub scratch : ℕ
 scratch = 64
 
 -- the loaded state at clock 4, where agent 0 has attribute 0 = 1, so that its link to agent 1 holds and the other way doesn't,
--- agent 0 holds (v, u) and agent 1 holds (w, z) for key 0, which is in agent 0's set that stands at a place
-abbrev pub holding : ℕ → ℕ → ℕ → ℕ → ℕ → List ℕ
-holding at v u w z =
-    setClock 4 (addKey at 0 (putEntry 1 0 (entry w z) (putEntry 0 0 (entry v u) (put (Attributes 0) 0 1 1 (loaded t)))))
+-- agent 0 holds e and agent 1 holds f for key 0, which is in agent 0's set that stands at a place
+abbrev pub holding : ℕ → Entry → Entry → List ℕ
+holding at e f = setClock 4 (addKey at 0 (putEntry 1 0 f (putEntry 0 0 e (put (Attributes 0) 0 1 1 (loaded t)))))
 
 abbrev pub bit : Bool → ℕ
 bit b = cond b 1 0
 
--- what a step comes to: refusal, taken, then for each agent value and stamp of key 0, Zc, Zp
+-- what a step comes to: refusal, taken, then for each agent value, stamp and writer of key 0, Zc, Zp
 abbrev pub shown : Outcome → List ℕ
 shown o =
     numberOf (o .check) ∷ o .tally .taken
-    ∷ wordOf (o .state) (Entries 0) 0 ∷ stampOf (o .state) 0 0 ∷ zcOf (o .state) 0 ∷ zpOf (o .state) 0
-    ∷ wordOf (o .state) (Entries 1) 0 ∷ stampOf (o .state) 1 0 ∷ zcOf (o .state) 1 ∷ zpOf (o .state) 1 ∷ []
+    ∷ wordOf (o .state) (Entries 0) 0 ∷ stampOf (o .state) 0 0 ∷ writerOf (o .state) 0 0 ∷ zcOf (o .state) 0 ∷ zpOf (o .state) 0
+    ∷ wordOf (o .state) (Entries 1) 0 ∷ stampOf (o .state) 1 0 ∷ writerOf (o .state) 1 0 ∷ zcOf (o .state) 1 ∷ zpOf (o .state) 1 ∷ []
 
--- agent 0, holding (v, u), propagates, or confirms, key 0 to agent 1, holding (w, z)
-abbrev pub propagating : ℕ → ℕ → ℕ → ℕ → List ℕ
-propagating v u w z = shown (stepOf example (holding (zpAt 0) v u w z) scratch 1 0 0)
+-- agent 0, holding e, propagates, or confirms, key 0 to agent 1, holding f
+abbrev pub propagating : Entry → Entry → List ℕ
+propagating e f = shown (stepOf example (holding (zpAt 0) e f) scratch 1 0 0)
 
-abbrev pub confirming : ℕ → ℕ → ℕ → ℕ → List ℕ
-confirming v u w z = shown (stepOf example (holding (zcAt 0) v u w z) scratch 2 0 0)
+abbrev pub confirming : Entry → Entry → List ℕ
+confirming e f = shown (stepOf example (holding (zcAt 0) e f) scratch 2 0 0)
 
 -- the words that each choice of node n leaves, one list after another, each with its length first
 unfoldable pub leftBy : List Derivation → List ℕ
@@ -87,21 +87,22 @@ abbrev pub _gives_ : List ℕ → List ℕ → Example
 _gives_ c e = record { computed = c; expected = e }
 
 infix 10 _gives_
--- Columns of a step: refusal, taken; value, stamp, Zc, Zp of agent 0; the same of agent 1.
+-- Columns of a step: refusal, taken; value, stamp, writer, Zc, Zp of agent 0; the same of agent 1. The paper's entries have no writers: in (b)
+-- what is taken was written by the agent that takes it, in (c) by the sender.
 -- Columns of `leaving`: for each choice the number of words that it leaves, and the words. Of `value`: present, word
 abbrev pub examples : List Example
 examples =
     (numberOf (loadOf example (replicate stateWords 0) scratch .check) ∷ [] gives 0 ∷ [])  -- the table is accepted
-    ∷ (propagating 9 3 5 3 gives 0 ∷ 0 ∷ 9 ∷ 3 ∷ 0 ∷ 0 ∷ 5 ∷ 3 ∷ 0 ∷ 0 ∷ [])  -- (a) stored (5, stamp 3), offered (9, 3): stays
-    ∷ (propagating 9 4 5 3 gives 0 ∷ 1 ∷ 9 ∷ 4 ∷ 0 ∷ 0 ∷ 9 ∷ 4 ∷ 0 ∷ 1 ∷ [])  -- (b) offered (9, 4): taken
-    ∷ (propagating 5 3 0 0 gives 0 ∷ 1 ∷ 5 ∷ 3 ∷ 0 ∷ 0 ∷ 5 ∷ 3 ∷ 0 ∷ 1 ∷ [])  -- (c) none stored, offered (5, 3): taken
+    ∷ (propagating (entry 9 3 1) (entry 5 3 0) gives 0 ∷ 0 ∷ 9 ∷ 3 ∷ 1 ∷ 0 ∷ 0 ∷ 5 ∷ 3 ∷ 0 ∷ 0 ∷ 0 ∷ [])  -- (a) stored (5, stamp 3), offered (9, 3): stays
+    ∷ (propagating (entry 9 4 1) (entry 5 3 0) gives 0 ∷ 1 ∷ 9 ∷ 4 ∷ 1 ∷ 0 ∷ 0 ∷ 9 ∷ 4 ∷ 1 ∷ 0 ∷ 1 ∷ [])  -- (b) offered (9, 4): taken, with its writer
+    ∷ (propagating (entry 5 3 0) (entry 0 0 0) gives 0 ∷ 1 ∷ 5 ∷ 3 ∷ 0 ∷ 0 ∷ 0 ∷ 5 ∷ 3 ∷ 0 ∷ 0 ∷ 1 ∷ [])  -- (c) none stored, offered (5, 3): taken
     ∷ (length (derivations (process t (Node 8))) ∷ [] gives 2 ∷ [])  -- (d) tick|tick has 2 choices
     ∷ (leaving 12 gives 3 ∷ parWord ∷ tickWord ∷ 11 ∷ 1 ∷ tickWord ∷ [])  -- (e) action|tick has 2, leaving 3 words and 1 word
     ∷ (leaving 17 gives 3 ∷ parWord ∷ tickWord ∷ 16 ∷ 3 ∷ parWord ∷ 14 ∷ tickWord ∷ [])  -- (f) a|b leaves tick|b, then a|tick
     ∷ (guardBit 3 ∷ guardBit 5 ∷ [] gives 0 ∷ 1 ∷ [])  -- (g) not (attribute = 1), attribute absent: doesn't hold; the same or true: holds
     ∷ (value 24 gives 0 ∷ 0 ∷ [])  -- (h) 2,147,483,647 + 1 is absent
     ∷ (value 27 gives 1 ∷ 2 ∷ [])  -- (i) -7 remainder 3 is 2
-    ∷ (confirming 5 3 9 4 gives 0 ∷ 0 ∷ 5 ∷ 3 ∷ 0 ∷ 0 ∷ 9 ∷ 4 ∷ 0 ∷ 1 ∷ [])  -- (j) asker (5, 3), other (9, 4): nobody's entry changes, the other gains the key in Zp
+    ∷ (confirming (entry 5 3 1) (entry 9 4 0) gives 0 ∷ 0 ∷ 5 ∷ 3 ∷ 1 ∷ 0 ∷ 0 ∷ 9 ∷ 4 ∷ 0 ∷ 0 ∷ 1 ∷ [])  -- (j) asker (5, 3), other (9, 4): nobody's entry changes, the other gains the key in Zp
     ∷ []
 
 -- every example gives what it should

@@ -14,7 +14,7 @@ use Rattle.steps.specs.declared.Response.the-variants.{Takes, Propagates
 use Rattle.steps.specs.declared.Tally.{Tally}
 use Rattle.steps.specs.Tallies.{tally}
 
--- agent y takes entry e: it no longer has to confirm the key, and has to propagate it
+-- agent y takes entry e with its stamp and its writer: it no longer has to confirm the key, and has to propagate it
 unfoldable pub takeEntry : ℕ → Entry → ℕ → List ℕ → List ℕ
 takeEntry k e y s = addKey (zpAt y) k (dropKey (zcAt y) k (putEntry y k e s))
 

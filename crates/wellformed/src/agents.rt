@@ -1,6 +1,6 @@
 // An agent's block, and those of all agents.
+use crate::entries::entries_formed;
 use crate::pairs::store_formed;
-use crate::pending::all_pending_formed;
 use crate::residuals::residual_formed;
 use state::Store;
 use state::clock_of;
@@ -34,7 +34,7 @@ fn agent_formed(sizes: Sizes, kinds: &[u8], state: &[u32], agent: usize) -> bool
     if state::ALL_KEYS < state[zp] {
         return false;
     }
-    if !all_pending_formed(state, agent) {
+    if !entries_formed(state, sizes.agents, agent) {
         return false;
     }
     residual_formed(sizes, kinds, state, agent)

@@ -1,8 +1,8 @@
 // Whether a state's words are well formed for a table, and the words that load writes.
 mod agents; // agents.rt: an agent's block, and all of them
+mod entries; // entries.rt: entries of an agent, and its pending keys
 mod loading; // loading.rt: the words that load writes
 mod pairs; // pairs.rt: the pairs of a store
-mod pending; // pending.rt: pending keys
 mod residuals; // residuals.rt: residuals
 mod zeros; // zeros.rt: words that are all 0
 

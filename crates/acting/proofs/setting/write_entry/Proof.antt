@@ -12,6 +12,9 @@ clock-of-requires c κs = search needs
 add-stamp : tie.Need-add-stamp
 add-stamp c = search needs
 
+cast-writer : tie.Need-cast-writer
+cast-writer c = search needs
+
 put-entry-requires : tie.Need-put-entry-requires
 put-entry-requires c κs = search needs
 
@@ -35,6 +38,7 @@ write-entry-spec =
     zp-at-requires
     clock-of-requires
     add-stamp
+    cast-writer
     put-entry-requires
     add-key-requires
     set-clock-requires

@@ -22,8 +22,17 @@ mul-stamp c = search needs
 shared-slice-read-stamp : tie.Need-shared-slice-read-stamp
 shared-slice-read-stamp c = search needs
 
+writer-at-requires : tie.Need-writer-at-requires
+writer-at-requires c κs = search needs
+
+mul-writer : tie.Need-mul-writer
+mul-writer c = search needs
+
+shared-slice-read-writer : tie.Need-shared-slice-read-writer
+shared-slice-read-writer c = search needs
+
 returns : tie.Need-returns
-returns c = rw (← c .before .mark-at .ensures .is, ← c .before .before .before .value-at .ensures .is)
+returns c = rw (← c .before .writer-at .ensures .is, ← c .before .before .before .mark-at .ensures .is, ← c .before .before .before .before .before .value-at .ensures .is)
 
 pub entry-of-spec : {M : Type 1} → statement M
 entry-of-spec =
@@ -35,4 +44,7 @@ entry-of-spec =
     mark-at-requires
     mul-stamp
     shared-slice-read-stamp
+    writer-at-requires
+    mul-writer
+    shared-slice-read-writer
     returns)

@@ -12,7 +12,7 @@ use Rattle.table.specs.Tables.{Table, table}
 use Rattle.state.specs.declared.Store.the-variants.{Attributes, Entries}
 use Rattle.state.specs.Layout.{keyLimit, zcOf, zpOf}
 use Rattle.state.specs.Entries.{clockOf}
-use Rattle.state.specs.WellFormed.{pairFormed, pendingFormed, agentFormed}
+use Rattle.state.specs.WellFormed.{pairFormed, entryFormed, agentFormed}
 use Rattle.wellformed.proofs.Blocks.{wide, narrow}
 use borrow.Author.Needs.{needs}
 use Rattle.wellformed.proofs.agents.agent_formed.Statement.{statement}
@@ -52,8 +52,8 @@ confirmed c = narrow (now (start3 c .args .state)) _ _ (c .before .before .zc-at
 propagated : (c : tie.Else4) → ltb (zpOf (now (start4 c .args .state)) (start4 c .args .agent)) (2 ^ keyLimit) ≡ true
 propagated c = narrow (now (start4 c .args .state)) _ _ (c .before .before .zp-at .ensures .is) (c .if4 .left)
 
-pending : (c : tie.Else5) → every (pendingFormed (now (start5 c .args .state)) (start5 c .args .agent)) keyLimit ≡ true
-pending c = sym (c .before .all-pending-formed .ensures) ∙ not-false _ (c .if5 .left)
+each-entry : (c : tie.Else5) → every (entryFormed (now (start5 c .args .state)) (start5 c .args .sizes .agents) (start5 c .args .agent)) keyLimit ≡ true
+each-entry c = sym (c .before .entries-formed .ensures) ∙ not-false _ (c .if5 .left)
 
 store-formed-requires : tie.Need-store-formed-requires
 store-formed-requires c κs = search needs
@@ -105,8 +105,8 @@ returns-4 c operands =
     let q = r .before .before .before in
     rw (attributes (q .before .before .before), entries q, confirmed r, wide (now (start3 r .args .state)) _ _ (c .before .before .zp-at .ensures .is) (c .if4 .taken))
 
-all-pending-formed-requires : tie.Need-all-pending-formed-requires
-all-pending-formed-requires c κs = search needs
+entries-formed-requires : tie.Need-entries-formed-requires
+entries-formed-requires c κs = search needs
 
 returns-5 : tie.Need-returns-5
 unfolding agentFormed
@@ -115,7 +115,7 @@ returns-5 c operands =
     let r = u .before .before .before in
     let q = r .before .before .before in
     let p = q .before .before .before in
-    rw (attributes p, entries q, confirmed r, propagated u, sym (c .before .all-pending-formed .ensures) ∙ not-true _ (c .if5 .taken))
+    rw (attributes p, entries q, confirmed r, propagated u, sym (c .before .entries-formed .ensures) ∙ not-true _ (c .if5 .taken))
 
 residual-formed-requires : tie.Need-residual-formed-requires
 residual-formed-requires c κs = search needs
@@ -127,7 +127,7 @@ returns-6 c operands =
     let u = v .before .before in
     let r = u .before .before .before in
     let q = r .before .before .before in
-    rw (attributes (q .before .before .before), entries q, confirmed r, propagated u, pending v) (c .residual-formed .ensures operands)
+    rw (attributes (q .before .before .before), entries q, confirmed r, propagated u, each-entry v) (c .residual-formed .ensures operands)
 
 pub agent-formed-spec : {M : Type 1} → statement M
 agent-formed-spec =
@@ -146,7 +146,7 @@ agent-formed-spec =
     mul-if4
     shared-slice-read-if4
     returns-4
-    all-pending-formed-requires
+    entries-formed-requires
     returns-5
     residual-formed-requires
     returns-6)

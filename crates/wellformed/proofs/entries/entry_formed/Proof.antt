@@ -1,8 +1,8 @@
--- `pending_formed` meets its contract. Assumes nothing.
-use Rattle.wellformed.proofs.Keys.{pending-is}
+-- `entry_formed` meets its contract. Assumes nothing.
+use Rattle.wellformed.proofs.Keys.{entry-is}
 use borrow.Author.Needs.{needs}
-use Rattle.wellformed.proofs.pending.pending_formed.Statement.{statement}
-use Rattle.wellformed.proofs.pending.pending_formed.Tie as tie
+use Rattle.wellformed.proofs.entries.entry_formed.Statement.{statement}
+use Rattle.wellformed.proofs.entries.entry_formed.Tie as tie
 
 zc-at-requires : tie.Need-zc-at-requires
 zc-at-requires c κs = search needs
@@ -31,14 +31,18 @@ has-requires-2 c κs = search needs
 entry-of-requires : tie.Need-entry-of-requires
 entry-of-requires c κs = search needs
 
+writer-formed-requires : tie.Need-writer-formed-requires
+writer-formed-requires c κs = search needs
+
 returns : tie.Need-returns
 returns c =
-    let h = c .before .before in
+    let h = c .before .before .before in
     let p = h .before .before .before .before in
-    pending-is _ _ _ _ _ (p .before .zc-at .ensures .is) (p .zp-at .ensures .is) _ _ (h .before .before .has .ensures) (h .has2 .ensures) _ (c .before .entry-of .ensures)
+    entry-is _ _ _ _ _ _ (p .before .zc-at .ensures .is) (p .zp-at .ensures .is) _ _ (h .before .before .has .ensures) (h .has2 .ensures) _ (c .before .before .entry-of .ensures) _
+    (c .before .writer-formed .ensures)
 
-pub pending-formed-spec : {M : Type 1} → statement M
-pending-formed-spec =
+pub entry-formed-spec : {M : Type 1} → statement M
+entry-formed-spec =
     tie.close
     (tie.spec
     zc-at-requires
@@ -50,4 +54,5 @@ pending-formed-spec =
     shared-slice-read-has-2
     has-requires-2
     entry-of-requires
+    writer-formed-requires
     returns)
