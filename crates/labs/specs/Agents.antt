@@ -11,10 +11,12 @@ infixl 60 _⟦_≔_⟧
 infixl 60 _∪｛_｝
 infixl 60 _∖｛_｝
 infixl 60 _∪_
--- (v, t): a value, by its word, and its timestamp
+-- (v, t): a value, by its word, and its timestamp; and, which the document has not (change request 2), the number of the agent that
+-- wrote it
 pub record Entry : Type 0 where
   pub value : ℕ
   pub time : ℕ
+  pub writer : ℕ
 
 -- an interface, or an environment; a local stigmergy; a set of keys
 abbrev pub Interface : Type 0

@@ -9,7 +9,7 @@ use Rattle.value.specs.declared.Value.the-variants.{Absent}
 use Rattle.table.specs.Tables.{Table}
 use Rattle.term.specs.Terms.{Node}
 use Rattle.state.specs.declared.Store.the-variants.{Environment, Attributes, Entries}
-use Rattle.state.specs.Layout.{keyLimit, wordOf, stampOf, zcOf, zpOf, termIn, valueIn}
+use Rattle.state.specs.Layout.{keyLimit, wordOf, stampOf, writerOf, zcOf, zpOf, termIn, valueIn}
 use Rattle.state.specs.Entries.{clockOf}
 use Rattle.labs.specs.Agents.{⟨_⸴_⸴_⸴_⸴_⟩, Agent, Entry, System}
 use Rattle.labs.specs.Roots.{startOf}
@@ -18,7 +18,7 @@ use Rattle.labs.specs.Roots.{startOf}
 abbrev pub entryOf : List ℕ → ℕ → ℕ → Option Entry
 entryOf s a x =
     cond (ltb x keyLimit)
-    (cond (eqb (stampOf s a x) 0) none (some (record { value = wordOf s (Entries a) x; time = stampOf s a x })))
+    (cond (eqb (stampOf s a x) 0) none (some (record { value = wordOf s (Entries a) x; time = stampOf s a x; writer = writerOf s a x })))
     none
 
 abbrev pub agentOf : List ℕ → ℕ → Agent

@@ -61,27 +61,27 @@ guardKeys t (b ∷ g) = K⟦ guardOf t b ⟧ᵇ ∪ guardKeys t g
 abbrev pub awaited : Table → Agent → List ℕ → Agent → Agent
 awaited t a g a′ = ⟨ a′ .I ⸴ a′ .L ⸴ a′ .P ⸴ a′ .Zc ∪ known a (guardKeys t g) ⸴ a′ .Zp ⟩
 
--- one agent in its environment E at clock T; tod() is the clock's next number. The clock rises at a stigmergy write only, by the paper;
--- section 2.5 would raise it at every transition
-pub data Acts (t : Table) (E : Interface) (T : ℕ) (a : Agent) (d : Derivation) : Interface → ℕ → Agent → Type 0 where
+-- one agent, of number n, in its environment E at clock T; tod() is the clock's next number. The clock rises at a stigmergy write only, by
+-- the paper; section 2.5 would raise it at every transition. That EVAL-L names n as the writer is change request 2's
+pub data Acts (t : Table) (E : Interface) (T n : ℕ) (a : Agent) (d : Derivation) : Interface → ℕ → Agent → Type 0 where
   -- SKIP's ε in an environment, for which Table 16 prints no rule
-  EPSILON : {a′ : Agent} → Wills t a d ε a′ → Await t E a (d .guards) → Acts t E T a d E T (awaited t a (d .guards) a′)
+  EPSILON : {a′ : Agent} → Wills t a d ε a′ → Await t E a (d .guards) → Acts t E T n a d E T (awaited t a (d .guards) a′)
   EVAL-I : {e : Expr} {x : ℕ} {a′ : Agent} (v : ℕ) → Wills t a d (e ▹ attribute x) a′ → Await t E a (d .guards) → E⟦ e ⟧ alone E a ⇓ v →
-      Acts t E T a d E T (awaited t a (d .guards) ⟨ a′ .I ⟦ x ≔ Present v ⟧ ⸴ a′ .L ⸴ a′ .P ⸴ a′ .Zc ⸴ a′ .Zp ⟩)
+      Acts t E T n a d E T (awaited t a (d .guards) ⟨ a′ .I ⟦ x ≔ Present v ⟧ ⸴ a′ .L ⸴ a′ .P ⸴ a′ .Zc ⸴ a′ .Zp ⟩)
   EVAL-L : {e : Expr} {x : ℕ} {a′ : Agent} {L′ : Stigmergy} (v : ℕ) → Wills t a d (e ▹ stigmergy x) a′ → Await t E a (d .guards) → E⟦ e ⟧ alone E a ⇓ v →
-      Inserted (a′ .L) x (record { value = v; time = suc T }) L′ →
-      Acts t E T a d E (suc T) (awaited t a (d .guards) ⟨ a′ .I ⸴ L′ ⸴ a′ .P ⸴ a′ .Zc ⸴ a′ .Zp ∪｛ x ｝ ⟩)
+      Inserted (a′ .L) x (record { value = v; time = suc T; writer = n }) L′ →
+      Acts t E T n a d E (suc T) (awaited t a (d .guards) ⟨ a′ .I ⸴ L′ ⸴ a′ .P ⸴ a′ .Zc ⸴ a′ .Zp ∪｛ x ｝ ⟩)
   EVAL-E : {e : Expr} {x : ℕ} {a′ : Agent} (v : ℕ) → Wills t a d (e ▹ environment x) a′ → Await t E a (d .guards) → E⟦ e ⟧ alone E a ⇓ v →
-      Acts t E T a d (E ⟦ x ≔ Present v ⟧) T (awaited t a (d .guards) a′)
+      Acts t E T n a d (E ⟦ x ≔ Present v ⟧) T (awaited t a (d .guards) a′)
 
 -- PAR-E: agent x acts, and the others stay. It is not applied to messages: as printed it would let any part of a system receive nothing,
 -- and so a propagate reach nobody. By 2.3 (PUT is applied until all neighbours have it) and by the paper every other agent receives
 pub record Acted (t : Table) (agents x : ℕ) (d : Derivation) (S S′ : System) : Type 0 where
   pub there : x < agents
-  pub acts : Acts t (S .E) (S .clock) (S .agent x) d (S′ .E) (S′ .clock) (S′ .agent x)
+  pub acts : Acts t (S .E) (S .clock) x (S .agent x) d (S′ .E) (S′ .clock) (S′ .agent x)
   pub others : (y : ℕ) → y < agents → (y ≡ x → ⊥) → S′ .agent y ≡ S .agent y
 
--- TABLE 8. put(I, L, x, v, t) and qry(I, L, x, v, t): which of them, the sender as it was, the key and the entry
+-- TABLE 8. put(I, L, x, v, t) and qry(I, L, x, v, t): which of them, the sender as it was, the key and the entry, its writer with it
 pub data Kind : Type 0 where
   put qry : Kind
 

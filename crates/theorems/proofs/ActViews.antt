@@ -19,20 +19,20 @@ use Rattle.term.specs.Accepted.{ActionNode, Labelled}
 use Rattle.state.specs.declared.Store.{Store}
 use Rattle.state.specs.declared.Store.the-variants.{Entries}
 use Rattle.state.specs.declared.Entry.{Entry}
-use Rattle.state.specs.Layout.{keyLimit, wordOf, stampOf, zpOf}
-use Rattle.state.specs.Entries.{nextStamp, newer}
+use Rattle.state.specs.Layout.{keyLimit, wordOf, stampOf, writerOf, zpOf}
+use Rattle.state.specs.Entries.{entry as stored, entryOf, nextStamp, newer}
 use Rattle.state.specs.Standing.{HasBlocks}
-use Rattle.state.proofs.Places.{Place, Zp, Mark, Word, Waits, Inside, placeKind, same, same-not}
-use Rattle.state.proofs.Frames.{wordAt, SameAt, put-other}
+use Rattle.state.proofs.Places.{Place, Zp, Mark, Word, Writer, Waits, Inside, placeKind, same, same-not}
+use Rattle.state.proofs.Frames.{wordAt, SameAt, pick-entry, put-other}
 use Rattle.steps.specs.Acts.{wordIn, valueFor, storeOf, setKey, acted}
 use Rattle.steps.proofs.Acts.{set-tick, set-value, store-other, entry-word, acted-other}
-use Rattle.theorems.proofs.Views.{seen, links, same-entry, pick-entry, Shows, shows-same, shows-itself}
+use Rattle.theorems.proofs.Views.{seen, links, same-entry, Shows, shows-same, shows-itself}
 
 -- an act of agent x, seen from key j
 module _ (t : Table) (s : List ℕ) (x j : ℕ) where
   -- the write of node n
   abbrev pub written : ℕ → Move Entry
-  written n = write x (record { value = wordIn (valueFor t s x n); stamp = nextStamp s })
+  written n = write x (stored (wordIn (valueFor t s x n)) (nextStamp s) x)
 
   abbrev pub actMove : Label → Move Entry
   actMove Ticking = quiet
@@ -46,7 +46,7 @@ module _ (t : Table) (s : List ℕ) (x j : ℕ) where
     write-shows n e key a =
         let after = entry-word t s x n room there e key in
         record {
-          entry = same-entry (after (Word (Entries a) j) low) (after (Mark (Entries a) j) low) ∙ rw (eqb-swap j k, eqb-swap a x) (entry (eqb k j));
+          entry = same-entry (after (Word (Entries a) j) low) (after (Mark (Entries a) j) low) (after (Writer a j) low) ∙ rw (eqb-swap j k, eqb-swap a x) (entry (eqb k j));
           waits = ap (λ (w : ℕ). has w j) (after (Waits Zp a) tt) ∙ rw (eqb-swap a x) (gained (eqb x a) refl) ∙ waits (eqb k j);
         }
       where
@@ -56,9 +56,9 @@ module _ (t : Table) (s : List ℕ) (x j : ℕ) where
         v : ℕ
         v = wordIn (valueFor t s x n)
 
-        entry : (b : Bool) → record { value = cond (b && eqb x a) v (wordOf s (Entries a) j); stamp = cond (b && eqb x a) (nextStamp s) (stampOf s a j) }
+        entry : (b : Bool) → stored (cond (b && eqb x a) v (wordOf s (Entries a) j)) (cond (b && eqb x a) (nextStamp s) (stampOf s a j)) (cond (b && eqb x a) x (writerOf s a j))
             ≡ moved newer (links t s j) (cond b (written n) quiet) (seen s j) .entry a
-        entry true = pick-entry (eqb x a) _ _ _ _
+        entry true = pick-entry (eqb x a) (stored v (nextStamp s) x) (entryOf s a j)
         entry false = refl
 
         gained : (b : Bool) → eqb x a ≡ b → has (cond b (plus (zpOf s x) k) (zpOf s a)) j ≡ ((eqb k j && b) || has (zpOf s a) j)
@@ -75,7 +75,7 @@ module _ (t : Table) (s : List ℕ) (x j : ℕ) where
         shows-same (setKey t s x (Acting n)) s j (seen s j) a
         (kept (Word (Entries a) j) low refl (apart (Word (Entries a) j) (Word store (pAt t n)) (λ e. store-other t s x n i d (sym e))))
         (kept (Mark (Entries a) j) low (apart (Mark (Entries a) j) (Mark store (pAt t n)) (λ e. store-other t s x n i d (sym e))) refl)
-        (kept (Waits Zp a) tt refl refl) (shows-itself s j a)
+        (kept (Writer a j) low refl refl) (kept (Waits Zp a) tt refl refl) (shows-itself s j a)
       where
         store : Store
         store = storeOf t x n
@@ -99,5 +99,6 @@ module _ (t : Table) (s : List ℕ) (x j : ℕ) where
         shows-same (acted t s x d) (setKey t s x (d .label)) j _ a
         (acted-other t s x d (Word (Entries a) j) low refl refl (λ i l. refl))
         (acted-other t s x d (Mark (Entries a) j) low refl refl (λ i l. refl))
+        (acted-other t s x d (Writer a j) low refl refl (λ i l. refl))
         (acted-other t s x d (Waits Zp a) tt refl refl (λ i l. refl))
         (set-shows (d .label) i key a)

@@ -29,11 +29,12 @@ use Rattle.term.proofs.Inside.{Inside as InsideTable, derivation-inside}
 use Rattle.state.specs.declared.Store.{Store}
 use Rattle.state.specs.declared.Store.the-variants.{Environment, Attributes, Entries}
 use Rattle.state.specs.Layout.{clockAt, zpAt, keyLimit, residualWords, zcOf, zpOf, termIn, put, addKey}
-use Rattle.state.specs.Entries.{clockOf, nextStamp}
+use Rattle.state.specs.declared.Entry.{Entry as Stored}
+use Rattle.state.specs.Entries.{entry as stored, putEntry, clockOf, nextStamp}
 use Rattle.state.specs.Standing.{HasBlocks}
-use Rattle.state.proofs.Places.{Place, Zc, Zp, Clock, Mark, Word, Waits, Length, Residual, Inside, placeKind, storeKind, storeAgent, same, same-not}
+use Rattle.state.proofs.Places.{Place, Zc, Zp, Clock, Mark, Word, Writer, Waits, Length, Residual, Inside, placeKind, storeKind, storeAgent, same, same-not}
 use Rattle.state.proofs.Places.{placeAgent as ownerOf}
-use Rattle.state.proofs.Frames.{SameAt, set-other, set-here, value-same, term-same, put-length, put-other, put-valueIn, add-length, add-other}
+use Rattle.state.proofs.Frames.{SameAt, set-other, set-here, value-same, term-same, put-length, put-other, put-valueIn, put-entry-length, put-entry-other, add-length, add-other}
 use Rattle.state.proofs.Formed.{WellFormed}
 use Rattle.steps.specs.Acts.{isAbsent, wordIn, allHold, valueFor, lacksValue, writesEntry, choices, chosen, toConfirm, storeOf, setKey, acted}
 use Rattle.steps.proofs.Steps.{Able}
@@ -75,7 +76,7 @@ module _ (k v : ℕ) (s : List ℕ) (key : k < keyLimit) (room : HasBlocks s) wh
       → agentOf (put (Attributes x) k v 1 s) x ≡ ⟨ agentOf s x .I ⟦ k ≔ Present v ⟧ ⸴ agentOf s x .L ⸴ agentOf s x .P ⸴ agentOf s x .Zc ⸴ agentOf s x .Zp ⟩
   put-attribute x there = tuple
       (fun-ext λ j. put-valueIn (Attributes x) k v 1 s key room there (omega arith) (Attributes x) j ∙ ap (λ (b : Bool). cond b (Present v) (agentOf s x .I j)) (here j k x))
-      (L-same after s x (λ j l. other (Mark (Entries x) j) l (rw and-false) refl) (λ j l. other (Word (Entries x) j) l refl (rw and-false)))
+      (L-same after s x (λ j l. other (Mark (Entries x) j) l (rw and-false) refl) (λ j l. other (Word (Entries x) j) l refl (rw and-false)) (λ j l. other (Writer x j) l refl refl))
       (term-same after s x (put-length (Attributes x) k v 1 s) (other (Length x) tt refl refl) (λ i l. other (Residual x i) l refl refl))
       (Zc-same after s x (other (Waits Zc x) tt refl refl))
       (Zp-same after s x (other (Waits Zp x) tt refl refl))
@@ -108,7 +109,8 @@ module _ (t : Table) (s : List ℕ) (x : ℕ) (d : Derivation) (room : HasBlocks
       → agentOf final x ≡ ⟨ agentOf keySet x .I ⸴ agentOf keySet x .L ⸴ d .leaving ⸴ (λ k. has gains k) ⸴ agentOf keySet x .Zp ⟩
   final-agent low short = tuple
       (I-same final keySet x (λ k l. final-other (Mark (Attributes x) k) l refl refl (λ i. refl)) (λ k l. final-other (Word (Attributes x) k) l refl refl (λ i. refl)))
-      (L-same final keySet x (λ k l. final-other (Mark (Entries x) k) l refl refl (λ i. refl)) (λ k l. final-other (Word (Entries x) k) l refl refl (λ i. refl)))
+      (L-same final keySet x (λ k l. final-other (Mark (Entries x) k) l refl refl (λ i. refl)) (λ k l. final-other (Word (Entries x) k) l refl refl (λ i. refl))
+      (λ k l. final-other (Writer x k) l refl refl (λ i. refl)))
       (acted-term t s x d room there low short)
       (ap (λ (w : ℕ). λ (k : ℕ). has w k) (acted-zc t s x d room there))
       (Zp-same final keySet x (final-other (Waits Zp x) tt refl refl (λ i. refl)))
@@ -151,15 +153,15 @@ module _ (t : Table) (s : List ℕ) (x : ℕ) (d : Derivation) (room : HasBlocks
         regroup false false false = refl
 
     finished : (E₁ : Interface) (T₁ : ℕ) (b : Agent) → agentOf keySet x ≡ b → ((y : ℕ) → (y ≡ x → ⊥) → agentOf keySet y ≡ agentOf s y)
-        → systemOf keySet .E ≡ E₁ → clockOf keySet ≡ T₁ → Acts t (systemOf s .E) (clockOf s) a d E₁ T₁ (after b)
+        → systemOf keySet .E ≡ E₁ → clockOf keySet ≡ T₁ → Acts t (systemOf s .E) (clockOf s) x a d E₁ T₁ (after b)
         → Acted t agents x d (systemOf s) (systemOf final)
     finished E₁ T₁ b own others e c did =
         record {
           there = is;
           acts =
-              subst (λ (E′ : Interface). Acts t (systemOf s .E) (clockOf s) a d E′ (clockOf final) (agentOf final x)) (sym (final-environment ∙ e))
-              (subst (λ (T : ℕ). Acts t (systemOf s .E) (clockOf s) a d E₁ T (agentOf final x)) (sym (final-clock ∙ c))
-              (subst (λ (o : Agent). Acts t (systemOf s .E) (clockOf s) a d E₁ T₁ o) (sym mine) did));
+              subst (λ (E′ : Interface). Acts t (systemOf s .E) (clockOf s) x a d E′ (clockOf final) (agentOf final x)) (sym (final-environment ∙ e))
+              (subst (λ (T : ℕ). Acts t (systemOf s .E) (clockOf s) x a d E₁ T (agentOf final x)) (sym (final-clock ∙ c))
+              (subst (λ (o : Agent). Acts t (systemOf s .E) (clockOf s) x a d E₁ T₁ o) (sym mine) did));
           others = λ y l o. final-others y o ∙ others y o;
         }
       where
@@ -228,7 +230,7 @@ module _ (t : Table) (ok : Checked t) (s : List ℕ) (narrow : Narrow t s) (room
     -- u are the words with the key set
     finish : (u : List ℕ) → setKey t s x (Acting n) ≡ u → (E₁ : Interface) (T₁ : ℕ) (b : Agent) → agentOf u x ≡ b
         → ((y : ℕ) → (y ≡ x → ⊥) → agentOf u y ≡ agentOf s y) → systemOf u .E ≡ E₁ → clockOf u ≡ T₁
-        → Acts t (systemOf s .E) (clockOf s) me d E₁ T₁ ⟨ b .I ⸴ b .L ⸴ T ⸴ (b .Zc ∪ known me (labelKeys t (Acting n))) ∪ known me (guardKeys t g) ⸴ b .Zp ⟩
+        → Acts t (systemOf s .E) (clockOf s) x me d E₁ T₁ ⟨ b .I ⸴ b .L ⸴ T ⸴ (b .Zc ∪ known me (labelKeys t (Acting n))) ∪ known me (guardKeys t g) ⸴ b .Zp ⟩
         → Acted t (t .sizes .agents) x d (systemOf s) (systemOf (acted t s x d))
     finish u e E₁ T₁ b own others environs clocks =
         finished t s x d room there ok (inside d (r .moves)) short (t .sizes .agents) is E₁ T₁ b (ap (λ (w : List ℕ). agentOf w x) e ∙ own)
@@ -257,33 +259,40 @@ module _ (t : Table) (ok : Checked t) (s : List ℕ) (narrow : Narrow t s) (room
     done-stigmergy : kindAt t n ≡ 3 → Done
     done-stigmergy k =
         finish (set queued clockAt m) (set-entry t s x n k)
-        (systemOf s .E) (suc (clockOf s)) ⟨ me .I ⸴ me .L ⟦ p ≔ some (entry v (suc (clockOf s))) ⟧ ⸴ me .P ⸴ me .Zc ⸴ me .Zp ∪｛ p ｝ ⟩
+        (systemOf s .E) (suc (clockOf s)) ⟨ me .I ⸴ me .L ⟦ p ≔ some (entry v (suc (clockOf s)) x) ⟧ ⸴ me .P ⸴ me .Zc ⸴ me .Zp ∪｛ p ｝ ⟩
         (clock-agents queued m x ∙ add-zp-agent x p entered entered-room there
-        ∙ ap (λ (o : Agent). ⟨ o .I ⸴ o .L ⸴ o .P ⸴ o .Zc ⸴ o .Zp ∪｛ p ｝ ⟩) (put-agent x p v m s key room there (omega arith))
-        ∙ ap (λ (i : ℕ). ⟨ me .I ⸴ me .L ⟦ p ≔ some (entry v i) ⟧ ⸴ me .P ⸴ me .Zc ⸴ me .Zp ∪｛ p ｝ ⟩) (add-one (clockOf s)))
+        ∙ ap (λ (o : Agent). ⟨ o .I ⸴ o .L ⸴ o .P ⸴ o .Zc ⸴ o .Zp ∪｛ p ｝ ⟩) (put-agent x p fresh s key room there (omega arith))
+        ∙ ap (λ (i : ℕ). ⟨ me .I ⸴ me .L ⟦ p ≔ some (entry v i x) ⟧ ⸴ me .P ⸴ me .Zc ⸴ me .Zp ∪｛ p ｝ ⟩) (add-one (clockOf s)))
         (λ y o. clock-agents queued m y
-        ∙ agent-same queued entered y (add-length Zp x p entered) (λ q h b f. add-other Zp x p entered q h (apart q (Waits Zp x) y b f (λ l i. o (sym i))))
-        ∙ put-agents (Entries x) p v m s key y (λ l f. o (sym f)))
-        (fun-ext λ j. value-same (set queued clockAt m) s Environment j (λ l. stays (Mark Environment j) l refl refl (rw and-false) refl) (λ l. stays (Word Environment j) l refl refl refl (rw and-false)))
+        ∙ agent-same queued entered y (add-length Zp x p entered) (λ q h b f. add-other Zp x p entered q h (away q (Waits Zp x) y b f o))
+        ∙ agent-same entered s y (put-entry-length x p fresh s)
+        (λ q h b f. put-entry-other x p fresh s key q h (away q (Mark (Entries x) p) y b f o) (away q (Word (Entries x) p) y b f o) (away q (Writer x p) y b f o)))
+        (fun-ext λ j. value-same (set queued clockAt m) s Environment j (λ l. stays (Mark Environment j) l refl refl (rw and-false) refl refl) (λ l. stays (Word Environment j) l refl refl refl (rw and-false) refl))
         (set-here queued Clock m tt (omega (arith, add-length Zp x p entered, entered-room)) (omega arith) ∙ add-one (clockOf s))
         (EVAL-L v (LSTIG (r .moves .1) (stigmergy-action t n k) is-settled) await value-is
-        (inserted (me .L) p (entry v (suc (clockOf s))) (λ f i. omega (arith, sym (ap timeIn i) ∙ entry-stamp s x p key, formed .formed .pairs (Entries x) is p key .bound))))
+        (inserted (me .L) p (entry v (suc (clockOf s)) x) (λ f i. omega (arith, sym (ap timeIn i) ∙ entry-stamp s x p key, formed .formed .pairs (Entries x) is p key .bound))))
       where
         m : ℕ
         m = nextStamp s
 
+        fresh : Stored
+        fresh = stored v m x
+
         entered : List ℕ
-        entered = put (Entries x) p v m s
+        entered = putEntry x p fresh s
 
         queued : List ℕ
         queued = addKey (zpAt x) p entered
 
         entered-room : HasBlocks entered
-        entered-room = omega (arith, put-length (Entries x) p v m s, room)
+        entered-room = omega (arith, put-entry-length x p fresh s, room)
 
         stays : (q : Place) → Inside q → same q Clock ≡ false → same q (Waits Zp x) ≡ false → same q (Mark (Entries x) p) ≡ false → same q (Word (Entries x) p) ≡ false
-            → SameAt (set queued clockAt m) s q
-        stays q h a b c e = set-other queued Clock m tt q h a ∙ add-other Zp x p entered q h b ∙ put-other (Entries x) p v m s key q h c e
+            → same q (Writer x p) ≡ false → SameAt (set queued clockAt m) s q
+        stays q h a b c e f = set-other queued Clock m tt q h a ∙ add-other Zp x p entered q h b ∙ put-entry-other x p fresh s key q h c e f
+
+        away : (q r : Place) (y : ℕ) → 0 < placeKind q → ownerOf q ≡ y → (y ≡ ownerOf r → ⊥) → same q r ≡ false
+        away q r y b f o = apart q r y b f (λ l i. o (sym i))
 
   -- AN ENABLED DERIVATION IS DONE by the rules, and leaves what the words then stand for
   act-by : (l : Label) (g : List ℕ) (T : Term) → Enabled t s x (derivation l g T) → length (words T) ≤ residualWords
@@ -329,7 +338,7 @@ module _ (t : Table) (ok : Checked t) (s : List ℕ) (narrow : Narrow t s) (room
         present = v;
       }
 
-  acts-enabled : {d : Derivation} {E₁ : Interface} {T₁ : ℕ} {b : Agent} → Acts t (systemOf s .E) (clockOf s) me d E₁ T₁ b → Enabled t s x d
+  acts-enabled : {d : Derivation} {E₁ : Interface} {T₁ : ℕ} {b : Agent} → Acts t (systemOf s .E) (clockOf s) x me d E₁ T₁ b → Enabled t s x d
   acts-enabled {d} (EPSILON m g) = enabled m g (still (d .label) (wills-will m))
   acts-enabled {d} (EVAL-I {e = e} {x = k} v m g h) = enabled m g (valued (d .label) e (attribute k) v (wills-will m) h)
   acts-enabled {d} (EVAL-L {e = e} {x = k} v m g h i) = enabled m g (valued (d .label) e (stigmergy k) v (wills-will m) h)
@@ -349,10 +358,11 @@ module _ (t : Table) (ok : Checked t) (s : List ℕ) (narrow : Narrow t s) (room
   -- the clock after it
   clock-entry : (n : ℕ) → kindAt t n ≡ 3 → clockOf (setKey t s x (Acting n)) ≡ suc (clockOf s)
   clock-entry n k =
-      let entered = put (Entries x) (pAt t n) (wordIn (valueFor t s x n)) (nextStamp s) s in
+      let e = stored (wordIn (valueFor t s x n)) (nextStamp s) x in
+      let entered = putEntry x (pAt t n) e s in
       ap (λ (u : List ℕ). clockOf u) (set-entry t s x n k)
       ∙ set-here (addKey (zpAt x) (pAt t n) entered) Clock (nextStamp s) tt
-      (omega (arith, add-length Zp x (pAt t n) entered, put-length (Entries x) (pAt t n) (wordIn (valueFor t s x n)) (nextStamp s) s, room)) (omega arith)
+      (omega (arith, add-length Zp x (pAt t n) entered, put-entry-length x (pAt t n) e s, room)) (omega arith)
       ∙ add-one (clockOf s)
 
   clock-other : (n : ℕ) → ActionNode t n → (kindAt t n ≡ 3 → ⊥) → clockOf (setKey t s x (Acting n)) ≡ clockOf s

@@ -21,7 +21,7 @@ use Rattle.term.specs.Accepted.{ActionNode, GuardNode, Labelled}
 use Rattle.term.proofs.Each.{Each}
 use Rattle.term.proofs.Inside.{Inside}
 use Rattle.state.specs.declared.Store.the-variants.{Entries}
-use Rattle.state.specs.Layout.{keyLimit, wordOf, stampOf}
+use Rattle.state.specs.Layout.{keyLimit, wordOf, stampOf, writerOf}
 use Rattle.state.specs.Evaluation.{holds}
 use Rattle.steps.specs.Acts.{allHold, guardsRead, labelReads, toConfirm}
 use Rattle.labs.specs.Agents.{Entry, Keys}
@@ -75,7 +75,7 @@ labelKeys t (Acting n) = K⟦ exprOf t (qAt t n) ⟧
 pub present-entry : (s : List ℕ) (x k : ℕ) → present (entryOf s x k) ≡ (ltb k keyLimit && ltb 0 (stampOf s x k))
 present-entry s x k = by (ltb k keyLimit) (stampOf s x k)
   where
-    by : (b : Bool) (m : ℕ) → present (cond b (cond {A = Option Entry} (eqb m 0) none (some (record { value = wordOf s (Entries x) k; time = m }))) none) ≡ (b && ltb 0 m)
+    by : (b : Bool) (m : ℕ) → present (cond b (cond {A = Option Entry} (eqb m 0) none (some (record { value = wordOf s (Entries x) k; time = m; writer = writerOf s x k }))) none) ≡ (b && ltb 0 m)
     by true zero = refl
     by true (suc m) = rw (eqb·suc-zero m, lt-ltb 0 (suc m) (omega arith))
     by false m = refl

@@ -74,7 +74,7 @@ module _ (bytes : List ℕ) where
           → (a b : ℕ) → List·Memᴰ a l → List·Memᴰ b l → Agree (stateAfter bytes end) k a b
       chain k l h near silent a b m n =
           let e = sym (entry-there bytes end k a h) ∙ same ∙ entry-there bytes end k b h in
-          (ap stampIn e, ap (λ (p : Entry). p .value) e)
+          (ap stampIn e, ap (λ (p : Entry). p .value) e, ap (λ (p : Entry). p .writer) e)
         where
           none : NoneWaits l (machine bytes .view (stateAfter bytes end) k)
           none c i w = let z = subst (λ (v : View Entry). T (v .waits c)) (view-there bytes (stateAfter bytes end) k h) w in rw (silent c i .1) at z

@@ -20,7 +20,7 @@ use Rattle.term.specs.Processes.{Derivation, derivation, derivations, few, proc
 use Rattle.term.specs.Terms.{Term, Seq, Par, Tick, Idle, Node}
 use Rattle.state.specs.declared.Store.{Store}
 use Rattle.state.specs.declared.Store.the-variants.{Environment, Attributes, Entries}
-use Rattle.state.specs.Layout.{isWhole, keyLimit, stampOf, termIn, valueIn}
+use Rattle.state.specs.Layout.{isWhole, keyLimit, stampOf, writerOf, termIn, valueIn}
 use Rattle.state.specs.WellFormed.{Proper}
 use Rattle.state.specs.Standing.{HasBlocks}
 use Rattle.state.proofs.Places.{KeySet, Zc, Zp, Waits}
@@ -40,7 +40,7 @@ use Rattle.labs.specs.Reading.{agentOf, systemOf}
 use Rattle.theorems.specs.Demand2.{Allowed, act, propagate, confirm, Same, Ready, Demand-2}
 use Rattle.theorems.proofs.Moves.{trees-listed}
 use Rattle.theorems.proofs.Expressions.{Narrow, entry-value, link-holds}
-use Rattle.theorems.proofs.Reading.{timeIn, entry-stamp}
+use Rattle.theorems.proofs.Reading.{timeIn, entry-stamp, writerIn, entry-writer}
 use Rattle.theorems.proofs.Ready.{ready-narrow, done-ready, load-ready, load-initial}
 use Rattle.theorems.proofs.Acting.{act-exactly}
 use Rattle.theorems.proofs.Offers.{sent-passed, passed-sent}
@@ -182,12 +182,19 @@ module _ (bytes s : List ℕ) (scratch : ℕ) (ready : Ready bytes s scratch) wh
     sets Zc a l k = ap (λ (b : Agent). b .Zc k) (agent a l)
     sets Zp a l k = ap (λ (b : Agent). b .Zp k) (agent a l)
 
+    stamp : (a : ℕ) → a < A → (k : ℕ) → k < keyLimit → stampOf u a k ≡ stampOf v a k
+    stamp a h k l = sym (entry-stamp u a k l) ∙ ap (λ (b : Agent). timeIn (b .L k)) (agent a h) ∙ entry-stamp v a k l
+
+    writer : (a : ℕ) → a < A → (k : ℕ) → k < keyLimit → 0 < stampOf u a k → writerOf u a k ≡ writerOf v a k
+    writer a h k l pos = sym (entry-writer u a k l pos) ∙ ap (λ (b : Agent). writerIn (b .L k)) (agent a h) ∙ entry-writer v a k l (omega (arith, stamp a h k l))
+
     one : u ≡ v
     one = show-exact t u v (proper-facts t limits u first .formed) (proper-facts t limits v second .formed)
         (record {
           clock = same .clock-same;
           values = λ store h k l. values store h k;
-          stamps = λ a h k l. sym (entry-stamp u a k l) ∙ ap (λ (b : Agent). timeIn (b .L k)) (agent a h) ∙ entry-stamp v a k l;
+          stamps = stamp;
+          writers = writer;
           sets = λ z a h k l. sets z a h k;
           terms = λ a h. ap (λ (b : Agent). b .P) (agent a h);
         }) (first .whole) (second .whole)

@@ -13,7 +13,7 @@ use Rattle.agreement.proofs.History.{numbered-at}
 use Rattle.table.specs.Tables.{tableOf}
 use Rattle.state.specs.declared.Store.the-variants.{Entries}
 use Rattle.state.specs.declared.Entry.{Entry}
-use Rattle.state.specs.Layout.{keyLimit, wordOf, stampOf}
+use Rattle.state.specs.Layout.{keyLimit, wordOf, stampOf, writerOf}
 use Rattle.state.specs.WellFormed.{loaded}
 use Rattle.steps.specs.Steps.{Outcome}
 use Rattle.steps.proofs.Steps.{load-accepted, accepted-load}
@@ -41,18 +41,25 @@ module _ (bytes : List ℕ) (few : tableOf bytes .sizes .stigmergy ≤ keyLimit)
     equal = λ a b k h i l e.
         let p = entry-there bytes xs k a l in
         let q = entry-there bytes xs k b l in
-        ap (λ (r : Entry). r .value) (sym p ∙ all .equal k a b (ap stampIn p ∙ e ∙ sym (ap stampIn q)) ∙ q);
+        let f = sym p ∙ all .equal k a b (ap stampIn p ∙ e ∙ sym (ap stampIn q)) ∙ q in
+        (ap (λ (r : Entry). r .value) f, ap (λ (r : Entry). r .writer) f);
     never-fall = λ before since e a k h l. omega (arith, all .never-fall before since e k a, ap stampIn (entry-there bytes before k a l), ap stampIn (entry-there bytes xs k a l));
     pair = λ a b k h i l held. contact-load bytes few xs .pair a b k h i l (steady-held bytes few xs k a b held);
   }
     where
       written-there : (k a : ℕ) → k < tableOf bytes .sizes .stigmergy → 0 < stampOf (stateAfter bytes xs) a k
-          → (w : Write) × (getElem? (history bytes xs) (stampOf (stateAfter bytes xs) a k - 1) ≡ some w) × (w .key ≡ k) × (w .value ≡ wordOf (stateAfter bytes xs) (Entries a) k)
+          → (w : Write) × (getElem? (history bytes xs) (stampOf (stateAfter bytes xs) a k - 1) ≡ some w) × (w .key ≡ k)
+          × (w .value ≡ wordOf (stateAfter bytes xs) (Entries a) k) × (w .agent ≡ writerOf (stateAfter bytes xs) a k)
       written-there k a l pos =
           let w = subst (λ (r : Entry). 0 < r .stamp → WrittenAt stampIn (λ (w : Write). w .key) written noWrite (history bytes xs) k r)
           (entry-there bytes xs k a l) (all .written noWrite k a) pos in
-          let inside = w .in-history in
-          (writeAt noWrite (history bytes xs) (stampOf (stateAfter bytes xs) a k), nth-in (history bytes xs) _ noWrite (omega arith), w .same-key, ap (λ (r : Entry). r .value) (w .same-entry))
+          let inside = w .in-history in (
+            writeAt noWrite (history bytes xs) (stampOf (stateAfter bytes xs) a k),
+            nth-in (history bytes xs) _ noWrite (omega arith),
+            w .same-key,
+            ap (λ (r : Entry). r .value) (w .same-entry),
+            ap (λ (r : Entry). r .writer) (w .same-entry),
+          )
 
 pub demand-3 : Demand-3-holds
 demand-3 bytes lent scratch e =

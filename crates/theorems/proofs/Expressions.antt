@@ -20,7 +20,7 @@ use Rattle.table.specs.Tables.{Table, kindAt, pAt, qAt, constantAt, linkAt}
 use Rattle.table.specs.Sound.{Limits}
 use Rattle.state.specs.declared.Store.{Store}
 use Rattle.state.specs.declared.Store.the-variants.{Environment, Attributes, Entries}
-use Rattle.state.specs.Layout.{keyLimit, wordOf, stampOf, valueIn}
+use Rattle.state.specs.Layout.{keyLimit, wordOf, stampOf, writerOf, valueIn}
 use Rattle.state.specs.Evaluation.{valueStep, valueOf, truthStep, holds, linkHolds}
 use Rattle.state.specs.WellFormed.{Words}
 use Rattle.state.specs.Walks.{truthBelow}
@@ -40,7 +40,7 @@ unfolding valueIn
 entry-value s a k = by (ltb k keyLimit) (eqb (stampOf s a k) 0)
   where
     by : (b c : Bool)
-        → valueOfEntry (cond b (cond {A = Option Entry} c none (some (record { value = wordOf s (Entries a) k; time = stampOf s a k }))) none)
+        → valueOfEntry (cond b (cond {A = Option Entry} c none (some (record { value = wordOf s (Entries a) k; time = stampOf s a k; writer = writerOf s a k }))) none)
         ≡ cond b (cond c Absent (Present (wordOf s (Entries a) k))) Absent
     by true true = refl
     by true false = refl

@@ -11,7 +11,7 @@ use Rattle.agreement.proofs.Machine.{before-all}
 use Rattle.table.specs.Checks.{passes}
 use Rattle.table.specs.Tables.{tableOf}
 use Rattle.state.specs.Layout.{stateWords, zpOf}
-use Rattle.state.specs.Entries.{entryOf}
+use Rattle.state.specs.Entries.{entry, entryOf}
 use Rattle.state.specs.Evaluation.{truthStep}
 use Rattle.state.specs.WellFormed.{loaded}
 use Rattle.steps.specs.Steps.{loadOf}
@@ -19,6 +19,7 @@ use Rattle.steps.proofs.Computing.{computing}
 use Rattle.theorems.specs.Lists.{Step, next, stateAfter}
 use Rattle.theorems.specs.Demand3.{history, HeldBeforeSteps}
 use Rattle.theorems.proofs.Instance.{fleet}
+use Rattle.theorems.proofs.Instances.{smallFleet, steps}
 
 abbrev step : ℕ → ℕ → ℕ → Step
 step kind agent number = record { kind = kind; agent = agent; number = number; scratch = 16 }
@@ -41,18 +42,27 @@ pub record Rehearsed : Type 0 where
   -- the history has one write
   pub one-write : history fleet (acts ++ (propagates ++ copies)) ≡ record { agent = 0; key = 0; value = 7; stamp = 1 } ∷ []
   -- after it agent 0's entry is newer than agent 1's, and the key waits in agent 0
-  pub written : entryOf (stateAfter fleet acts) 0 0 ≡ record { value = 7; stamp = 1 }
-  pub none-yet : entryOf (stateAfter fleet acts) 1 0 ≡ record { value = 0; stamp = 0 }
+  pub written : entryOf (stateAfter fleet acts) 0 0 ≡ entry 7 1 0
+  pub none-yet : entryOf (stateAfter fleet acts) 1 0 ≡ entry 0 0 0
   pub waits : has (zpOf (stateAfter fleet acts) 0) 0 ≡ true
   -- after the propagates it is not: the entries agree, and the key waits in neither
-  pub agree : (entryOf (stateAfter fleet (acts ++ propagates)) 0 0 ≡ record { value = 7; stamp = 1 })
-      × (entryOf (stateAfter fleet (acts ++ propagates)) 1 0 ≡ record { value = 7; stamp = 1 })
+  pub agree : (entryOf (stateAfter fleet (acts ++ propagates)) 0 0 ≡ entry 7 1 0)
+      × (entryOf (stateAfter fleet (acts ++ propagates)) 1 0 ≡ entry 7 1 0)
   pub silent : (has (zpOf (stateAfter fleet (acts ++ propagates)) 0) 0 ≡ false) × (has (zpOf (stateAfter fleet (acts ++ propagates)) 1) 0 ≡ false)
 
 -- by computing
 pub rehearsed : Rehearsed
 unfolding computing
 rehearsed = record { loads = refl; one-write = refl; written = refl; none-yet = refl; waits = refl; agree = (refl, refl); silent = (refl, refl) }
+
+-- writes of two agents, and an entry of each
+pub record Two-writers : Type 0 where
+  pub writes : history smallFleet steps ≡ record { agent = 0; key = 0; value = 7; stamp = 1 } ∷ record { agent = 1; key = 0; value = 9; stamp = 2 } ∷ []
+  pub entries : (entryOf (stateAfter smallFleet steps) 0 0 ≡ entry 7 1 0) × (entryOf (stateAfter smallFleet steps) 1 0 ≡ entry 9 2 1)
+
+pub two-writers : Two-writers
+unfolding computing
+two-writers = record { writes = refl; entries = (refl, refl) }
 
 -- the fleet's link is true, which reads nothing: it holds before every step of any list
 pub fleet-linked : (xs : List Step) (a b : ℕ) → HeldBeforeSteps fleet xs 0 a b

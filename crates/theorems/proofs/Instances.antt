@@ -12,7 +12,7 @@ use Rattle.table.specs.Checks.{firstOf, passes}
 use Rattle.table.specs.Tables.{tableOf}
 use Rattle.term.specs.Acceptance.{tableChecks}
 use Rattle.state.specs.declared.Store.the-variants.{Environment, Attributes, Entries}
-use Rattle.state.specs.Layout.{lengthAt, residualAt, wordOf, stampOf, zcOf, zpOf}
+use Rattle.state.specs.Layout.{lengthAt, residualAt, wordOf, stampOf, writerOf, zcOf, zpOf}
 use Rattle.state.specs.Entries.{clockOf}
 use Rattle.state.specs.WellFormed.{loaded}
 use Rattle.steps.specs.Steps.{Outcome}
@@ -41,13 +41,14 @@ abbrev pub steps : List Step
 steps =
     step 0 0 0 ∷ step 1 0 0 ∷ step 0 1 0 ∷ step 0 0 0 ∷ step 2 0 0 ∷ step 1 1 0 ∷ step 0 1 0 ∷ step 1 1 0 ∷ step 0 0 0 ∷ step 2 0 0 ∷ step 0 0 0 ∷ []
 
--- what a step comes to: how many took the entry, the clock, e; of agent 0 value and stamp of x, Zc, Zp; of agent 1 a, value and stamp of x, Zc, Zp;
+-- what a step comes to: how many took the entry, the clock, e; of agent 0 value, stamp and writer of x, Zc, Zp; of agent 1 a, value, stamp and
+-- writer of x, Zc, Zp;
 -- and the words of what is left of the stepping agent's process
 abbrev shown : ℕ → Outcome → List ℕ
 shown x o =
     o .tally .taken ∷ clockOf (o .state) ∷ wordOf (o .state) Environment 0
-    ∷ wordOf (o .state) (Entries 0) 0 ∷ stampOf (o .state) 0 0 ∷ zcOf (o .state) 0 ∷ zpOf (o .state) 0
-    ∷ wordOf (o .state) (Attributes 1) 0 ∷ wordOf (o .state) (Entries 1) 0 ∷ stampOf (o .state) 1 0 ∷ zcOf (o .state) 1 ∷ zpOf (o .state) 1
+    ∷ wordOf (o .state) (Entries 0) 0 ∷ stampOf (o .state) 0 0 ∷ writerOf (o .state) 0 0 ∷ zcOf (o .state) 0 ∷ zpOf (o .state) 0
+    ∷ wordOf (o .state) (Attributes 1) 0 ∷ wordOf (o .state) (Entries 1) 0 ∷ stampOf (o .state) 1 0 ∷ writerOf (o .state) 1 0 ∷ zcOf (o .state) 1 ∷ zpOf (o .state) 1
     ∷ take (getD (o .state) (lengthAt x) 0) (drop (residualAt x) (o .state))
 
 abbrev allShown : List ℕ → List Step → List (List ℕ)
@@ -56,17 +57,17 @@ allShown s (x ∷ xs) = shown (x .agent) (outcomeOf smallFleet s x) ∷ allShown
 
 abbrev expected : List (List ℕ)
 expected =
-    (0 ∷ 1 ∷ 0 ∷ 7 ∷ 1 ∷ 0 ∷ 1 ∷ 0 ∷ 0 ∷ 0 ∷ 0 ∷ 0 ∷ 65535 ∷ 65533 ∷ 8 ∷ [])  -- SEQ: x := 7 at the left, which leaves tick
-    ∷ (0 ∷ 1 ∷ 0 ∷ 7 ∷ 1 ∷ 0 ∷ 0 ∷ 0 ∷ 0 ∷ 0 ∷ 0 ∷ 0 ∷ 65535 ∷ 65533 ∷ 8 ∷ [])  -- the link does not hold: nobody takes x
-    ∷ (0 ∷ 1 ∷ 0 ∷ 7 ∷ 1 ∷ 0 ∷ 0 ∷ 1 ∷ 0 ∷ 0 ∷ 0 ∷ 0 ∷ 65534 ∷ 65533 ∷ 17 ∷ [])  -- the call, PAR: a := 1 at the left
-    ∷ (0 ∷ 1 ∷ 7 ∷ 7 ∷ 1 ∷ 1 ∷ 0 ∷ 1 ∷ 0 ∷ 0 ∷ 0 ∷ 0 ∷ 65535 ∷ 65533 ∷ 7 ∷ [])  -- SEQ: the tick at the left joins the right; e := x sets the environment
-    ∷ (1 ∷ 1 ∷ 7 ∷ 7 ∷ 1 ∷ 0 ∷ 0 ∷ 1 ∷ 7 ∷ 1 ∷ 0 ∷ 1 ∷ 65535 ∷ 65533 ∷ 7 ∷ [])  -- QRY1: agent 1 has no entry and takes it
-    ∷ (0 ∷ 1 ∷ 7 ∷ 7 ∷ 1 ∷ 0 ∷ 0 ∷ 1 ∷ 7 ∷ 1 ∷ 0 ∷ 0 ∷ 65534 ∷ 65533 ∷ 17 ∷ [])
-    ∷ (0 ∷ 2 ∷ 7 ∷ 7 ∷ 1 ∷ 0 ∷ 0 ∷ 1 ∷ 9 ∷ 2 ∷ 0 ∷ 1 ∷ 65534 ∷ 65533 ∷ 65533 ∷ [])  -- PAR: x := 9 at the right, under the guard e = 7
-    ∷ (0 ∷ 2 ∷ 7 ∷ 7 ∷ 1 ∷ 0 ∷ 0 ∷ 1 ∷ 9 ∷ 2 ∷ 0 ∷ 0 ∷ 65534 ∷ 65533 ∷ 65533 ∷ [])
-    ∷ (0 ∷ 2 ∷ 8 ∷ 7 ∷ 1 ∷ 1 ∷ 0 ∷ 1 ∷ 9 ∷ 2 ∷ 0 ∷ 0 ∷ 65533 ∷ [])  -- the tick joins e := x + 1
-    ∷ (0 ∷ 2 ∷ 8 ∷ 7 ∷ 1 ∷ 0 ∷ 0 ∷ 1 ∷ 9 ∷ 2 ∷ 0 ∷ 1 ∷ 65533 ∷ [])  -- QRY2: agent 1 has a newer entry, and x waits in it again
-    ∷ (0 ∷ 2 ∷ 8 ∷ 7 ∷ 1 ∷ 0 ∷ 0 ∷ 1 ∷ 9 ∷ 2 ∷ 0 ∷ 1 ∷ 65532 ∷ [])  -- the last tick
+    (0 ∷ 1 ∷ 0 ∷ 7 ∷ 1 ∷ 0 ∷ 0 ∷ 1 ∷ 0 ∷ 0 ∷ 0 ∷ 0 ∷ 0 ∷ 0 ∷ 65535 ∷ 65533 ∷ 8 ∷ [])  -- SEQ: x := 7 at the left, which leaves tick
+    ∷ (0 ∷ 1 ∷ 0 ∷ 7 ∷ 1 ∷ 0 ∷ 0 ∷ 0 ∷ 0 ∷ 0 ∷ 0 ∷ 0 ∷ 0 ∷ 0 ∷ 65535 ∷ 65533 ∷ 8 ∷ [])  -- the link does not hold: nobody takes x
+    ∷ (0 ∷ 1 ∷ 0 ∷ 7 ∷ 1 ∷ 0 ∷ 0 ∷ 0 ∷ 1 ∷ 0 ∷ 0 ∷ 0 ∷ 0 ∷ 0 ∷ 65534 ∷ 65533 ∷ 17 ∷ [])  -- the call, PAR: a := 1 at the left
+    ∷ (0 ∷ 1 ∷ 7 ∷ 7 ∷ 1 ∷ 0 ∷ 1 ∷ 0 ∷ 1 ∷ 0 ∷ 0 ∷ 0 ∷ 0 ∷ 0 ∷ 65535 ∷ 65533 ∷ 7 ∷ [])  -- SEQ: the tick at the left joins the right; e := x sets the environment
+    ∷ (1 ∷ 1 ∷ 7 ∷ 7 ∷ 1 ∷ 0 ∷ 0 ∷ 0 ∷ 1 ∷ 7 ∷ 1 ∷ 0 ∷ 0 ∷ 1 ∷ 65535 ∷ 65533 ∷ 7 ∷ [])  -- QRY1: agent 1 has no entry and takes it
+    ∷ (0 ∷ 1 ∷ 7 ∷ 7 ∷ 1 ∷ 0 ∷ 0 ∷ 0 ∷ 1 ∷ 7 ∷ 1 ∷ 0 ∷ 0 ∷ 0 ∷ 65534 ∷ 65533 ∷ 17 ∷ [])
+    ∷ (0 ∷ 2 ∷ 7 ∷ 7 ∷ 1 ∷ 0 ∷ 0 ∷ 0 ∷ 1 ∷ 9 ∷ 2 ∷ 1 ∷ 0 ∷ 1 ∷ 65534 ∷ 65533 ∷ 65533 ∷ [])  -- PAR: x := 9 at the right, under the guard e = 7
+    ∷ (0 ∷ 2 ∷ 7 ∷ 7 ∷ 1 ∷ 0 ∷ 0 ∷ 0 ∷ 1 ∷ 9 ∷ 2 ∷ 1 ∷ 0 ∷ 0 ∷ 65534 ∷ 65533 ∷ 65533 ∷ [])
+    ∷ (0 ∷ 2 ∷ 8 ∷ 7 ∷ 1 ∷ 0 ∷ 1 ∷ 0 ∷ 1 ∷ 9 ∷ 2 ∷ 1 ∷ 0 ∷ 0 ∷ 65533 ∷ [])  -- the tick joins e := x + 1
+    ∷ (0 ∷ 2 ∷ 8 ∷ 7 ∷ 1 ∷ 0 ∷ 0 ∷ 0 ∷ 1 ∷ 9 ∷ 2 ∷ 1 ∷ 0 ∷ 1 ∷ 65533 ∷ [])  -- QRY2: agent 1 has a newer entry, and x waits in it again
+    ∷ (0 ∷ 2 ∷ 8 ∷ 7 ∷ 1 ∷ 0 ∷ 0 ∷ 0 ∷ 1 ∷ 9 ∷ 2 ∷ 1 ∷ 0 ∷ 1 ∷ 65532 ∷ [])  -- the last tick
     ∷ []
 
 -- by computing

@@ -27,7 +27,7 @@ use Rattle.state.specs.Layout.{keyLimit}
 use Rattle.state.specs.Entries.{clockOf, entryOf, newer}
 use Rattle.state.specs.WellFormed.{loaded}
 use Rattle.state.proofs.Places.{Zp, Word}
-use Rattle.state.proofs.Load.{loaded-zero, loaded-clock, loaded-mark, loaded-set}
+use Rattle.state.proofs.Load.{loaded-zero, loaded-clock, loaded-mark, loaded-writer, loaded-set}
 use Rattle.steps.specs.Acts.{chosen}
 use Rattle.steps.specs.Steps.{Outcome, after}
 use Rattle.steps.proofs.Steps.{Done, done-step, step-done, step-refused}
@@ -192,7 +192,7 @@ module _ (bytes : List ℕ) where
       entry : (a k : ℕ) (b : Bool) → ltb k S ≡ b → cond b (seen (loaded t) k) (blank absent) .entry a ≡ absent
       entry a k true e =
           let l = ltb-true k S e in
-          same-entry (loaded-zero t (Word (Entries a) k) (omega arith) refl (λ b h. refl) (λ b h. refl)) (loaded-mark t (Entries a) k (omega arith))
+          same-entry (loaded-zero t (Word (Entries a) k) (omega arith) refl (λ b h. refl) (λ b h. refl)) (loaded-mark t (Entries a) k (omega arith)) (loaded-writer t a k (omega arith))
       entry a k false e = refl
 
       waits : (a k : ℕ) (b : Bool) → ltb k S ≡ b → cond b (seen (loaded t) k) (blank absent) .waits a ≡ false

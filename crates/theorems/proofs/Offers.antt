@@ -14,13 +14,14 @@ use Rattle.basis.specs.KeySets.{has}
 use Rattle.basis.proofs.Tests.{not-both, and-left, and-right, and-both}
 use Rattle.table.specs.Tables.{Table}
 use Rattle.table.specs.Sound.{Limits}
-use Rattle.state.specs.declared.Store.the-variants.{Environment, Entries}
-use Rattle.state.specs.Layout.{keyLimit, wordOf, stampOf, dropKey}
-use Rattle.state.specs.Entries.{entry as stored, entryOf, putEntry}
+use Rattle.state.specs.declared.Store.the-variants.{Environment}
+use Rattle.state.specs.declared.Entry.{Entry as Stored}
+use Rattle.state.specs.Layout.{keyLimit, stampOf, dropKey}
+use Rattle.state.specs.Entries.{entryOf, putEntry}
 use Rattle.state.specs.Standing.{HasBlocks}
 use Rattle.state.specs.Evaluation.{linkHolds}
 use Rattle.state.proofs.Places.{Place, KeySet, Zc, Zp, Clock, Mark, Word, Waits, placeAt, placeKind, Inside, same-not, other-agent}
-use Rattle.state.proofs.Frames.{wordAt, SameAt, put-length, drop-length, drop-other, value-same}
+use Rattle.state.proofs.Frames.{wordAt, SameAt, put-entry-length, drop-length, drop-other, value-same}
 use Rattle.steps.specs.declared.Response.the-variants.{Takes, Propagates, Ignores}
 use Rattle.steps.specs.Tallies.{tally}
 use Rattle.steps.specs.Offers.{takeEntry, responded, linked, takes, holdsNewer, response, offer, offered, offerTally, sent}
@@ -30,7 +31,7 @@ use Rattle.labs.specs.Systems.{Kind, put, qry, Message, message, Sends, PROPAGA
 use Rattle.labs.specs.Reading.{agentOf, systemOf}
 use Rattle.theorems.specs.Demand2.{Same}
 use Rattle.theorems.proofs.Expressions.{Narrow, link-holds}
-use Rattle.theorems.proofs.Reading.{entry, timeIn, entry-present, entry-stamp, agent-same, put-agent, with, keysIn, add-zp-agent, drop-agent}
+use Rattle.theorems.proofs.Reading.{labsEntry, timeIn, entry-present, entry-stamp, agent-same, put-agent, with, keysIn, add-zp-agent, drop-agent}
 use Rattle.theorems.proofs.Passing.{inserted, sends-zp, sends-zc, passed-unique, passed-count}
 
 -- older and newer, by the stamp
@@ -57,18 +58,18 @@ asking false e = let z : _≡_ {A = ℕ} 0 1 = cc in absurd (omega arith)
 abbrev took : ℕ → Entry → Agent → Agent
 took k e a = ⟨ a .I ⸴ a .L ⟦ k ≔ some e ⟧ ⸴ a .P ⸴ a .Zc ∖｛ k ｝ ⸴ a .Zp ∪｛ k ｝ ⟩
 
-took-agent : (k v m y : ℕ) (s : List ℕ) → k < keyLimit → HasBlocks s → y < 32 → 0 < m → agentOf (takeEntry k (stored v m) y s) y ≡ took k (entry v m) (agentOf s y)
+took-agent : (k : ℕ) (e : Stored) (y : ℕ) (s : List ℕ) → k < keyLimit → HasBlocks s → y < 32 → 0 < e .stamp → agentOf (takeEntry k e y s) y ≡ took k (labsEntry e) (agentOf s y)
 unfolding takeEntry
-took-agent k v m y s key room there pos =
-    let given = putEntry y k (stored v m) s in
-    let p : HasBlocks given = omega (arith, put-length (Entries y) k v m s, room) in
+took-agent k e y s key room there pos =
+    let given = putEntry y k e s in
+    let p : HasBlocks given = omega (arith, put-entry-length y k e s, room) in
     add-zp-agent y k (dropKey (placeAt (Waits Zc y)) k given) (omega (arith, drop-length Zc y k given, p)) there
     ∙ ap (λ (a : Agent). with Zp a (a .Zp ∪｛ k ｝))
-    (drop-agent y k given p there Zc ∙ ap (λ (a : Agent). with Zc a (a .Zc ∖｛ k ｝)) (put-agent y k v m s key room there pos))
+    (drop-agent y k given p there Zc ∙ ap (λ (a : Agent). with Zc a (a .Zc ∖｛ k ｝)) (put-agent y k e s key room there pos))
 
 module _ (t : Table) (limits : Limits (t .sizes)) (was : List ℕ) (narrow : Narrow t was) (x k agents : ℕ) (room : HasBlocks was) (few : agents ≤ 32) (there : x < agents) (key : k < keyLimit) (entered : 0 < stampOf was x k) where
   abbrev mine : Entry
-  mine = entry (wordOf was (Entries x) k) (stampOf was x k)
+  mine = labsEntry (entryOf was x k)
 
   abbrev said : Kind → Message
   said kind = message kind (agentOf was x) k mine
@@ -135,7 +136,7 @@ module _ (t : Table) (limits : Limits (t .sizes)) (was : List ℕ) (narrow : Nar
           Result b (agentOf (responded k (entryOf was x k) y (cond b Takes (cond c Propagates Ignores)) now) y)
       unfolding takes holdsNewer responded
       by-offer true e c f =
-          subst (Result true) (sym (took-agent k (wordOf was (Entries x) k) (stampOf was x k) y now key now-room (omega arith) entered ∙ ap (took k mine) before))
+          subst (Result true) (sym (took-agent k (entryOf was x k) y now key now-room (omega arith) entered ∙ ap (took k mine) before))
           (taking confirming (ltb-true (stampOf was y k) (stampOf was x k) (and-right (linked t was x k true y) _ e)) (and-left (linked t was x k true y) _ e))
       by-offer false e true f =
           let a = and-right confirming _ f in

@@ -10,7 +10,7 @@ use Rattle.basis.proofs.Tests.{not-both}
 use Rattle.table.specs.Checks.{passes}
 use Rattle.table.specs.Tables.{tableOf}
 use Rattle.state.specs.Layout.{stateWords}
-use Rattle.state.specs.Entries.{entryOf}
+use Rattle.state.specs.Entries.{entry, entryOf}
 use Rattle.state.specs.Evaluation.{linkHolds}
 use Rattle.state.specs.WellFormed.{loaded}
 use Rattle.steps.specs.Steps.{loadOf}
@@ -49,10 +49,10 @@ pub record Silent-disagree : Type 0 where
   -- the link from agent 0 to agent 1 did not hold before the propagate, though it holds at the end
   pub not-linked : linkHolds (tableOf (ranged 1 3)) (stateAfter (ranged 1 3) (act ∷ [])) 0 0 1 ≡ false
   pub now-linked : linkHolds (tableOf (ranged 1 3)) (stateAfter (ranged 1 3) tooEarly) 0 0 1 ≡ true
-  -- the key waits in neither, agent 0 has value 7 with stamp 1, and agent 1 has no entry
+  -- the key waits in neither, agent 0 has its own value 7 with stamp 1, and agent 1 has no entry
   pub silent : Silent (stateAfter (ranged 1 3) tooEarly) 0 0 × Silent (stateAfter (ranged 1 3) tooEarly) 0 1
-  pub has-entry : entryOf (stateAfter (ranged 1 3) tooEarly) 0 0 ≡ record { value = 7; stamp = 1 }
-  pub has-none : entryOf (stateAfter (ranged 1 3) tooEarly) 1 0 ≡ record { value = 0; stamp = 0 }
+  pub has-entry : entryOf (stateAfter (ranged 1 3) tooEarly) 0 0 ≡ entry 7 1 0
+  pub has-none : entryOf (stateAfter (ranged 1 3) tooEarly) 1 0 ≡ entry 0 0 0
 
 -- by computing
 pub silent-disagree : Silent-disagree
@@ -67,7 +67,7 @@ pub record Covered : Type 0 where
   pub loads : loadOf (ranged 3 1) (replicate stateWords 0) 24 .check ≡ passes
   pub not-always : HeldBeforeSteps (ranged 3 1) inRange 0 0 1 → ⊥
   pub held : HeldBeforePropagates (ranged 3 1) (loaded (tableOf (ranged 3 1))) inRange 0 0 1
-  pub has-entry : entryOf (stateAfter (ranged 3 1) inRange) 1 0 ≡ record { value = 7; stamp = 1 }
+  pub has-entry : entryOf (stateAfter (ranged 3 1) inRange) 1 0 ≡ entry 7 1 0
 
 pub covered : Covered
 unfolding computing

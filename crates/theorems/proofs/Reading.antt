@@ -14,10 +14,12 @@ use Rattle.basis.specs.KeySets.{has}
 use Rattle.basis.proofs.Tests.{same-or-other}
 use Rattle.term.specs.Terms.{Term}
 use Rattle.state.specs.declared.Store.the-variants.{Attributes, Entries}
-use Rattle.state.specs.Layout.{keyLimit, wordOf, stampOf, zpAt, put, addKey, dropKey}
+use Rattle.state.specs.declared.Entry.{Entry as Stored}
+use Rattle.state.specs.Layout.{keyLimit, wordOf, stampOf, writerOf, zpAt, addKey, dropKey}
+use Rattle.state.specs.Entries.{putEntry}
 use Rattle.state.specs.Standing.{HasBlocks}
-use Rattle.state.proofs.Places.{Place, KeySet, Zc, Zp, Mark, Word, Waits, Length, Residual, placeAt, Inside, placeKind, placeAgent, same}
-use Rattle.state.proofs.Frames.{wordAt, SameAt, value-same, term-same, put-length, put-other, put-mark, put-value, put-valueIn, add-length, add-other, has-add, drop-length, drop-other, has-drop}
+use Rattle.state.proofs.Places.{Place, KeySet, Zc, Zp, Mark, Word, Writer, Waits, Length, Residual, placeAt, Inside, placeKind, placeAgent, same}
+use Rattle.state.proofs.Frames.{wordAt, SameAt, value-same, term-same, put-entry-length, put-entry-other, put-entry-value, put-entry-stamp, put-entry-writer, add-length, add-other, has-add, drop-length, drop-other, has-drop}
 use Rattle.labs.specs.Agents.{⟨_⸴_⸴_⸴_⸴_⟩, Agent, Entry, Interface, Stigmergy, Keys, _⟦_≔_⟧, _∪｛_｝, _∖｛_｝}
 use Rattle.labs.specs.Reading.{entryOf, agentOf}
 
@@ -25,29 +27,37 @@ pub tuple : {I I′ : Interface} {L L′ : Stigmergy} {P P′ : Term} {C C′ Q 
     ⟨ I ⸴ L ⸴ P ⸴ C ⸴ Q ⟩ ≡ ⟨ I′ ⸴ L′ ⸴ P′ ⸴ C′ ⸴ Q′ ⟩
 tuple p q r u v = cc
 
-abbrev pub entry : ℕ → ℕ → Entry
-entry v time = record { value = v; time = time }
+abbrev pub entry : ℕ → ℕ → ℕ → Entry
+entry v time writer = record { value = v; time = time; writer = writer }
 
--- an entry of this value and stamp; a stamp of 0 is none
-abbrev pub stamped : ℕ → ℕ → Option Entry
-stamped v stamp = cond (eqb stamp 0) none (some (entry v stamp))
+-- an entry of this value, stamp and writer; a stamp of 0 is none
+abbrev pub stamped : ℕ → ℕ → ℕ → Option Entry
+stamped v stamp writer = cond (eqb stamp 0) none (some (entry v stamp writer))
 
 -- its stamp
 abbrev pub timeIn : Option Entry → ℕ
 timeIn none = 0
 timeIn (some e) = e .time
 
+-- its writer
+abbrev pub writerIn : Option Entry → ℕ
+writerIn none = 0
+writerIn (some e) = e .writer
+
 module _ (s : List ℕ) (a k : ℕ) where
-  pub entry-read : k < keyLimit → entryOf s a k ≡ stamped (wordOf s (Entries a) k) (stampOf s a k)
+  pub entry-read : k < keyLimit → entryOf s a k ≡ stamped (wordOf s (Entries a) k) (stampOf s a k) (writerOf s a k)
   entry-read l = rw (lt-ltb k keyLimit l)
 
-  pub entry-present : k < keyLimit → 0 < stampOf s a k → entryOf s a k ≡ some (entry (wordOf s (Entries a) k) (stampOf s a k))
+  pub entry-present : k < keyLimit → 0 < stampOf s a k → entryOf s a k ≡ some (entry (wordOf s (Entries a) k) (stampOf s a k) (writerOf s a k))
   entry-present l h = entry-read l ∙ rw (ne-eqb (stampOf s a k) 0 (omega arith))
+
+  pub entry-writer : k < keyLimit → 0 < stampOf s a k → writerIn (entryOf s a k) ≡ writerOf s a k
+  entry-writer l h = ap writerIn (entry-present l h)
 
   pub entry-stamp : k < keyLimit → timeIn (entryOf s a k) ≡ stampOf s a k
   entry-stamp l = ap timeIn (entry-read l) ∙ by (stampOf s a k)
     where
-      by : (m : ℕ) → timeIn (stamped (wordOf s (Entries a) k) m) ≡ m
+      by : (m : ℕ) → timeIn (stamped (wordOf s (Entries a) k) m (writerOf s a k)) ≡ m
       by zero = refl
       by (suc m) = rw (ne-eqb (suc m) 0 (omega arith))
 
@@ -56,16 +66,19 @@ module _ (s u : List ℕ) (a : ℕ) where
   pub I-same : ((k : ℕ) → k < keyLimit → SameAt s u (Mark (Attributes a) k)) → ((k : ℕ) → k < keyLimit → SameAt s u (Word (Attributes a) k)) → agentOf s a .I ≡ agentOf u a .I
   I-same f g = fun-ext λ k. value-same s u (Attributes a) k (f k) (g k)
 
-  pub entry-same : (k : ℕ) → (k < keyLimit → SameAt s u (Mark (Entries a) k)) → (k < keyLimit → SameAt s u (Word (Entries a) k)) → entryOf s a k ≡ entryOf u a k
-  entry-same k f g = by (ltb k keyLimit) refl
+  pub entry-same : (k : ℕ) → (k < keyLimit → SameAt s u (Mark (Entries a) k)) → (k < keyLimit → SameAt s u (Word (Entries a) k)) → (k < keyLimit → SameAt s u (Writer a k))
+      → entryOf s a k ≡ entryOf u a k
+  entry-same k f g h = by (ltb k keyLimit) refl
     where
       by : (b : Bool) → ltb k keyLimit ≡ b →
-          cond {A = Option Entry} b (stamped (wordOf s (Entries a) k) (stampOf s a k)) none ≡ cond {A = Option Entry} b (stamped (wordOf u (Entries a) k) (stampOf u a k)) none
-      by true e = rw (f (ltb-true k keyLimit e), g (ltb-true k keyLimit e))
+          cond {A = Option Entry} b (stamped (wordOf s (Entries a) k) (stampOf s a k) (writerOf s a k)) none
+          ≡ cond {A = Option Entry} b (stamped (wordOf u (Entries a) k) (stampOf u a k) (writerOf u a k)) none
+      by true e = rw (f (ltb-true k keyLimit e), g (ltb-true k keyLimit e), h (ltb-true k keyLimit e))
       by false e = refl
 
-  pub L-same : ((k : ℕ) → k < keyLimit → SameAt s u (Mark (Entries a) k)) → ((k : ℕ) → k < keyLimit → SameAt s u (Word (Entries a) k)) → agentOf s a .L ≡ agentOf u a .L
-  L-same f g = fun-ext λ k. entry-same k (f k) (g k)
+  pub L-same : ((k : ℕ) → k < keyLimit → SameAt s u (Mark (Entries a) k)) → ((k : ℕ) → k < keyLimit → SameAt s u (Word (Entries a) k))
+      → ((k : ℕ) → k < keyLimit → SameAt s u (Writer a k)) → agentOf s a .L ≡ agentOf u a .L
+  L-same f g h = fun-ext λ k. entry-same k (f k) (g k) (h k)
 
   pub Zc-same : SameAt s u (Waits Zc a) → agentOf s a .Zc ≡ agentOf u a .Zc
   Zc-same e = ap (λ (w : ℕ). λ (x : ℕ). has w x) e
@@ -77,37 +90,45 @@ module _ (s u : List ℕ) (a : ℕ) where
   pub agent-same : length s ≡ length u → ((p : Place) → Inside p → 0 < placeKind p → placeAgent p ≡ a → SameAt s u p) → agentOf s a ≡ agentOf u a
   agent-same e h = tuple
       (I-same (λ k l. h (Mark (Attributes a) k) l (omega arith) refl) (λ k l. h (Word (Attributes a) k) l (omega arith) refl))
-      (L-same (λ k l. h (Mark (Entries a) k) l (omega arith) refl) (λ k l. h (Word (Entries a) k) l (omega arith) refl))
+      (L-same (λ k l. h (Mark (Entries a) k) l (omega arith) refl) (λ k l. h (Word (Entries a) k) l (omega arith) refl) (λ k l. h (Writer a k) l (omega arith) refl))
       (term-same s u a e (h (Length a) tt (omega arith) refl) (λ i l. h (Residual a i) l (omega arith) refl))
       (Zc-same (h (Waits Zc a) tt (omega arith) refl)) (Zp-same (h (Waits Zp a) tt (omega arith) refl))
 
 -- AN ENTRY IS PUT
-module _ (a k v m : ℕ) (s : List ℕ) (key : k < keyLimit) (room : HasBlocks s) (there : a < 32) (pos : 0 < m) where
-  abbrev after : List ℕ
-  after = put (Entries a) k v m s
+-- a stored entry, as one of crate labs
+abbrev pub labsEntry : Stored → Entry
+labsEntry e = entry (e .value) (e .stamp) (e .writer)
 
-  put-L : (j : ℕ) → entryOf after a j ≡ cond (eqb k j) (some (entry v m)) (entryOf s a j)
+module _ (a k : ℕ) (e : Stored) (s : List ℕ) (key : k < keyLimit) (room : HasBlocks s) (there : a < 32) (pos : 0 < e .stamp) where
+  abbrev after : List ℕ
+  after = putEntry a k e s
+
+  put-L : (j : ℕ) → entryOf after a j ≡ cond (eqb k j) (some (labsEntry e)) (entryOf s a j)
   put-L j = ⊎-elim here elsewhere (same-or-other k j)
     where
-      here : k ≡ j → entryOf after a j ≡ cond (eqb k j) (some (entry v m)) (entryOf s a j)
-      here e = rw (← e, eq-eqb k k refl)
-          (entry-read after a k key ∙ rw (put-mark (Entries a) k v m s key room there, put-value (Entries a) k v m s key room there, ne-eqb m 0 (omega arith)))
+      here : k ≡ j → entryOf after a j ≡ cond (eqb k j) (some (labsEntry e)) (entryOf s a j)
+      here i = rw (← i, eq-eqb k k refl)
+          (entry-read after a k key
+          ∙ rw (put-entry-stamp a k e s key room there, put-entry-value a k e s key room there, put-entry-writer a k e s key room there, ne-eqb (e .stamp) 0 (omega arith)))
 
-      elsewhere : (k ≡ j → ⊥) → entryOf after a j ≡ cond (eqb k j) (some (entry v m)) (entryOf s a j)
+      elsewhere : (k ≡ j → ⊥) → entryOf after a j ≡ cond (eqb k j) (some (labsEntry e)) (entryOf s a j)
       elsewhere d =
-          let e = ne-eqb j k (λ (h : j ≡ k). d (sym h)) in
+          let i = ne-eqb j k (λ (h : j ≡ k). d (sym h)) in
           rw (ne-eqb k j d) (entry-same after s a j
-          (λ l. put-other (Entries a) k v m s key (Mark (Entries a) j) l (rw e) refl)
-          (λ l. put-other (Entries a) k v m s key (Word (Entries a) j) l refl (rw e)))
+          (λ l. put-entry-other a k e s key (Mark (Entries a) j) l (rw i) refl refl)
+          (λ l. put-entry-other a k e s key (Word (Entries a) j) l refl (rw i) refl)
+          (λ l. put-entry-other a k e s key (Writer a j) l refl refl (rw i)))
 
-  pub put-agent : agentOf after a ≡ ⟨ agentOf s a .I ⸴ agentOf s a .L ⟦ k ≔ some (entry v m) ⟧ ⸴ agentOf s a .P ⸴ agentOf s a .Zc ⸴ agentOf s a .Zp ⟩
+  pub put-agent : agentOf after a ≡ ⟨ agentOf s a .I ⸴ agentOf s a .L ⟦ k ≔ some (labsEntry e) ⟧ ⸴ agentOf s a .P ⸴ agentOf s a .Zc ⸴ agentOf s a .Zp ⟩
   put-agent = tuple
-      (fun-ext λ j. put-valueIn (Entries a) k v m s key room there pos (Attributes a) j ∙ rw and-false)
+      (I-same after s a (λ j l. other (Mark (Attributes a) j) l (rw and-false) refl refl) (λ j l. other (Word (Attributes a) j) l refl (rw and-false) refl))
       (fun-ext λ j. put-L j)
-      (term-same after s a (put-length (Entries a) k v m s) (put-other (Entries a) k v m s key (Length a) tt refl refl)
-      (λ i l. put-other (Entries a) k v m s key (Residual a i) l refl refl))
-      (Zc-same after s a (put-other (Entries a) k v m s key (Waits Zc a) tt refl refl))
-      (Zp-same after s a (put-other (Entries a) k v m s key (Waits Zp a) tt refl refl))
+      (term-same after s a (put-entry-length a k e s) (other (Length a) tt refl refl refl) (λ i l. other (Residual a i) l refl refl refl))
+      (Zc-same after s a (other (Waits Zc a) tt refl refl refl))
+      (Zp-same after s a (other (Waits Zp a) tt refl refl refl))
+    where
+      other : (q : Place) → Inside q → same q (Mark (Entries a) k) ≡ false → same q (Word (Entries a) k) ≡ false → same q (Writer a k) ≡ false → SameAt after s q
+      other = put-entry-other a k e s key
 
 -- A SET OF KEYS IS CHANGED
 abbrev pub with : KeySet → Agent → Keys → Agent
@@ -123,12 +144,12 @@ module _ (u s : List ℕ) (a : ℕ) (e : length u ≡ length s) where
       agentOf u a ≡ with z (agentOf s a) (λ j. has (wordAt u (Waits z a)) j)
   waits-agent Zc other = tuple
       (I-same u s a (λ j l. other (Mark (Attributes a) j) l refl) (λ j l. other (Word (Attributes a) j) l refl))
-      (L-same u s a (λ j l. other (Mark (Entries a) j) l refl) (λ j l. other (Word (Entries a) j) l refl))
+      (L-same u s a (λ j l. other (Mark (Entries a) j) l refl) (λ j l. other (Word (Entries a) j) l refl) (λ j l. other (Writer a j) l refl))
       (term-same u s a e (other (Length a) tt refl) (λ i l. other (Residual a i) l refl))
       refl (Zp-same u s a (other (Waits Zp a) tt refl))
   waits-agent Zp other = tuple
       (I-same u s a (λ j l. other (Mark (Attributes a) j) l refl) (λ j l. other (Word (Attributes a) j) l refl))
-      (L-same u s a (λ j l. other (Mark (Entries a) j) l refl) (λ j l. other (Word (Entries a) j) l refl))
+      (L-same u s a (λ j l. other (Mark (Entries a) j) l refl) (λ j l. other (Word (Entries a) j) l refl) (λ j l. other (Writer a j) l refl))
       (term-same u s a e (other (Length a) tt refl) (λ i l. other (Residual a i) l refl))
       (Zc-same u s a (other (Waits Zc a) tt refl)) refl
 

@@ -21,7 +21,7 @@ use Rattle.term.specs.Accepted.{ActionNode, Labelled}
 use Rattle.state.specs.declared.Store.the-variants.{Entries}
 use Rattle.state.specs.declared.Entry.{Entry}
 use Rattle.state.specs.Layout.{keyLimit, stampOf}
-use Rattle.state.specs.Entries.{clockOf, nextStamp, newer}
+use Rattle.state.specs.Entries.{entry, clockOf, nextStamp, newer}
 use Rattle.state.specs.Standing.{HasBlocks}
 use Rattle.state.proofs.Places.{Zp, Zc, Clock}
 use Rattle.state.proofs.Frames.{put-other, drop-other}
@@ -149,7 +149,7 @@ step-clock bytes s scratch (suc (suc kind)) x k done =
 
 -- the writes bear the stamps that the clock gives, and are what the step writes to each key
 abbrev pub written : Write → Entry
-written w = record { value = w .value; stamp = w .stamp }
+written w = entry (w .value) (w .stamp) (w .agent)
 
 pub adds-numbered : (bytes s : List ℕ) (kind x number : ℕ) → Numbered (λ (w : Write). w .stamp) (clockOf s) (stepAdds bytes s kind x number)
 adds-numbered bytes s kind x number = by (eqb kind 0) (chosen (tableOf bytes) s x number .label)

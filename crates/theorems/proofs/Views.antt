@@ -1,7 +1,7 @@
 -- One key of a state seen as a view: each agent's entry, and who has the key in Zp.
 -- Assumes nothing.
 use Prim.Native.Nat.{ℕ}
-use mathlib.Core.Bool.{Bool, true, false, cond, _&&_}
+use mathlib.Core.Bool.{Bool, cond, _&&_}
 use mathlib.Core.Path.{_≡_, refl, ap, subst, _∙_}
 use mathlib.Core.Logic.{⊎-elim}
 use mathlib.Core.List.{List}
@@ -15,13 +15,13 @@ use Rattle.table.specs.Tables.{Table}
 use Rattle.state.specs.declared.Store.the-variants.{Entries}
 use Rattle.state.specs.declared.Entry.{Entry}
 use Rattle.state.specs.Layout.{zpOf}
-use Rattle.state.specs.Entries.{entryOf, newer}
+use Rattle.state.specs.Entries.{entry as stored, entryOf, newer}
 use Rattle.state.specs.Evaluation.{linkHolds}
-use Rattle.state.proofs.Places.{Zp, Mark, Word, Waits}
+use Rattle.state.proofs.Places.{Zp, Mark, Word, Writer, Waits}
 use Rattle.state.proofs.Frames.{SameAt}
 
 abbrev pub absent : Entry
-absent = record { value = 0; stamp = 0 }
+absent = stored 0 0 0
 
 abbrev pub stampIn : Entry → ℕ
 stampIn e = e .stamp
@@ -34,8 +34,8 @@ seen s k = record { entry = λ a. entryOf s a k; waits = λ a. has (zpOf s a) k 
 abbrev pub links : Table → List ℕ → ℕ → ℕ → ℕ → Bool
 links t s k a b = ltb b (t .sizes .agents) && linkHolds t s k a b
 
-pub same-entry : {v w m n : ℕ} → v ≡ w → m ≡ n → _≡_ {A = Entry} (record { value = v; stamp = m }) (record { value = w; stamp = n })
-same-entry p q = λ i. record { value = p i; stamp = q i }
+pub same-entry : {v w m n a b : ℕ} → v ≡ w → m ≡ n → a ≡ b → stored v m a ≡ stored w n b
+same-entry p q r = λ i. stored (p i) (q i) (r i)
 
 -- agent a's part of key k is as this view has it
 pub record Shows (s : List ℕ) (k : ℕ) (v : View Entry) (a : ℕ) : Type 0 where
@@ -43,17 +43,12 @@ pub record Shows (s : List ℕ) (k : ℕ) (v : View Entry) (a : ℕ) : Type 0 wh
   pub waits : seen s k .waits a ≡ v .waits a
 
 -- words that are the same show the same
-pub shows-same : (s u : List ℕ) (k : ℕ) (v : View Entry) (a : ℕ) → SameAt s u (Word (Entries a) k) → SameAt s u (Mark (Entries a) k) → SameAt s u (Waits Zp a)
+pub shows-same : (s u : List ℕ) (k : ℕ) (v : View Entry) (a : ℕ) → SameAt s u (Word (Entries a) k) → SameAt s u (Mark (Entries a) k) → SameAt s u (Writer a k) → SameAt s u (Waits Zp a)
     → Shows u k v a → Shows s k v a
-shows-same s u k v a p q r w = record { entry = same-entry p q ∙ w .entry; waits = ap (λ (z : ℕ). has z k) r ∙ w .waits }
+shows-same s u k v a p q r z w = record { entry = same-entry p q r ∙ w .entry; waits = ap (λ (n : ℕ). has n k) z ∙ w .waits }
 
 pub shows-itself : (s : List ℕ) (k a : ℕ) → Shows s k (seen s k) a
 shows-itself s k a = record { entry = refl; waits = refl }
-
-pub pick-entry : (b : Bool) (v w m n : ℕ)
-    → _≡_ {A = Entry} (record { value = cond b v w; stamp = cond b m n }) (cond b (record { value = v; stamp = m }) (record { value = w; stamp = n }))
-pick-entry true v w m n = refl
-pick-entry false v w m n = refl
 
 -- a move of key k, seen from any key j
 pub shows-key : (t : Table) (s u : List ℕ) (k j a : ℕ) (m : Move Entry) → Shows u k (moved newer (links t s k) m (seen s k)) a → ((k ≡ j → ⊥) → Shows u j (seen s j) a)

@@ -57,13 +57,13 @@ module _ {t : Table} {a : Agent} where
   wills-settled (ENV m k s) = s
 
 -- what comes after a will, with the agent that would go on as a′
-module _ (t : Table) (E : Interface) (T : ℕ) (a : Agent) (d : Derivation) where
+module _ (t : Table) (E : Interface) (T n : ℕ) (a : Agent) (d : Derivation) where
   abbrev After : Will → Agent → Interface → ℕ → Agent → Type 0
   After ε a′ E₁ T₁ b = (E₁ ≡ E) × (T₁ ≡ T) × (b ≡ awaited t a (d .guards) a′)
   After (e ▹ attribute x) a′ E₁ T₁ b =
       (v : ℕ) × (E⟦ e ⟧ alone E a ⇓ v) × (E₁ ≡ E) × (T₁ ≡ T) × (b ≡ awaited t a (d .guards) ⟨ a′ .I ⟦ x ≔ Present v ⟧ ⸴ a′ .L ⸴ a′ .P ⸴ a′ .Zc ⸴ a′ .Zp ⟩)
   After (e ▹ stigmergy x) a′ E₁ T₁ b =
-      (v : ℕ) × (L′ : Stigmergy) × (E⟦ e ⟧ alone E a ⇓ v) × Inserted (a′ .L) x (record { value = v; time = suc T }) L′ × (E₁ ≡ E) × (T₁ ≡ suc T)
+      (v : ℕ) × (L′ : Stigmergy) × (E⟦ e ⟧ alone E a ⇓ v) × Inserted (a′ .L) x (record { value = v; time = suc T; writer = n }) L′ × (E₁ ≡ E) × (T₁ ≡ suc T)
       × (b ≡ awaited t a (d .guards) ⟨ a′ .I ⸴ L′ ⸴ a′ .P ⸴ a′ .Zc ⸴ a′ .Zp ∪｛ x ｝ ⟩)
   After (e ▹ environment x) a′ E₁ T₁ b =
       (v : ℕ) × (E⟦ e ⟧ alone E a ⇓ v) × (E₁ ≡ (E ⟦ x ≔ Present v ⟧)) × (T₁ ≡ T) × (b ≡ awaited t a (d .guards) a′)
@@ -76,7 +76,7 @@ module _ (t : Table) (E : Interface) (T : ℕ) (a : Agent) (d : Derivation) wher
       subst (λ (u : Will). After u (onward a (d .leaving) (labelKeys t (d .label))) E₁ T₁ b) (wills-will m)
       (subst (λ (o : Agent). After w o E₁ T₁ b) (wills-on m) h)
 
-  acts-end : {E₁ : Interface} {T₁ : ℕ} {b : Agent} → Acts t E T a d E₁ T₁ b → Ends E₁ T₁ b
+  acts-end : {E₁ : Interface} {T₁ : ℕ} {b : Agent} → Acts t E T n a d E₁ T₁ b → Ends E₁ T₁ b
   acts-end (EPSILON m g) = ends m _ _ _ (refl, refl, refl)
   acts-end (EVAL-I v m g h) = ends m _ _ _ (v, h, refl, refl, refl)
   acts-end (EVAL-L v m g h i) = ends m _ _ _ (v, _, h, i, refl, refl, refl)
@@ -92,7 +92,7 @@ module _ (t : Table) (E : Interface) (T : ℕ) (a : Agent) (d : Derivation) wher
       )
   after-unique (e ▹ stigmergy x) a′ E₁ E₂ T₁ T₂ b c p q =
       let i : p .0 ≡ q .0 = one-value (alone E a) e (p .0) (q .0) (p .2) (q .2) in
-      let j : p .1 ≡ q .1 = inserted-unique (p .3) (subst (λ (v : ℕ). Inserted (a′ .L) x (record { value = v; time = suc T }) (q .1)) (sym i) (q .3)) in (
+      let j : p .1 ≡ q .1 = inserted-unique (p .3) (subst (λ (v : ℕ). Inserted (a′ .L) x (record { value = v; time = suc T; writer = n }) (q .1)) (sym i) (q .3)) in (
         p .4 ∙ sym (q .4),
         p .5 ∙ sym (q .5),
         p .6 ∙ ap (λ (L : Stigmergy). awaited t a (d .guards) ⟨ a′ .I ⸴ L ⸴ a′ .P ⸴ a′ .Zc ⸴ a′ .Zp ∪｛ x ｝ ⟩) j ∙ sym (q .6),
@@ -104,14 +104,14 @@ module _ (t : Table) (E : Interface) (T : ℕ) (a : Agent) (d : Derivation) wher
         p .4 ∙ sym (q .4),
       )
 
-  pub acts-unique : {E₁ E₂ : Interface} {T₁ T₂ : ℕ} {b c : Agent} → Acts t E T a d E₁ T₁ b → Acts t E T a d E₂ T₂ c → (E₁ ≡ E₂) × (T₁ ≡ T₂) × (b ≡ c)
+  pub acts-unique : {E₁ E₂ : Interface} {T₁ T₂ : ℕ} {b c : Agent} → Acts t E T n a d E₁ T₁ b → Acts t E T n a d E₂ T₂ c → (E₁ ≡ E₂) × (T₁ ≡ T₂) × (b ≡ c)
   acts-unique {E₁} {E₂} {T₁} {T₂} {b} {c} p q =
       after-unique (willOf t (d .label)) (onward a (d .leaving) (labelKeys t (d .label))) E₁ E₂ T₁ T₂ b c (acts-end p) (acts-end q)
 
 -- the same of systems: an agent acts by a derivation in one way
 pub acted-unique : {t : Table} {agents x : ℕ} {d : Derivation} {S S′ S″ : System} → Acted t agents x d S S′ → Acted t agents x d S S″ → Same agents S′ S″
 acted-unique {t} {agents} {x} {d} {S} {S′} {S″} p q =
-    let u = acts-unique t (S .E) (S .clock) (S .agent x) d (p .acts) (q .acts) in
+    let u = acts-unique t (S .E) (S .clock) x (S .agent x) d (p .acts) (q .acts) in
     record {
       environment-same = u .0;
       clock-same = u .1;
@@ -125,8 +125,8 @@ acted-same {t} {agents} {x} {d} {S} {S′} {S″} p q =
     record {
       there = p .there;
       acts =
-          subst (λ (E : Interface). Acts t (S .E) (S .clock) (S .agent x) d E (S″ .clock) (S″ .agent x)) (sym (q .environment-same))
-          (subst (λ (T : ℕ). Acts t (S .E) (S .clock) (S .agent x) d (S′ .E) T (S″ .agent x)) (sym (q .clock-same))
-          (subst (λ (a : Agent). Acts t (S .E) (S .clock) (S .agent x) d (S′ .E) (S′ .clock) a) (sym (q .agents-same x (p .there))) (p .acts)));
+          subst (λ (E : Interface). Acts t (S .E) (S .clock) x (S .agent x) d E (S″ .clock) (S″ .agent x)) (sym (q .environment-same))
+          (subst (λ (T : ℕ). Acts t (S .E) (S .clock) x (S .agent x) d (S′ .E) T (S″ .agent x)) (sym (q .clock-same))
+          (subst (λ (a : Agent). Acts t (S .E) (S .clock) x (S .agent x) d (S′ .E) (S′ .clock) a) (sym (q .agents-same x (p .there))) (p .acts)));
       others = λ y l o. q .agents-same y l ∙ p .others y l o;
     }

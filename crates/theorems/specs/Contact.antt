@@ -10,7 +10,7 @@ use Rattle.agreement.specs.Machine.{Before}
 use Rattle.table.specs.Checks.{passes}
 use Rattle.table.specs.Tables.{tableOf}
 use Rattle.state.specs.declared.Store.the-variants.{Entries}
-use Rattle.state.specs.Layout.{wordOf, stampOf, zpOf}
+use Rattle.state.specs.Layout.{wordOf, stampOf, writerOf, zpOf}
 use Rattle.state.specs.Evaluation.{linkHolds}
 use Rattle.state.specs.WellFormed.{loaded}
 use Rattle.steps.specs.Steps.{loadOf}
@@ -37,9 +37,9 @@ module _ (s : List ℕ) (k : ℕ) where
   abbrev pub Silent : ℕ → Type 0
   Silent a = has (zpOf s a) k ≡ false
 
-  -- a and b have the same value with the same stamp for k, or neither has an entry
+  -- a and b have the same value with the same stamp and writer for k, or neither has an entry
   abbrev pub Agree : ℕ → ℕ → Type 0
-  Agree a b = (stampOf s a k ≡ stampOf s b k) × (wordOf s (Entries a) k ≡ wordOf s (Entries b) k)
+  Agree a b = (stampOf s a k ≡ stampOf s b k) × (wordOf s (Entries a) k ≡ wordOf s (Entries b) k) × (writerOf s a k ≡ writerOf s b k)
 
 -- (b) from any moment on: after the steps `before` from load, in the steps `since` that follow
 module _ (bytes : List ℕ) (before since : List Step) where

@@ -14,7 +14,7 @@ use Rattle.table.specs.Tables.{tableOf, kindAt, pAt}
 use Rattle.term.specs.declared.Label.{Label}
 use Rattle.term.specs.declared.Label.the-variants.{Ticking, Acting}
 use Rattle.state.specs.declared.Store.the-variants.{Entries}
-use Rattle.state.specs.Layout.{wordOf, stampOf, zpOf}
+use Rattle.state.specs.Layout.{wordOf, stampOf, writerOf, zpOf}
 use Rattle.state.specs.Entries.{nextStamp}
 use Rattle.state.specs.Evaluation.{linkHolds}
 use Rattle.state.specs.WellFormed.{loaded}
@@ -55,18 +55,20 @@ module _ (bytes : List ℕ) where
   abbrev pub HeldBeforeSteps : List Step → ℕ → ℕ → ℕ → Type 0
   HeldBeforeSteps xs k a b = Before (next bytes) (λ s x. linkHolds (tableOf bytes) s k a b ≡ true) (loaded (tableOf bytes)) xs
 
--- An entry is an agent's pair for a key with a stamp above 0; newer means a higher stamp; a key waits in an agent while it is in its Zp
+-- An entry is an agent's value, stamp and writer for a key, with a stamp above 0; newer means a higher stamp; a key waits in an agent
+-- while it is in its Zp
 pub record Demand-3 (bytes : List ℕ) (xs : List Step) : Type 0 where
   -- write n, counted from 1, bears stamp n
   pub numbered : (n : ℕ) (w : Write) → getElem? (history bytes xs) n ≡ some w → w .stamp ≡ n + 1
-  -- (i) values are as written at their stamps
+  -- (i) value and writer are those of the write at the stamp
   pub written : (a k : ℕ) → a < tableOf bytes .sizes .agents → k < tableOf bytes .sizes .stigmergy → 0 < stampOf (stateAfter bytes xs) a k →
       (w : Write) × (getElem? (history bytes xs) (stampOf (stateAfter bytes xs) a k - 1) ≡ some w) × (w .key ≡ k)
-      × (w .value ≡ wordOf (stateAfter bytes xs) (Entries a) k)
-  -- (ii) equal stamps have equal values
+      × (w .value ≡ wordOf (stateAfter bytes xs) (Entries a) k) × (w .agent ≡ writerOf (stateAfter bytes xs) a k)
+  -- (ii) equal stamps have equal values and writers
   pub equal : (a b k : ℕ) → a < tableOf bytes .sizes .agents → b < tableOf bytes .sizes .agents → k < tableOf bytes .sizes .stigmergy →
       stampOf (stateAfter bytes xs) a k ≡ stampOf (stateAfter bytes xs) b k →
-      wordOf (stateAfter bytes xs) (Entries a) k ≡ wordOf (stateAfter bytes xs) (Entries b) k
+      (wordOf (stateAfter bytes xs) (Entries a) k ≡ wordOf (stateAfter bytes xs) (Entries b) k)
+      × (writerOf (stateAfter bytes xs) a k ≡ writerOf (stateAfter bytes xs) b k)
   -- (iii) stamps never fall: of the list's own earlier steps
   pub never-fall : (before since : List Step) → xs ≡ before ++ since → (a k : ℕ) → a < tableOf bytes .sizes .agents → k < tableOf bytes .sizes .stigmergy →
       stampOf (stateAfter bytes before) a k ≤ stampOf (stateAfter bytes xs) a k
