@@ -204,7 +204,7 @@ fn main() {
     }
     let mut table = [0u8; 20512];
     let mut part = [0u8; 40976];
-    let mut state = [0u32; 4200];
+    let mut state = [0u32; 4712];
     let mut scratch = [0u32; 8192];
     let mut answers = [0u8; 8200];
     answer_all(

@@ -44,10 +44,10 @@ abbrev fleet : ℕ → List ℕ
 fleet clock = setClock clock (set (replicate stateWords 0) agentsAt 2)
 
 abbrev paper : List ℕ
-paper = putEntry 0 0 (entry 7 1) (put (Attributes 1) 0 7 1 (putEntry 1 0 (entry 7 1) (fleet 1)))
+paper = putEntry 0 0 (entry 7 1 0) (put (Attributes 1) 0 7 1 (putEntry 1 0 (entry 7 1 0) (fleet 1)))
 
 pub papers : shown (record { check = passes; progress = record { state = paper; answers = []; done = 5; refused = 2; tally = tally 1 } })
-    ≡ ascii "done 5 refused 2 taken 1\nclock 1\ns 0 0 7 1\na 1 0 7\ns 1 0 7 1\n"
+    ≡ ascii "done 5 refused 2 taken 1\nclock 1\ns 0 0 7 1 0\na 1 0 7\ns 1 0 7 1 0\n"
 unfolding computing
 papers = refl
 
@@ -55,12 +55,12 @@ abbrev full : List ℕ
 full =
     put Environment 3 (2 ^ 32 - 2) 1
     (put (Attributes 0) 9 40 1
-    (putEntry 0 2 (entry (2 ^ 31) 6)
+    (putEntry 0 2 (entry (2 ^ 31) 6 1)
     (addKey (zcAt 0) 2
     (addKey (zcAt 0) 11
     (addKey (zpAt 0) 2
     (put (Attributes 1) 15 0 1 (fleet 65535)))))))
 
-pub each-kind : stateLines full ≡ ascii "clock 65535\ne 3 -2\na 0 9 40\ns 0 2 -2147483648 6\nc 0 2\nc 0 11\np 0 2\na 1 15 0\n"
+pub each-kind : stateLines full ≡ ascii "clock 65535\ne 3 -2\na 0 9 40\ns 0 2 -2147483648 6 1\nc 0 2\nc 0 11\np 0 2\na 1 15 0\n"
 unfolding computing
 each-kind = refl

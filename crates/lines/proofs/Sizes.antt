@@ -15,7 +15,7 @@ use Rattle.value.specs.declared.Value.the-variants.{Absent, Present}
 use Rattle.table.specs.Checks.{Check, passes, refuses}
 use Rattle.state.specs.declared.Store.{Store}
 use Rattle.state.specs.declared.Store.the-variants.{Environment, Attributes, Entries}
-use Rattle.state.specs.Layout.{agentLimit, keyLimit, clockAt, agentsAt, markAt, valueAt, markOf, valueIn, zcOf, zpOf}
+use Rattle.state.specs.Layout.{agentLimit, keyLimit, clockAt, agentsAt, markAt, valueAt, writerAt, markOf, wordOf, stampOf, writerOf, valueIn, zcOf, zpOf}
 use Rattle.state.specs.Entries.{clockOf}
 use Rattle.state.specs.Standing.{storeAgent}
 use Rattle.steps.specs.Runs.{Rehearsal}
@@ -88,7 +88,15 @@ module _ (s : List ℕ) (words : (i : ℕ) → getD s i 0 < 2 ^ 32) where
   value-fits Environment key w a k h = simp line-size (omega (arith, word key (omega arith), signed w h))
   value-fits (Attributes x) key w a k h = simp line-size (omega (arith, word x (omega arith), word key (omega arith), signed w h))
   value-fits (Entries x) key w a k h =
-      simp line-size (omega (arith, word x (omega arith), word key (omega arith), signed w h, word (markOf s (Entries x) key) (words (markAt (Entries x) key))))
+      simp line-size
+      (omega (
+        arith,
+        word x (omega arith),
+        word key (omega arith),
+        signed (wordOf s (Entries x) key) (words (valueAt (Entries x) key)),
+        word (stampOf s x key) (words (markAt (Entries x) key)),
+        word (writerOf s x key) (words (writerAt x key)),
+      ))
 
   abbrev lineOf : Store → ℕ → Value → List ℕ
   lineOf store key v = elim v [ Absent ↦ [] | Present w ↦ valueLine s store key w ]

@@ -9,8 +9,9 @@ use Rattle.value.specs.Values.{signedOf}
 use Rattle.table.specs.Checks.{passes, refuses}
 use Rattle.state.specs.declared.Store.{Store}
 use Rattle.state.specs.declared.Store.the-variants.{Environment, Attributes, Entries}
-use Rattle.state.specs.Layout.{keyLimit, agentsAt, stampOf, valueIn, zcOf, zpOf}
-use Rattle.state.specs.Entries.{clockOf}
+use Rattle.state.specs.declared.Entry.{Entry}
+use Rattle.state.specs.Layout.{keyLimit, agentsAt, valueIn, zcOf, zpOf}
+use Rattle.state.specs.Entries.{entryOf, clockOf}
 use Rattle.steps.specs.Runs.{Rehearsal}
 use Rattle.machine.specs.declared.Totals.{Totals}
 use Rattle.machine.specs.Answers.{totalsOf}
@@ -42,19 +43,19 @@ environmentLine key word = line (ascii "e") (decimal key ∷ value word ∷ [])
 unfoldable pub attributeLine : ℕ → ℕ → ℕ → List ℕ
 attributeLine agent key word = line (ascii "a") (decimal agent ∷ decimal key ∷ value word ∷ [])
 
--- `s agent key value stamp`
-unfoldable pub entryLine : ℕ → ℕ → ℕ → ℕ → List ℕ
-entryLine agent key word stamp = line (ascii "s") (decimal agent ∷ decimal key ∷ value word ∷ decimal stamp ∷ [])
+-- `s agent key value stamp writer`
+unfoldable pub entryLine : ℕ → ℕ → Entry → List ℕ
+entryLine agent key e = line (ascii "s") (decimal agent ∷ decimal key ∷ value (e .value) ∷ decimal (e .stamp) ∷ decimal (e .writer) ∷ [])
 
 -- `c agent key`, and `p agent key`
 unfoldable pub pendingLine : List ℕ → ℕ → ℕ → List ℕ
 pendingLine name agent key = line name (decimal agent ∷ decimal key ∷ [])
 
--- a store's values that are present
+-- a store's values that are present; an entry's value is that word, and its line has its stamp and its writer too
 unfoldable pub valueLine : List ℕ → Store → ℕ → ℕ → List ℕ
 valueLine s Environment key word = environmentLine key word
 valueLine s (Attributes a) key word = attributeLine a key word
-valueLine s (Entries a) key word = entryLine a key word (stampOf s a key)
+valueLine s (Entries a) key word = entryLine a key (entryOf s a key)
 
 unfoldable pub keyLine : List ℕ → Store → ℕ → List ℕ
 keyLine s store key = elim (valueIn s store key) [ Absent ↦ [] | Present word ↦ valueLine s store key word ]

@@ -26,7 +26,7 @@ abbrev pub attributeBytes : ℕ
 attributeBytes = 1 + 2 * wordBytes + valueBytes + 1
 
 abbrev pub entryBytes : ℕ
-entryBytes = 1 + 2 * wordBytes + valueBytes + wordBytes + 1
+entryBytes = 1 + 2 * wordBytes + valueBytes + 2 * wordBytes + 1
 
 abbrev pub pendingBytes : ℕ
 pendingBytes = 1 + 2 * wordBytes + 1

@@ -4,6 +4,7 @@ use crate::text::put_named;
 use crate::text::put_number;
 use crate::text::put_value;
 use machine::Totals;
+use state::Entry;
 ghost use Rattle.lines.specs.Lines.{totalsLine, refusedLine, clockLine, environmentLine, attributeLine, entryLine, pendingLine};
 ghost use Rattle.lines.specs.Writing.{Room, Wrote};
 
@@ -54,21 +55,15 @@ pub fn attribute_line(agent: usize, key: usize, word: u32, out: &mut [u8], at: u
     end_line(out, next)
 }
 
-pub fn entry_line(
-    agent: usize,
-    key: usize,
-    word: u32,
-    stamp: u32,
-    out: &mut [u8],
-    at: usize,
-) -> usize
-    requires { ⌜ Room (entryLine agent key word stamp) at (now out) ⌝ }
-    ensures { λ r. ⌜ Wrote (entryLine agent key word stamp) at (now (out .entry)) (now (out .exit)) r ⌝ }
+pub fn entry_line(agent: usize, key: usize, entry: Entry, out: &mut [u8], at: usize) -> usize
+    requires { ⌜ Room (entryLine agent key entry) at (now out) ⌝ }
+    ensures { λ r. ⌜ Wrote (entryLine agent key entry) at (now (out .entry)) (now (out .exit)) r ⌝ }
 {
     let next = put_named(b"s", agent, out, at);
     let next = put_number(key, out, next);
-    let next = put_value(word, out, next);
-    let next = put_number(stamp as usize, out, next);
+    let next = put_value(entry.value, out, next);
+    let next = put_number(entry.stamp as usize, out, next);
+    let next = put_number(entry.writer as usize, out, next);
     end_line(out, next)
 }
 

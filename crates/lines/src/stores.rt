@@ -31,7 +31,7 @@ fn value_line(
         Store::Attributes(agent) => attribute_line(agent, key, word, out, at),
         Store::Entries(agent) => {
             let entry = entry_of(state, agent, key);
-            entry_line(agent, key, word, entry.stamp, out, at)
+            entry_line(agent, key, entry, out, at)
         }
     }
 }

@@ -23,20 +23,34 @@ put-value-requires : tie.Need-put-value-requires
 unfolding entryLine
 put-value-requires c κs = let h = simp line-size at (c .before .before .before .before .before .before .before .before .before .before .before .pre .fits) in omega arith
 
+cast-put-number : tie.Need-cast-put-number
+cast-put-number c = search needs
+
 put-number-requires-2 : tie.Need-put-number-requires-2
 unfolding entryLine
-put-number-requires-2 c κs = let h = simp line-size at (c .before .before .before .before .before .before .before .before .before .before .before .before .before .before .before .pre .fits) in omega arith
+put-number-requires-2 c κs = let h = simp line-size at (c .before .before .before .before .before .before .before .before .before .before .before .before .before .before .before .before .pre .fits) in omega arith
+
+cast-put-number-2 : tie.Need-cast-put-number-2
+cast-put-number-2 c = search needs
+
+put-number-requires-3 : tie.Need-put-number-requires-3
+unfolding entryLine
+put-number-requires-3 c κs = let h = simp line-size at (c .before .before .before .before .before .before .before .before .before .before .before .before .before .before .before .before .before .before .before .before .before .pre .fits) in omega arith
 
 end-line-requires : tie.Need-end-line-requires
 unfolding entryLine
-end-line-requires c κs = let h = simp line-size at (c .before .before .before .before .before .before .before .before .before .before .before .before .before .before .before .before .before .before .before .pre .fits) in omega arith
+end-line-requires c κs = let h = simp line-size at (c .before .before .before .before .before .before .before .before .before .before .before .before .before .before .before .before .before .before .before .before .before .before .before .before .before .pre .fits) in omega arith
 
 same-length : tie.Need-same-length
 same-length c = search needs
 
 returns : tie.Need-returns
 unfolding entryLine line spaced
-returns c = wrote-then (c .before .before .before .before .before .before .before .before .before .before .before .before .before .before .before .before .before .before .put-named .ensures) (wrote-then (c .before .before .before .before .before .before .before .before .before .before .before .before .before .before .put-number .ensures) (wrote-then (c .before .before .before .before .before .before .before .before .before .before .put-value .ensures) (wrote-then (c .before .before .before .before .before .before .put-number2 .ensures) (c .before .before .end-line .ensures))))
+returns c =
+    let stamped = c .before .before .before .before .before .before .before .before .before .before .before in
+    let named = stamped .before .before .before .before .before .before .before .before .before .before .before .before .before in
+    wrote-then (named .put-named .ensures) (wrote-then (stamped .before .before .before .before .before .before .before .before .before .put-number .ensures) (wrote-then (stamped .before .before .before .before .before .put-value .ensures)
+    (wrote-then (stamped .put-number2 .ensures) (wrote-then (c .before .before .before .before .before .before .put-number3 .ensures) (c .before .before .end-line .ensures)))))
 
 pub entry-line-spec : {M : Type 1} → statement M
 entry-line-spec =
@@ -46,7 +60,10 @@ entry-line-spec =
     put-named-requires
     put-number-requires
     put-value-requires
+    cast-put-number
     put-number-requires-2
+    cast-put-number-2
+    put-number-requires-3
     end-line-requires
     same-length
     returns)

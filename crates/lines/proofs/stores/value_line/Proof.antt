@@ -6,7 +6,6 @@ use mathlib.Core.List.{List}
 use denote.Ref.{now}
 use Rattle.state.specs.declared.Store.{Store}
 use Rattle.state.specs.declared.Entry.{Entry}
-use Rattle.state.specs.Layout.{stampOf}
 use Rattle.state.specs.Entries.{entryOf}
 use Rattle.state.specs.Standing.{Pair}
 use Rattle.lines.specs.Lines.{entryLine, valueLine}
@@ -19,8 +18,8 @@ module _ (s : List ℕ) (key word : ℕ) where
   of : {store x : Store} → store ≡ x → valueLine s store key word ≡ valueLine s x key word
   of e = ap (λ (y : Store). valueLine s y key word) e
 
-  stamped : (a : ℕ) {e : Entry} → e ≡ entryOf s a key → entryLine a key word (stampOf s a key) ≡ entryLine a key word (e .stamp)
-  stamped a f = ap (λ (x : Entry). entryLine a key word (x .stamp)) (sym f)
+  same-line : (a : ℕ) {e : Entry} → e ≡ entryOf s a key → entryLine a key (entryOf s a key) ≡ entryLine a key e
+  same-line a f = ap (λ (x : Entry). entryLine a key x) (sym f)
 
 enum-told : tie.Need-enum-told
 enum-told c = search needs
@@ -44,7 +43,7 @@ entry-of-requires c κs = (c .before .before .before .before .before .pre .0, su
 
 entry-line-requires : tie.Need-entry-line-requires
 unfolding valueLine
-entry-line-requires c κs = let a = c .before .before .before .before .before .before .before .args in room-same (of (now (a .state)) (a .key) (a .word) (c .before .before .before .store2 .given .1) ∙ stamped (now (a .state)) (a .key) (a .word) _ (c .before .entry-of .ensures)) (c .before .before .before .before .before .before .before .pre .2)
+entry-line-requires c κs = let a = c .before .before .before .before .before .before .before .args in room-same (of (now (a .state)) (a .key) (a .word) (c .before .before .before .store2 .given .1) ∙ same-line (now (a .state)) (a .key) (a .word) _ (c .before .entry-of .ensures)) (c .before .before .before .before .before .before .before .pre .2)
 
 same-length : tie.Need-same-length
 same-length c = search needs
@@ -65,7 +64,7 @@ same-length-3 c = search needs
 
 returns-3 : tie.Need-returns-3
 unfolding valueLine
-returns-3 c = let a = c .before .before .before .before .before .before .before .before .before .before .args in wrote-same (sym (of (now (a .state)) (a .key) (a .word) (c .before .before .before .before .before .before .store2 .given .1) ∙ stamped (now (a .state)) (a .key) (a .word) _ (c .before .before .before .before .entry-of .ensures))) (c .before .before .entry-line .ensures)
+returns-3 c = let a = c .before .before .before .before .before .before .before .before .before .before .args in wrote-same (sym (of (now (a .state)) (a .key) (a .word) (c .before .before .before .before .before .before .store2 .given .1) ∙ same-line (now (a .state)) (a .key) (a .word) _ (c .before .before .before .before .entry-of .ensures))) (c .before .before .entry-line .ensures)
 
 pub value-line-spec : {M : Type 1} → statement M
 value-line-spec =
