@@ -256,6 +256,9 @@ fn becomes(words: &[(usize, u32)], word: u32) -> usize {
     found.expect("a word that becomes this").0
 }
 
+/// An entry whose words differ.
+const ENTRY: Entry = Entry::new(5, 9, 3);
+
 /// Where each word of a state stands, by what changes with it.
 pub fn words() -> Vec<Named> {
     let mut all = vec![named(
@@ -283,10 +286,9 @@ pub fn words() -> Vec<Named> {
                 all.push(named(&name, becomes(&pair, word)));
             }
             let entry = changed(|world| {
-                let entry = Entry { value: 5, stamp: 9 };
-                world.agents[agent].entries.insert(key as u16, entry);
+                world.agents[agent].entries.insert(key as u16, ENTRY);
             });
-            for (name, word) in [("VALUE", 5), ("STAMP", 9)] {
+            for (name, word) in [("VALUE", 5), ("STAMP", 9), ("WRITER", 3)] {
                 let name = format!("LABS_ENTRY_{name}({agent}, {key})");
                 all.push(named(&name, becomes(&entry, word)));
             }
@@ -328,8 +330,7 @@ fn parts() -> Vec<Named> {
         world.environment.insert(0, 5);
     });
     let entry = changed(|world| {
-        let entry = Entry { value: 5, stamp: 9 };
-        world.agents[0].entries.insert(0, entry);
+        world.agents[0].entries.insert(0, ENTRY);
     });
     let block = at("LABS_ATTRIBUTE_PRESENT(1, 0)") - at("LABS_ATTRIBUTE_PRESENT(0, 0)");
     let mut all = vec![

@@ -12,7 +12,7 @@ use reference::cases::{Call, Case};
 use reference::draft::Draft;
 use reference::schedule::MAX_STEPS;
 use reference::show::show;
-use reference::state::STATE_WORDS;
+use reference::state::{entry_at, STATE_WORDS};
 use reference::step::Step;
 use reference::table::{MAX_AGENTS, MAX_DEFINITIONS, MAX_KEYS, MAX_NODES};
 use reference::{schedule, Reason};
@@ -247,7 +247,7 @@ fn the_tables_of_names_are_the_references() {
     assert_eq!(steps, numbers::step_kinds());
 }
 
-/// A sum such as `34 + 130a + 2k`, for an agent, a key and a word of the residual.
+/// A sum such as `34 + 146a + 2k`, for an agent, a key and a word of the residual.
 fn place(sum: &str, a: u64, k: u64, i: u64) -> u64 {
     let part = |part: &str| {
         let digits = part.trim_end_matches(['a', 'k', 'i']);
@@ -271,7 +271,7 @@ fn place(sum: &str, a: u64, k: u64, i: u64) -> u64 {
 fn the_layout_is_the_references() {
     let all = numbers::all();
     let rows = rows(&page(), "| Word | Index by | What it is |");
-    assert_eq!(rows.len(), 13);
+    assert_eq!(rows.len(), 14);
     for row in rows {
         for (a, k, i) in [(0, 0, 0), (1, 1, 1), (2, 15, 62), (31, 7, 40)] {
             let (name, parameters) = row[1].split_once('(').unwrap_or((&row[1], ""));
@@ -401,6 +401,16 @@ fn buffers_are_refused_as_the_page_says() {
     assert_eq!(act(vec![0; STATE_WORDS]), (9, 0), "no load before");
     let other = loaded(&defined(&[action])).state;
     assert_eq!(act(other), (9, 0), "the state of another table");
+    let with_writer = |mut state: Vec<u32>, writer| {
+        state[entry_at(1, 0) + 2] = writer;
+        act(state)
+    };
+    let held = run(table, schedule).state;
+    assert_eq!(with_writer(held.clone(), 1), (0, 0));
+    assert_eq!(with_writer(held, 2), (9, 0), "a writer that is no agent");
+    let bare = loaded(table).state;
+    assert_eq!(with_writer(bare.clone(), 0), (0, 0));
+    assert_eq!(with_writer(bare, 1), (9, 0), "a writer without an entry");
 
     let steps = usize::from(schedule[0]);
     let run = |answers| {

@@ -176,6 +176,7 @@ fn every_number_of_the_module_is_the_references() {
             assert_eq!(word::attribute(a, k), at("ATTRIBUTE"));
             assert_eq!(word::entry_value(a, k), at("ENTRY_VALUE"));
             assert_eq!(word::entry_stamp(a, k), at("ENTRY_STAMP"));
+            assert_eq!(word::entry_writer(a, k), at("ENTRY_WRITER"));
         }
         let at = |name: &str| number(&format!("LABS_{name}({a})"));
         assert_eq!(word::zc(a), at("ZC"));

@@ -7,10 +7,10 @@ use reference::describe::describe;
 use reference::draft::Draft;
 use reference::faults::pairs;
 use reference::generate::case;
-use reference::generate::edges::{accept, deep_chain};
+use reference::generate::edges::{accept, crowd, deep_chain};
 use reference::on_deep_stack;
 use reference::schedule;
-use reference::state::{World, STATE_WORDS};
+use reference::state::{entry_at, Entry, World, STATE_WORDS};
 use reference::stats::Tally;
 use reference::step::Step;
 use reference::table::MAX_NODES;
@@ -158,6 +158,50 @@ fn operators_answer_as_the_reference_does() {
     for x in OPERANDS {
         for y in OPERANDS {
             agreed(&by_every_operator(x, y), &format!("{x} and {y}"));
+        }
+    }
+}
+
+/// Agents of whom the last has an entry with this stamp and writer to propagate, or with stamp 0 a writer alone.
+fn by_a_writer(agents: usize, stamp: u32, writer: u32) -> Case {
+    let (table, fleet) = accept(&crowd(agents));
+    let mut world = World::start(&fleet);
+    let last = agents - 1;
+    if stamp > 0 {
+        let entry = Entry::new(5, stamp, 0);
+        world.clock = stamp;
+        world.agents[last].entries.insert(0, entry);
+        world.agents[last].to_propagate.insert(0);
+    }
+    let mut state = world.words();
+    state[entry_at(last, 0) + 2] = writer;
+    Case {
+        table,
+        state,
+        fill: 0,
+        scratch: 2 * MAX_NODES,
+        call: Call::Step(Step::propagate(last as u16, 0)),
+    }
+}
+
+/// A writer below A is passed on, any other is refused, and so is one of no entry.
+#[test]
+fn writers_answer_as_the_reference_does() {
+    for agents in [1, 2, 3, 31, 32] {
+        let last = agents as u32 - 1;
+        for writer in (0..40).chain([65_536, 65_536 + last, 1 << 31, u32::MAX]) {
+            for stamp in [0, 1] {
+                let case = by_a_writer(agents, stamp, writer);
+                let which = format!("{agents} agents, stamp {stamp}, writer {writer}");
+                let given = agreed(&case, &which);
+                let wanted = match stamp {
+                    0 if writer > 0 => 9,
+                    0 => 18,
+                    _ if writer > last => 9,
+                    _ => 0,
+                };
+                assert_eq!(given.refusal(), wanted, "{which}");
+            }
         }
     }
 }

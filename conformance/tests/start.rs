@@ -67,8 +67,9 @@ fn told(input: &[u8]) -> (String, i32) {
     let world = World::decode(&state, &fleet).unwrap();
     for (i, agent) in world.agents.iter().enumerate() {
         for (key, entry) in &agent.entries {
-            let (value, stamp) = (entry.value, entry.stamp);
-            write!(lines, "agent {i} key {key}: value {value} stamp {stamp}").unwrap();
+            let (value, stamp, writer) = (entry.value, entry.stamp, entry.writer);
+            write!(lines, "agent {i} key {key}: value {value} ").unwrap();
+            write!(lines, "stamp {stamp} writer {writer}").unwrap();
             if agent.to_confirm.contains(key) {
                 lines.push_str(", to confirm");
             }

@@ -39,7 +39,7 @@ pub const ANSWER_FILL: u8 = 238;
 
 /// No case is longer than these.
 pub const MAX_TABLE_BYTES: usize = 20_512;
-pub const MAX_STATE_WORDS: usize = 4_200;
+pub const MAX_STATE_WORDS: usize = 4_712;
 pub const MAX_SCRATCH_WORDS: usize = 8_192;
 pub const MAX_SCHEDULE_BYTES: usize = 40_976;
 pub const MAX_ANSWER_BYTES: usize = 8_200;

@@ -208,7 +208,8 @@ impl Parts {
         }
         let mut agent = Agent::new(Term::sequence(first, rest));
         if has(11) {
-            agent.entries.insert(0, Entry { value: 2, stamp: 1 });
+            let entry = Entry::new(2, 1, 0);
+            agent.entries.insert(0, entry);
             agent.to_confirm.insert(0);
             agent.to_propagate.insert(0);
         }

@@ -1,5 +1,5 @@
 //! The history of writes, made without the lent state, and the four points of
-//! demand 3 along a list of steps.
+//! demand 3 along a list of steps, with the agreement that follows from them.
 
 use std::collections::{BTreeMap, BTreeSet};
 
@@ -82,6 +82,8 @@ pub struct Watch {
     linked: BTreeSet<(Key, usize, usize)>,
     /// How often point (iv) said something: a sender newer than a receiver.
     pub newer: usize,
+    /// How often two silent agents had an entry to agree on.
+    pub silent: usize,
 }
 
 impl Watch {
@@ -100,6 +102,7 @@ impl Watch {
             stamps: BTreeMap::new(),
             linked,
             newer: 0,
+            silent: 0,
         })
     }
 
@@ -115,16 +118,20 @@ impl Watch {
         self.entries_are_writes(lent)?;
         self.equal_stamps_agree(lent)?;
         self.stamps_never_fall(lent)?;
-        self.newer_waits(lent)
+        self.newer_waits(lent)?;
+        self.silent_agree(lent)
     }
 
-    /// (i) An entry with stamp n has the key and value of write n.
+    /// (i) An entry with stamp n has the key, value and agent of write n.
     pub fn entries_are_writes(&self, lent: &World) -> Result<(), String> {
         for (i, agent) in lent.agents.iter().enumerate() {
             for (&key, entry) in &agent.entries {
                 let write = self.history.writes.get(entry.stamp as usize - 1);
                 let same = write.is_some_and(|w| {
-                    w.key == key && w.value == entry.value && w.stamp == entry.stamp
+                    w.key == key
+                        && w.value == entry.value
+                        && w.stamp == entry.stamp
+                        && w.agent == entry.writer
                 });
                 if !same {
                     return Err(format!("agent {i} key {key}: {entry:?} but {write:?}"));
@@ -134,14 +141,14 @@ impl Watch {
         Ok(())
     }
 
-    /// (ii) Equal stamps for a key mean equal values.
+    /// (ii) Equal stamps for a key mean equal values and writers.
     pub fn equal_stamps_agree(&self, lent: &World) -> Result<(), String> {
-        let mut values = BTreeMap::new();
+        let mut entries = BTreeMap::new();
         for agent in &lent.agents {
             for (&key, entry) in &agent.entries {
-                let value = *values.entry((key, entry.stamp)).or_insert(entry.value);
-                if value != entry.value {
-                    return Err(format!("key {key} stamp {}: two values", entry.stamp));
+                let first = *entries.entry((key, entry.stamp)).or_insert(entry);
+                if first != entry {
+                    return Err(format!("key {key}: {first:?} and {entry:?}"));
                 }
             }
         }
@@ -173,6 +180,24 @@ impl Watch {
                     return Err(format!("key {key} from {sender} to {receiver}: not in Zp"));
                 }
             }
+        }
+        Ok(())
+    }
+
+    /// Two agents whose links to each other held before every step have the
+    /// same entry for a key, or none, while it waits in neither.
+    pub fn silent_agree(&mut self, lent: &World) -> Result<(), String> {
+        for &(key, i, j) in &self.linked {
+            let (one, other) = (&lent.agents[i], &lent.agents[j]);
+            let waits = one.to_propagate.contains(&key) || other.to_propagate.contains(&key);
+            if waits || !self.linked.contains(&(key, j, i)) {
+                continue;
+            }
+            let entries = [one, other].map(|agent| agent.entries.get(&key));
+            if entries[0] != entries[1] {
+                return Err(format!("key {key} of {i} and {j}: {entries:?}"));
+            }
+            self.silent += usize::from(entries[0].is_some());
         }
         Ok(())
     }

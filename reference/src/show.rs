@@ -3,7 +3,7 @@
 use crate::machine::{load, open, run};
 use crate::refusal::{Answer, Totals};
 use crate::schedule::MAX_STEPS;
-use crate::state::{World, STATE_WORDS};
+use crate::state::{Entry, World, STATE_WORDS};
 use crate::table::{Sizes, HEADER_BYTES, MAX_NODES};
 
 /// Splits an input into table and schedule, loads and runs.
@@ -50,7 +50,12 @@ fn lines(totals: Totals, world: &World) -> String {
             lines.push(format!("a {i} {key} {value}"));
         }
         for (key, entry) in &agent.entries {
-            lines.push(format!("s {i} {key} {} {}", entry.value, entry.stamp));
+            let Entry {
+                value,
+                stamp,
+                writer,
+            } = entry;
+            lines.push(format!("s {i} {key} {value} {stamp} {writer}"));
         }
         lines.extend(agent.to_confirm.iter().map(|key| format!("c {i} {key}")));
         lines.extend(agent.to_propagate.iter().map(|key| format!("p {i} {key}")));

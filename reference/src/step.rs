@@ -114,8 +114,8 @@ impl World {
             }
             Some((Store::Stigmergy, key, value)) => {
                 self.clock += 1;
-                let stamp = self.clock;
-                agent.entries.insert(key, Entry { value, stamp });
+                let entry = Entry::new(value, self.clock, who as u16);
+                agent.entries.insert(key, entry);
                 agent.to_propagate.insert(key);
             }
         }
@@ -137,7 +137,7 @@ impl World {
             .collect()
     }
 
-    /// The agent takes a newer entry.
+    /// The agent takes a newer entry, which keeps its writer.
     fn take(&mut self, who: usize, key: Key, entry: Entry) {
         let agent = &mut self.agents[who];
         agent.entries.insert(key, entry);

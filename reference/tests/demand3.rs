@@ -1,5 +1,5 @@
 //! The four points of demand 3 along random lists of steps, against a history
-//! that is made without the lent state.
+//! that is made without the lent state, and the agreement that follows from them.
 
 mod common;
 
@@ -11,7 +11,7 @@ use reference::generate::schedules::{any, enabled};
 use reference::history::{Watch, Write};
 use reference::machine::step;
 use reference::rng::Rng;
-use reference::state::{Entry, World};
+use reference::state::{Agent, Entry, World};
 use reference::step::Step;
 
 /// What lists of steps came to.
@@ -22,6 +22,9 @@ struct Seen {
     taken: usize,
     writes: usize,
     newer: usize,
+    silent: usize,
+    /// Entries after a step that neither their holder nor agent 0 wrote.
+    others: usize,
 }
 
 impl Seen {
@@ -31,6 +34,8 @@ impl Seen {
             && self.taken > least.taken
             && self.writes > least.writes
             && self.newer > least.newer
+            && self.silent > least.silent
+            && self.others > least.others
     }
 }
 
@@ -66,6 +71,7 @@ fn watch(rng: &mut Rng, table: &[u8], length: usize, seen: &mut Seen) {
         let after = World::decode(&lent, &fleet).expect("the state is well formed");
         watch.after(&after).unwrap();
         assert_eq!(after.clock as usize, watch.history.writes.len());
+        seen.others += others(&after);
         match answer {
             Ok(taken) => {
                 seen.done += 1;
@@ -79,6 +85,20 @@ fn watch(rng: &mut Rng, table: &[u8], length: usize, seen: &mut Seen) {
     }
     seen.writes += watch.history.writes.len();
     seen.newer += watch.newer;
+    seen.silent += watch.silent;
+}
+
+/// How many entries neither their holder nor agent 0 wrote.
+fn others(world: &World) -> usize {
+    let agents = world.agents.iter().enumerate();
+    let other = |(i, agent): (usize, &Agent)| {
+        let writers = agent
+            .entries
+            .values()
+            .map(|entry| usize::from(entry.writer));
+        writers.filter(|&writer| writer != 0 && writer != i).count()
+    };
+    agents.map(other).sum()
 }
 
 /// Watches a list in each round, on a table and of a length that the round
@@ -106,6 +126,8 @@ fn holds_along_random_lists() {
         taken: 300,
         writes: 300,
         newer: 300,
+        silent: 300,
+        others: 300,
     };
     holds(11, 400, least, |rng, round| {
         let scale = match round % 13 {
@@ -158,6 +180,8 @@ fn holds_where_all_write() {
         taken: 1_000,
         writes: 1_000,
         newer: 3_000,
+        silent: 3_000,
+        others: 3_000,
     };
     let table = all_write().bytes();
     holds(12, 30, least, |_, _| (table.clone(), 200));
@@ -200,20 +224,25 @@ fn after_a_write() -> (World, Watch) {
 
 #[test]
 fn each_point_can_fail() {
-    let entry = |value, stamp| Entry { value, stamp };
     let (sound, mut watch) = after_a_write();
     assert_eq!(watch.after(&sound), Ok(()));
-    // (i) another value, or a stamp that was never taken.
-    for wrong in [entry(8, 1), entry(7, 2)] {
+    // (i) another value, a stamp that was never taken, or another writer.
+    for wrong in [
+        Entry::new(8, 1, 0),
+        Entry::new(7, 2, 0),
+        Entry::new(7, 1, 1),
+    ] {
         let (mut bad, watch) = after_a_write();
         bad.agents[0].entries.insert(0, wrong);
         assert!(watch.entries_are_writes(&bad).is_err());
     }
-    // (ii) the other agent has another value under the same stamp.
+    // (ii) the other agent has another value or writer under the same stamp.
     let (mut bad, watch) = after_a_write();
-    bad.agents[1].entries.insert(0, entry(8, 1));
-    assert!(watch.equal_stamps_agree(&bad).is_err());
-    bad.agents[1].entries.insert(0, entry(8, 2));
+    for wrong in [Entry::new(8, 1, 0), Entry::new(7, 1, 1)] {
+        bad.agents[1].entries.insert(0, wrong);
+        assert!(watch.equal_stamps_agree(&bad).is_err());
+    }
+    bad.agents[1].entries.insert(0, Entry::new(8, 2, 1));
     assert!(watch.equal_stamps_agree(&bad).is_ok());
     // (iii) the entry is lost.
     let (mut bad, mut watch) = after_a_write();
@@ -225,8 +254,23 @@ fn each_point_can_fail() {
     assert!(watch.newer_waits(&bad).is_err());
     assert!(watch.after(&bad).is_err());
     // Both agents alike: then it need not wait.
-    bad.agents[1].entries.insert(0, entry(7, 1));
+    assert!(watch.silent_agree(&bad).is_err());
+    for wrong in [
+        Entry::new(8, 1, 0),
+        Entry::new(7, 2, 0),
+        Entry::new(7, 1, 1),
+    ] {
+        bad.agents[1].entries.insert(0, wrong);
+        assert!(watch.silent_agree(&bad).is_err());
+    }
+    assert_eq!(watch.silent, 0);
+    bad.agents[1].entries.insert(0, Entry::new(7, 1, 0));
     assert_eq!(watch.after(&bad), Ok(()));
+    assert_eq!(watch.silent, 2);
+    // While it waits in one of the two, they may differ.
+    bad.agents[1].to_propagate.insert(0);
+    bad.agents[1].entries.insert(0, Entry::new(7, 1, 1));
+    assert_eq!(watch.silent_agree(&bad), Ok(()));
 }
 
 #[test]

@@ -25,6 +25,15 @@ fn together_they_show_all_that_is_required() {
     let kinds = (0..=255).filter(|kind| required().contains(&Feature::Kind(*kind)));
     assert!(kinds.eq((0..=9).chain(16..=22).chain(32..=40).chain([64])));
     assert!((10..=18).all(|refusal| required().contains(&Feature::Step(refusal))));
+    let writers = [
+        Feature::OtherWriter(false),
+        Feature::OtherWriter(true),
+        Feature::PassedOn,
+        Feature::WrittenOver,
+        Feature::WriterPast,
+        Feature::WriterAlone,
+    ];
+    assert!(required().is_superset(&writers.into()));
 }
 
 #[test]

@@ -31,18 +31,17 @@ fn pair() -> (Vec<u8>, Fleet) {
 
 /// Agent 0 propagates or confirms its entry to agent 1; says what is taken,
 /// and agents 0 and 1 afterwards.
-fn exchange(kind: u8, own: (i32, u32), other: Option<(i32, u32)>) -> (u32, World) {
+fn exchange(kind: u8, own: Entry, other: Option<Entry>) -> (u32, World) {
     let (table, fleet) = pair();
     let mut before = World::start(&fleet);
     before.clock = 9;
-    let entry = |(value, stamp)| Entry { value, stamp };
-    before.agents[0].entries.insert(0, entry(own));
+    before.agents[0].entries.insert(0, own);
     match kind {
         1 => before.agents[0].to_propagate.insert(0),
         _ => before.agents[0].to_confirm.insert(0),
     };
     if let Some(other) = other {
-        before.agents[1].entries.insert(0, entry(other));
+        before.agents[1].entries.insert(0, other);
         before.agents[1].to_confirm.insert(0);
     }
     let mut state = before.words();
@@ -53,7 +52,7 @@ fn exchange(kind: u8, own: (i32, u32), other: Option<(i32, u32)>) -> (u32, World
     };
     let taken = do_step(&table, &mut state, step).expect("the step is done");
     let after = world(&table, &state);
-    assert_eq!(after.agents[0].entries[&0], entry(own));
+    assert_eq!(after.agents[0].entries[&0], own);
     assert!(after.agents[0].to_propagate.is_empty() && after.agents[0].to_confirm.is_empty());
     (taken, after)
 }
@@ -61,9 +60,9 @@ fn exchange(kind: u8, own: (i32, u32), other: Option<(i32, u32)>) -> (u32, World
 #[test]
 fn a_equal_stamp_stays() {
     for kind in [1, 2] {
-        let (taken, after) = exchange(kind, (9, 3), Some((5, 3)));
+        let (taken, after) = exchange(kind, Entry::new(9, 3, 1), Some(Entry::new(5, 3, 0)));
         assert_eq!(taken, 0);
-        assert_eq!(after.agents[1].entries[&0], Entry { value: 5, stamp: 3 });
+        assert_eq!(after.agents[1].entries[&0], Entry::new(5, 3, 0));
         assert!(after.agents[1].to_propagate.is_empty());
         assert!(after.agents[1].to_confirm.contains(&0));
     }
@@ -72,9 +71,9 @@ fn a_equal_stamp_stays() {
 #[test]
 fn b_higher_stamp_is_taken() {
     for kind in [1, 2] {
-        let (taken, after) = exchange(kind, (9, 4), Some((5, 3)));
+        let (taken, after) = exchange(kind, Entry::new(9, 4, 1), Some(Entry::new(5, 3, 0)));
         assert_eq!(taken, 1);
-        assert_eq!(after.agents[1].entries[&0], Entry { value: 9, stamp: 4 });
+        assert_eq!(after.agents[1].entries[&0], Entry::new(9, 4, 1));
         assert!(after.agents[1].to_propagate.contains(&0));
         assert!(after.agents[1].to_confirm.is_empty());
     }
@@ -83,9 +82,9 @@ fn b_higher_stamp_is_taken() {
 #[test]
 fn c_taken_where_none_is_stored() {
     for kind in [1, 2] {
-        let (taken, after) = exchange(kind, (5, 3), None);
+        let (taken, after) = exchange(kind, Entry::new(5, 3, 0), None);
         assert_eq!(taken, 1);
-        assert_eq!(after.agents[1].entries[&0], Entry { value: 5, stamp: 3 });
+        assert_eq!(after.agents[1].entries[&0], Entry::new(5, 3, 0));
         assert!(after.agents[1].to_propagate.contains(&0));
     }
 }
@@ -260,13 +259,13 @@ fn small_remainders_by_searching_the_floor() {
 
 #[test]
 fn j_a_confirm_leaves_newer_entries_alone() {
-    let (taken, after) = exchange(2, (5, 3), Some((9, 4)));
+    let (taken, after) = exchange(2, Entry::new(5, 3, 1), Some(Entry::new(9, 4, 0)));
     assert_eq!(taken, 0);
-    assert_eq!(after.agents[1].entries[&0], Entry { value: 9, stamp: 4 });
+    assert_eq!(after.agents[1].entries[&0], Entry::new(9, 4, 0));
     assert!(after.agents[1].to_propagate.contains(&0));
     assert!(after.agents[1].to_confirm.contains(&0));
     // A propagate does nothing at all to a newer entry.
-    let (taken, after) = exchange(1, (5, 3), Some((9, 4)));
+    let (taken, after) = exchange(1, Entry::new(5, 3, 1), Some(Entry::new(9, 4, 0)));
     assert_eq!(taken, 0);
     assert!(after.agents[1].to_propagate.is_empty());
 }
@@ -287,10 +286,10 @@ fn a_load_writes_every_word() {
         set,
         [
             (1, 2),
-            (34 + 66, 1),
-            (34 + 67, 1),
-            (34 + 130 + 66, 1),
-            (34 + 130 + 67, 3)
+            (34 + 82, 1),
+            (34 + 83, 1),
+            (34 + 146 + 82, 1),
+            (34 + 146 + 83, 3)
         ]
     );
 }
@@ -298,13 +297,13 @@ fn a_load_writes_every_word() {
 const EXAMPLE_LINES: &str = "\
 done 5 refused 2 taken 1
 clock 1
-s 0 0 7 1
+s 0 0 7 1 0
 a 1 0 7
-s 1 0 7 1
+s 1 0 7 1 0
 ";
 
 #[test]
-fn the_example_is_printed_as_in_the_paper() {
+fn the_example_is_printed_as_in_the_paper_with_writers() {
     // The bytes, spelt out.
     let mut input: Vec<u8> = vec![8, 0, 0, 0, 2, 0, 1, 0, 1, 0, 0, 0];
     input.extend([32, 3, 34, 2, 16, 64, 64, 64]);
@@ -391,13 +390,13 @@ fn show_prints_every_kind_of_line_in_order() {
 done 8 refused 1 taken 1
 clock 3
 e 1 -3
-s 0 0 5 2
-s 0 1 9 3
+s 0 0 5 2 0
+s 0 1 9 3 0
 c 0 0
 c 0 1
 p 0 1
 a 1 0 7
-s 1 1 4 1
+s 1 1 4 1 0
 ";
     assert_eq!(show(&input), expected);
 }
@@ -428,6 +427,38 @@ fn thirty_two_agents_pass() {
     let mut state = start(&table);
     assert_eq!(steps(&table, &mut state, Step::act(31, 0)), 0);
     assert_eq!(do_step(&table, &mut state, Step::propagate(31, 0)), Ok(31));
+    let agents = world(&table, &state).agents;
+    assert!(agents.iter().all(|a| a.entries[&0] == Entry::new(1, 1, 31)));
+}
+
+#[test]
+fn show_prints_the_writer() {
+    // Agent 1 writes 7; agent 0 takes it and writes 8; agent 2 takes that.
+    let mut draft = Draft::new(0, 0);
+    let [seven, eight] = [7, 8].map(|value| draft.constant(value));
+    let writes = [eight, seven].map(|value| draft.set_stigmergy(0, value));
+    let (idle, link) = (draft.idle(), draft.truth());
+    draft.link(link);
+    for start in [writes[0], writes[1], idle] {
+        draft.agent(start);
+    }
+    let list = [
+        Step::act(1, 0),
+        Step::propagate(1, 0),
+        Step::propagate(0, 0),
+        Step::act(0, 0),
+    ];
+    let shown = |list: &[Step]| show(&[draft.bytes(), schedule::write(list)].concat());
+    let expected = "\
+done 4 refused 0 taken 2
+clock 2
+s 0 0 8 2 0
+p 0 0
+s 1 0 7 1 1
+s 2 0 7 1 1
+p 2 0
+";
+    assert_eq!(shown(&list), expected);
 }
 
 #[test]

@@ -12,7 +12,7 @@ use reference::generate::schedules::mostly_enabled;
 use reference::generate::worlds::{invented, reached};
 use reference::machine::open;
 use reference::rng::Rng;
-use reference::state::{World, STATE_WORDS};
+use reference::state::{wrong_writer, World, STATE_WORDS};
 use reference::stats::{Stats, Tally};
 use reference::step::Step;
 use reference::syntax::{ExprForm, GuardForm, Party, ProcessForm};
@@ -284,21 +284,44 @@ fn most_steps_of_schedules_are_done() {
 #[test]
 fn states_are_well_formed_and_some_have_no_load() {
     let rng = &mut Rng::new(23);
-    let mut unreachable = 0;
+    let mut unreachable = [0; 2];
     for _ in 0..300 {
         let (_, fleet) = accepted(rng, Scale::Middle);
         for world in [invented(rng, &fleet), reached(rng, &fleet, 40)] {
             let words = world.words();
             assert_eq!(World::decode(&words, &fleet).as_ref(), Some(&world));
         }
-        // Two values under one stamp and key.
+        // Two values, or two writers, under one stamp and key.
         let world = invented(rng, &fleet);
         let entries = world.agents.iter().flat_map(|agent| &agent.entries);
-        let mut values = std::collections::BTreeMap::new();
+        let mut firsts = std::collections::BTreeMap::new();
         for (&key, entry) in entries {
-            let first = *values.entry((key, entry.stamp)).or_insert(entry.value);
-            unreachable += usize::from(first != entry.value);
+            let first = *firsts.entry((key, entry.stamp)).or_insert(entry);
+            unreachable[0] += usize::from(first.value != entry.value);
+            unreachable[1] += usize::from(first.writer != entry.writer);
         }
     }
-    assert!(unreachable > 50, "{unreachable}");
+    assert!(unreachable.iter().all(|&n| n > 50), "{unreachable:?}");
+}
+
+#[test]
+fn wrong_writers_are_reached() {
+    for (seed, small) in [(1, false), (2, true)] {
+        let mut faults = BTreeSet::new();
+        let mut last = 0;
+        for (case, outcome) in outcomes(seed, small) {
+            if outcome.refusal() == 9 {
+                faults.extend(wrong_writer(&case.state, &fleet(&case.table)));
+            } else if outcome.refusal() == 0 && case.call != Call::Load {
+                let world = world(&case.table, &case.state);
+                let end = world.agents.len() as u16 - 1;
+                let entries = world.agents.iter().flat_map(|agent| agent.entries.values());
+                last += entries
+                    .filter(|entry| end > 0 && entry.writer == end)
+                    .count();
+            }
+        }
+        assert_eq!(faults.len(), 5, "{faults:?}");
+        assert!(last > 100, "{last}");
+    }
 }

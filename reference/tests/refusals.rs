@@ -599,6 +599,7 @@ fn r8_room() {
     let table = edges::example().bytes();
     let (kind, agent, number) = (0, 0, 0);
     let list = schedule::write(&edges::example_steps());
+    assert_eq!(STATE_WORDS, 4_706);
     for (words, scratch, fine) in [
         (STATE_WORDS, 16, true),
         (STATE_WORDS, 15, false),
@@ -682,7 +683,8 @@ fn pending(confirm: bool, propagate: bool) -> (Vec<u8>, Vec<u32>) {
     let mut world = World::start(&fleet);
     world.clock = 5;
     let agent = &mut world.agents[0];
-    agent.entries.insert(0, Entry { value: 1, stamp: 5 });
+    let entry = Entry::new(1, 5, 1);
+    agent.entries.insert(0, entry);
     if confirm {
         agent.to_confirm.insert(0);
     }
@@ -864,9 +866,8 @@ fn r15_absent_in_every_store() {
         world.clock = 1;
         assert_eq!(steps(&table, &mut world.words(), Step::act(0, 0)), 15);
         world.agents[0].attributes.insert(0, 3);
-        world.agents[0]
-            .entries
-            .insert(0, Entry { value: 3, stamp: 1 });
+        let entry = Entry::new(3, 1, 0);
+        world.agents[0].entries.insert(0, entry);
         world.environment.insert(0, 3);
         assert_eq!(steps(&table, &mut world.words(), Step::act(0, 0)), 0);
     }

@@ -4,10 +4,11 @@ mod common;
 
 use common::*;
 use reference::draft::Draft;
+use reference::generate::edges;
 use reference::machine::{run, step};
 use reference::state::{
-    Entry, World, AGENTS_AT, AGENT_WORDS, CONFIRM_AT, ENTRIES_AT, ENVIRONMENT_AT, LENGTH_AT,
-    PROPAGATE_AT, RESIDUAL_AT, STATE_WORDS,
+    entry_at, Entry, World, AGENTS_AT, AGENT_WORDS, CONFIRM_AT, ENTRIES_AT, ENTRY_WORDS,
+    ENVIRONMENT_AT, LENGTH_AT, PROPAGATE_AT, RESIDUAL_AT, STATE_WORDS,
 };
 use reference::term::{Term, IDLE, PARALLEL, SEQUENCE, TICK};
 
@@ -33,13 +34,7 @@ fn sound() -> World {
     world.clock = 10;
     world.environment.insert(1, -1);
     world.agents[1].attributes.insert(0, 5);
-    world.agents[1].entries.insert(
-        1,
-        Entry {
-            value: 0,
-            stamp: 10,
-        },
-    );
+    world.agents[1].entries.insert(1, Entry::new(0, 10, 1));
     world.agents[1].to_confirm.insert(1);
     world.agents[1].to_propagate.insert(1);
     world.agents[1].residual = Term::sequence(Term::Tick, node(&fleet, 1));
@@ -79,9 +74,11 @@ fn the_sound_state_is_well_formed() {
     assert_eq!(state[0], 10);
     assert_eq!(state[1], 2);
     assert_eq!(state[4..6], [1, u32::MAX]);
-    assert_eq!(state[164..166], [1, 5]);
-    assert_eq!(state[164 + 34..164 + 36], [0, 10]);
-    assert_eq!(state[164 + 64..164 + 71], [2, 2, 3, SEQUENCE, TICK, 1, 0]);
+    assert_eq!(state[180..182], [1, 5]);
+    assert_eq!(state[180 + 35..180 + 38], [0, 10, 1]);
+    assert_eq!(state[180 + 80..180 + 87], [2, 2, 3, SEQUENCE, TICK, 1, 0]);
+    assert_eq!(entry_at(1, 1), 180 + 35);
+    assert_eq!(state.len(), 34 + 32 * 146);
 }
 
 #[test]
@@ -120,9 +117,50 @@ fn entries() {
     assert!(with(&[(0, 11), (at + 1, 11)]));
     assert!(!with(&[(0, 9)]), "the clock under a stamp");
     assert!(!with(&[(at, 3)]), "no entry has value 0");
-    for key in 2..16 {
-        assert!(!with(&[(at + 2 * key + 1, 1)]));
-        assert!(!with(&[(at + 2 * key, 1)]));
+    for word in ENTRY_WORDS * 2..ENTRY_WORDS * 16 {
+        assert!(!with(&[(at + word, 1)]));
+    }
+}
+
+#[test]
+fn writers() {
+    let second = entry_at(1, 1);
+    assert!(with(&[(second + 2, 0)]));
+    for writer in [2, 3, 32, 65_536, 65_537, u32::MAX] {
+        assert!(!with(&[(second + 2, writer)]), "{writer} is not below A");
+    }
+    let first = entry_at(0, 0);
+    for writer in [1, 2, u32::MAX] {
+        assert!(!with(&[(first + 2, writer)]), "no entry has writer 0");
+    }
+    assert!(!with(&[(first, 3), (first + 2, 1)]));
+    assert!(with(&[(first + 1, 1), (first + 2, 1)]));
+    assert!(!with(&[(first + 1, 1), (first + 2, 2)]));
+    assert!(!with(&[(first + 1, 11), (first + 2, 1)]));
+    // Past S and past A, also as a whole entry.
+    for at in [entry_at(0, 2), entry_at(0, 15), entry_at(2, 0)] {
+        assert!(!with(&[(at + 2, 1)]));
+        assert!(!with(&[(at, 3), (at + 1, 1), (at + 2, 1)]));
+    }
+}
+
+/// Whoever holds an entry, its writer may be any agent that there is.
+#[test]
+fn the_last_writer() {
+    for agents in [1, 2, 7, 32] {
+        let table = edges::crowd(agents).bytes();
+        let mut state = start(&table);
+        state[0] = 1;
+        for holder in [0, agents - 1] {
+            for writer in 0..40 {
+                let mut state = state.clone();
+                let at = entry_at(holder, 0);
+                state[at..at + ENTRY_WORDS].copy_from_slice(&[0, 1, writer]);
+                let ran = brief(run(&table, &mut state, SCRATCH, &[0, 0], &mut []));
+                let below = writer < agents as u32;
+                assert_eq!(ran, if below { (0, 0) } else { (9, 0) });
+            }
+        }
     }
 }
 
@@ -189,7 +227,7 @@ fn residuals() {
     words.extend([1; 32]);
     assert!(residual(63, &words));
     assert!(!residual(62, &words[..62]));
-    for length in [64, 65, 66, 130, u32::MAX] {
+    for length in [64, 65, 66, 146, u32::MAX] {
         assert!(!residual(length, &words));
     }
 }

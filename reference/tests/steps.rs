@@ -8,10 +8,6 @@ use reference::state::{Entry, World};
 use reference::step::Step;
 use reference::table::Fleet;
 
-fn entry(value: i32, stamp: u32) -> Entry {
-    Entry { value, stamp }
-}
-
 /// A fleet of one agent with this process, 2 attributes, 4 stigmergy keys and
 /// 1 environment key; the agent has entries for keys 1, 2, 3 but not for 0.
 fn alone(process: impl Fn(&mut Draft) -> u16) -> (Vec<u8>, Fleet, World) {
@@ -28,7 +24,7 @@ fn alone(process: impl Fn(&mut Draft) -> u16) -> (Vec<u8>, Fleet, World) {
         let stamp = 10 + u32::from(key);
         world.agents[0]
             .entries
-            .insert(key, entry(i32::from(key), stamp));
+            .insert(key, Entry::new(i32::from(key), stamp, 0));
     }
     (table, fleet, world)
 }
@@ -110,7 +106,7 @@ fn a_stigmergy_write_takes_the_next_stamp() {
     });
     let mut same = before.clone();
     same.clock = 21;
-    same.agents[0].entries.insert(0, entry(2, 21));
+    same.agents[0].entries.insert(0, Entry::new(2, 21, 0));
     same.agents[0].to_propagate.insert(0);
     same.agents[0].to_confirm.insert(2);
     same.agents[0].residual = reference::term::Term::Tick;
@@ -124,8 +120,8 @@ fn a_write_that_reads_its_own_key_is_in_both_sets() {
         let sum = d.binary(0, read, one);
         d.set_stigmergy(1, sum)
     });
-    assert_eq!(before.agents[0].entries[&1], entry(1, 11));
-    assert_eq!(after.agents[0].entries[&1], entry(2, 21));
+    assert_eq!(before.agents[0].entries[&1], Entry::new(1, 11, 0));
+    assert_eq!(after.agents[0].entries[&1], Entry::new(2, 21, 0));
     assert_eq!(keys(&after.agents[0].to_confirm), [1]);
     assert_eq!(keys(&after.agents[0].to_propagate), [1]);
 }
@@ -193,10 +189,10 @@ fn after(table: &[u8], world: &World, step: Step) -> (u32, World) {
 #[test]
 fn links_have_a_direction() {
     let (table, mut before) = linked(&[3, 2, 4, 3, 5]);
-    before.agents[0].entries.insert(0, entry(-8, 6));
+    before.agents[0].entries.insert(0, Entry::new(-8, 6, 3));
     before.agents[0].to_propagate.insert(0);
     before.agents[0].to_confirm.insert(0);
-    before.agents[4].entries.insert(0, entry(1, 5));
+    before.agents[4].entries.insert(0, Entry::new(1, 5, 4));
     before.agents[4].to_confirm.insert(0);
     for kind in [1, 2] {
         let (taken, after) = after(
@@ -216,7 +212,7 @@ fn links_have_a_direction() {
             same.agents[0].to_confirm.clear();
         }
         for i in [2, 4] {
-            same.agents[i].entries.insert(0, entry(-8, 6));
+            same.agents[i].entries.insert(0, Entry::new(-8, 6, 3));
             same.agents[i].to_propagate.insert(0);
             same.agents[i].to_confirm.remove(&0);
         }
@@ -228,19 +224,19 @@ fn links_have_a_direction() {
 #[test]
 fn a_link_may_read_what_is_sent() {
     let (table, mut before) = linked(&[1, 1, 1]);
-    for (agent, own) in before
-        .agents
-        .iter_mut()
-        .zip([entry(7, 8), entry(3, 2), entry(6, 2)])
-    {
+    for (agent, own) in before.agents.iter_mut().zip([
+        Entry::new(7, 8, 2),
+        Entry::new(3, 2, 0),
+        Entry::new(6, 2, 1),
+    ]) {
         agent.entries.insert(1, own);
     }
     before.agents[0].to_propagate.insert(1);
     // The link is judged on what agent 1 held before.
     let (taken, got) = after(&table, &before, Step::propagate(0, 1));
     assert_eq!(taken, 1);
-    assert_eq!(got.agents[1].entries[&1], entry(7, 8));
-    assert_eq!(got.agents[2].entries[&1], entry(6, 2));
+    assert_eq!(got.agents[1].entries[&1], Entry::new(7, 8, 2));
+    assert_eq!(got.agents[2].entries[&1], Entry::new(6, 2, 1));
     // An absent entry is not below 5; the other part of the or decides.
     before.agents[1].entries.clear();
     let (taken, _) = after(&table, &before, Step::propagate(0, 1));
@@ -254,11 +250,11 @@ fn a_link_may_read_what_is_sent() {
 fn a_confirm_asks_linked_agents_only() {
     let (table, mut before) = linked(&[3, 2, 4, 5, 6]);
     let entries = [
-        entry(0, 5),
-        entry(1, 9),
-        entry(2, 9),
-        entry(3, 5),
-        entry(4, 4),
+        Entry::new(0, 5, 2),
+        Entry::new(1, 9, 0),
+        Entry::new(2, 9, 1),
+        Entry::new(3, 5, 3),
+        Entry::new(4, 4, 4),
     ];
     for (agent, own) in before.agents.iter_mut().zip(entries) {
         agent.entries.insert(0, own);
@@ -269,9 +265,80 @@ fn a_confirm_asks_linked_agents_only() {
     same.agents[0].to_confirm.clear();
     // 1 is newer but not linked; 2 is newer; 3 is as new; 4 is older.
     same.agents[2].to_propagate.insert(0);
-    same.agents[4].entries.insert(0, entry(0, 5));
+    same.agents[4].entries.insert(0, Entry::new(0, 5, 2));
     same.agents[4].to_propagate.insert(0);
     same.agents[4].to_confirm.clear();
     assert_eq!(taken, 1);
     assert_eq!(got, same);
+}
+
+/// Three agents that can enter, write 7 or read what they hold, under a link
+/// that reaches whoever has entered.
+fn relay() -> Vec<u8> {
+    let mut draft = Draft::new(2, 0);
+    let one = draft.constant(1);
+    let enter = draft.set_attribute(0, one);
+    let seven = draft.constant(7);
+    let write = draft.set_stigmergy(0, seven);
+    let held = draft.stigmergy(0, 0);
+    let read = draft.set_attribute(1, held);
+    let either = draft.choice(enter, write);
+    let any = draft.choice(either, read);
+    let again = draft.call(0);
+    let body = draft.sequence(any, again);
+    draft.define(body);
+    let (x, y) = (draft.attribute(0, 2), draft.attribute(0, 2));
+    let entered = draft.equal(x, y);
+    draft.link(entered);
+    draft.agents = vec![body; 3];
+    draft.bytes()
+}
+
+/// Does the steps, each of which is done, and says the agents' entries.
+fn entries(table: &[u8], state: &mut Vec<u32>, list: &[Step]) -> Vec<Option<Entry>> {
+    for &step in list {
+        assert_eq!(steps(table, state, step), 0);
+    }
+    let agents = world(table, state).agents;
+    let held = agents.iter().map(|agent| agent.entries.get(&0).copied());
+    held.collect()
+}
+
+#[test]
+fn who_passes_on_does_not_write() {
+    let table = relay();
+    let (enter, write, read) = (0, 1, 2);
+    let (first, second) = (Some(Entry::new(7, 1, 2)), Some(Entry::new(7, 2, 0)));
+    // Agent 1 passes on by a propagate, or by a confirm.
+    let by_propagate = vec![Step::act(0, enter), Step::propagate(1, 0)];
+    let by_confirm = vec![
+        Step::propagate(1, 0),
+        Step::act(0, enter),
+        Step::act(1, read),
+        Step::confirm(1, 0),
+    ];
+    for passes_on in [by_propagate, by_confirm] {
+        let mut state = start(&table);
+        let mut after = |list: &[Step]| entries(&table, &mut state, list);
+        // Agent 2 writes and reaches agent 1, which reaches agent 0.
+        let writes = [
+            Step::act(1, enter),
+            Step::act(2, write),
+            Step::propagate(2, 0),
+        ];
+        assert_eq!(after(&writes), [None, first, first]);
+        assert_eq!(after(&passes_on), [first; 3]);
+        // Agent 0 writes over it, and reaches both once agent 2 has entered.
+        let writes = [Step::propagate(0, 0), Step::act(0, write)];
+        assert_eq!(after(&writes), [second, first, first]);
+        let reaches = [Step::act(2, enter), Step::propagate(0, 0)];
+        assert_eq!(after(&reaches), [second; 3]);
+        // Agent 1 writes over that.
+        let writes = [
+            Step::propagate(1, 0),
+            Step::act(1, write),
+            Step::propagate(1, 0),
+        ];
+        assert_eq!(after(&writes), [Some(Entry::new(7, 3, 1)); 3]);
+    }
 }

@@ -1,7 +1,7 @@
 //! What a rehearsal shows of the definitions that are computed on it. A thing
 //! is counted where a change of it would change what the rehearsal gives.
 
-use std::collections::BTreeSet;
+use std::collections::{BTreeMap, BTreeSet};
 use std::fmt;
 use std::rc::Rc;
 
@@ -10,7 +10,7 @@ use crate::count::{count, OVER};
 use crate::derive::{any_over, count_term, list, select, Derivation};
 use crate::machine::open;
 use crate::schedule;
-use crate::state::{World, MAX_CLOCK, STATE_WORDS};
+use crate::state::{wrong_writer, World, WrongWriter, MAX_CLOCK, STATE_WORDS};
 use crate::step::Step;
 use crate::syntax::{
     Expr, ExprForm, Guard, GuardForm, Key, NodeId, Operator, Process, ProcessForm, Store,
@@ -90,6 +90,18 @@ pub enum Feature {
     /// An agent with another value under the same stamp is left alone. No load
     /// leads to such a state.
     EqualStamps,
+    /// An agent takes an entry that is confirmed (true) or propagated, and that
+    /// neither it nor the sender nor agent 0 wrote.
+    OtherWriter(bool),
+    /// An agent takes an entry that was written in the run, by another one than
+    /// the sender and agent 0.
+    PassedOn,
+    /// An agent writes where it has an entry that another one wrote.
+    WrittenOver,
+    /// A run is refused for one writer alone: that of an entry, which is A.
+    WriterPast,
+    /// The same: one above 0 and below A, where there is no entry.
+    WriterAlone,
     /// A refused step of a run with done ones before and after it.
     RefusedAmongDone,
 }
@@ -118,6 +130,12 @@ impl fmt::Display for Feature {
             Feature::LinksDiffer => write!(out, "links of keys differ"),
             Feature::OneWay => write!(out, "link one way"),
             Feature::EqualStamps => write!(out, "equal stamps"),
+            Feature::OtherWriter(false) => write!(out, "propagate of another's write taken"),
+            Feature::OtherWriter(true) => write!(out, "confirm of another's write taken"),
+            Feature::PassedOn => write!(out, "write passed on twice"),
+            Feature::WrittenOver => write!(out, "another's write written over"),
+            Feature::WriterPast => write!(out, "refused for a writer past the last"),
+            Feature::WriterAlone => write!(out, "refused for a writer without entry"),
             Feature::RefusedAmongDone => write!(out, "refused among done"),
         }
     }
@@ -134,6 +152,7 @@ pub fn required() -> BTreeSet<Feature> {
     for divisor in [false, true] {
         all.extend([39, 40].map(|kind| Feature::Inexact(kind, divisor)));
     }
+    all.extend([false, true].map(Feature::OtherWriter));
     all.extend([
         Feature::UndefinedNegated,
         Feature::LaterChoice,
@@ -148,6 +167,10 @@ pub fn required() -> BTreeSet<Feature> {
         Feature::LinksDiffer,
         Feature::OneWay,
         Feature::EqualStamps,
+        Feature::PassedOn,
+        Feature::WrittenOver,
+        Feature::WriterPast,
+        Feature::WriterAlone,
         Feature::RefusedAmongDone,
     ]);
     all
@@ -175,8 +198,9 @@ pub fn shown(equation: &Equation) -> BTreeSet<Feature> {
     }
     if run != 0 {
         seen.insert(Feature::Run(run));
-        if run == 9 && steps.is_err() {
-            seen.insert(Feature::Both(9, 19));
+        if run == 9 {
+            seen.extend(writer_feature(equation));
+            seen.extend(steps.is_err().then_some(Feature::Both(9, 19)));
         }
         return seen;
     }
@@ -186,11 +210,22 @@ pub fn shown(equation: &Equation) -> BTreeSet<Feature> {
         table: &equation.table,
         fleet: &fleet,
         called: [false; 2],
+        writers: BTreeMap::new(),
         seen,
     };
     observer.table();
     observer.run(world, &steps.expect("run accepts it"), equation.answers());
     observer.seen
+}
+
+/// How one writer alone makes the state ill-formed.
+fn writer_feature(equation: &Equation) -> Option<Feature> {
+    let fleet = open(&equation.table, STATE_WORDS, usize::MAX).expect("load accepts it");
+    match wrong_writer(&equation.before(), &fleet)? {
+        WrongWriter::Alone => Some(Feature::WriterAlone),
+        WrongWriter::Agents => Some(Feature::WriterPast),
+        _ => None,
+    }
 }
 
 /// Follows a run.
@@ -199,6 +234,8 @@ struct Observer<'a> {
     fleet: &'a Fleet,
     /// Whether done acts have called definition 0, and another one.
     called: [bool; 2],
+    /// Who wrote the stamps of the run.
+    writers: BTreeMap<u32, usize>,
     seen: BTreeSet<Feature>,
 }
 
@@ -245,8 +282,25 @@ impl Observer<'_> {
                     _ => {}
                 }
             }
+            let before = world.clone();
             let again = world.step(self.fleet, step);
+            if world.clock > before.clock {
+                self.wrote(&before, &world, usize::from(step.agent));
+            }
             assert_eq!(again.map_or_else(|r| r.reason.number(), |_| 0), answer);
+        }
+    }
+
+    /// A write of an agent, from what was before and after it.
+    fn wrote(&mut self, before: &World, after: &World, who: usize) {
+        self.writers.insert(after.clock, who);
+        let mut entries = after.agents[who].entries.iter();
+        let (key, _) = entries
+            .find(|(_, entry)| entry.stamp == after.clock)
+            .expect("what is written");
+        let held = before.agents[who].entries.get(key);
+        if held.is_some_and(|entry| usize::from(entry.writer) != who) {
+            self.see(Feature::WrittenOver);
         }
     }
 
@@ -410,6 +464,13 @@ impl Observer<'_> {
                 } else {
                     Feature::Propagated
                 });
+                if ![0, sender, receiver].contains(&usize::from(sent.writer)) {
+                    self.see(Feature::OtherWriter(confirms));
+                }
+                let writer = self.writers.get(&sent.stamp);
+                if writer.is_some_and(|writer| ![0, sender].contains(writer)) {
+                    self.see(Feature::PassedOn);
+                }
             }
             if linked && gains {
                 self.see(Feature::Answered);

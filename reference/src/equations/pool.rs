@@ -2,12 +2,13 @@
 
 use super::Equation;
 use crate::derive::count_term;
+use crate::draft::Draft;
 use crate::faults;
 use crate::generate::{edges, fleets, schedules, worlds};
 use crate::machine::open;
 use crate::rng::Rng;
 use crate::schedule;
-use crate::state::{World, STATE_WORDS};
+use crate::state::{entry_at, Entry, World, STATE_WORDS};
 use crate::step::Step;
 use crate::table::Fleet;
 use crate::term::Term;
@@ -21,7 +22,14 @@ const DERIVATIONS: u32 = 24;
 
 /// Made rehearsals, for what hardly any generated one shows, and generated ones.
 pub fn pool(seed: u64) -> Vec<Equation> {
-    let mut all = vec![full(true), full(false), orders(), state_and_schedule()];
+    let mut all = vec![
+        full(true),
+        full(false),
+        orders(),
+        state_and_schedule(),
+        passed_on(),
+        unlike_signs(),
+    ];
     let generators = (0..GENERATED).map(|index| Rng::for_index(seed, index));
     all.extend(generators.filter_map(|mut rng| generated(&mut rng)));
     all
@@ -47,14 +55,59 @@ fn orders() -> Equation {
     Equation::new(table, &world.words(), schedule::write(&steps))
 }
 
-/// A state that is not well formed, and a schedule with a byte too many.
+/// A state whose one entry has a writer that is A, and a schedule with a byte
+/// too many.
 fn state_and_schedule() -> Equation {
     let (table, fleet) = edges::accept(&edges::example());
-    let mut state = World::start(&fleet).words();
-    state[STATE_WORDS - 1] = 1;
+    let mut world = World::start(&fleet);
+    world.clock = 1;
+    let entry = Entry::new(7, 1, fleet.sizes.agents as u16);
+    world.agents[0].entries.insert(0, entry);
+    let state = world.words();
     let mut schedule = schedule::write(&edges::example_steps());
     schedule.push(0);
     Equation::new(table, &state, schedule)
+}
+
+/// A link reaches whoever has set its attribute. Agent 1 writes and reaches
+/// agent 2, which reaches agent 0, which writes in turn.
+fn passed_on() -> Equation {
+    let mut draft = Draft::new(1, 0);
+    let values = [1, 7, 9].map(|value| draft.constant(value));
+    let enter = draft.set_attribute(0, values[0]);
+    let [write, later] = [1, 2].map(|i| draft.set_stigmergy(0, values[i]));
+    let both = draft.sequence(enter, later);
+    let (x, y) = (draft.attribute(0, 2), draft.attribute(0, 2));
+    let entered = draft.equal(x, y);
+    draft.link(entered);
+    draft.agents = vec![both, write, enter];
+    let steps = [
+        Step::act(2, 0),
+        Step::act(1, 0),
+        Step::propagate(1, 0),
+        Step::act(0, 0),
+        Step::propagate(2, 0),
+        Step::propagate(0, 0),
+        Step::act(0, 0),
+    ];
+    Equation::after_load(draft.bytes(), schedule::write(&steps))
+}
+
+/// What operators give of numbers of unlike signs, each set by an agent of its
+/// own.
+fn unlike_signs() -> Equation {
+    let mut draft = Draft::new(1, 0);
+    for (x, y, operators) in [(8, -3, &[0, 1, 3, 4][..]), (-8, 3, &[3, 4])] {
+        for &operator in operators {
+            let (x, y) = (draft.constant(x), draft.constant(y));
+            let value = draft.binary(operator, x, y);
+            let set = draft.set_attribute(0, value);
+            draft.agent(set);
+        }
+    }
+    let acts = (0..draft.agents.len()).map(|agent| Step::act(agent as u16, 0));
+    let schedule = schedule::write(&acts.collect::<Vec<_>>());
+    Equation::after_load(draft.bytes(), schedule)
 }
 
 /// A table that is refused, or not, for one node.
@@ -90,6 +143,11 @@ fn generated(rng: &mut Rng) -> Option<Equation> {
     match rng.below(20) {
         0 => state[rng.below(STATE_WORDS)] = rng.below(70_000) as u32,
         1 => schedule.push(0),
+        2 if fleet.sizes.stigmergy > 0 => {
+            let agents = fleet.sizes.agents;
+            let at = entry_at(rng.below(agents), rng.below(fleet.sizes.stigmergy));
+            state[at + 2] = rng.between(1, agents) as u32;
+        }
         _ => {}
     }
     Some(Equation::new(table, &state, schedule))

@@ -3,8 +3,8 @@
 use crate::cases::{Call, Case};
 use crate::rng::Rng;
 use crate::state::{
-    AGENTS_AT, AGENT_WORDS, CONFIRM_AT, ENTRIES_AT, ENVIRONMENT_AT, LENGTH_AT, PROPAGATE_AT,
-    RESIDUAL_AT, STATE_WORDS,
+    entry_at, AGENTS_AT, AGENT_WORDS, CONFIRM_AT, ENTRY_WORDS, ENVIRONMENT_AT, LENGTH_AT,
+    PROPAGATE_AT, RESIDUAL_AT, STATE_WORDS,
 };
 use crate::table::{Sizes, HEADER_BYTES, MAX_AGENTS, MAX_KEYS};
 use crate::term::{IDLE, MAX_WORDS, PARALLEL, SEQUENCE, TICK};
@@ -14,7 +14,7 @@ pub fn damage(rng: &mut Rng, case: &mut Case) {
     let sizes = Sizes::of_header(&case.table).expect("an accepted table has a header");
     let on_state = usize::from(!matches!(case.call, Call::Load));
     let on_run = usize::from(matches!(case.call, Call::Run { .. }));
-    match rng.weighted(&[8, 1, 1, 6 * on_state, 3 * on_run, on_run]) {
+    match rng.weighted(&[8, 1, 1, 6 * on_state, 2 * on_state, 3 * on_run, on_run]) {
         0 => damage_table(rng, &mut case.table, sizes),
         1 => case.scratch = *rng.pick(&[0, 1, sizes.nodes, 2 * sizes.nodes - 1]),
         2 => {
@@ -22,7 +22,8 @@ pub fn damage(rng: &mut Rng, case: &mut Case) {
             case.state.resize(length, case.fill);
         }
         3 => damage_state(rng, &mut case.state, sizes),
-        4 => damage_schedule(rng, case),
+        4 => damage_writer(rng, &mut case.state, sizes),
+        5 => damage_schedule(rng, case),
         _ => {
             if let Call::Run { schedule, answers } = &mut case.call {
                 *answers = (schedule.len() / 5).saturating_sub(1);
@@ -90,7 +91,7 @@ fn damage_state(rng: &mut Rng, state: &mut [u32], sizes: Sizes) {
         0 => rng.below(2),
         1 => ENVIRONMENT_AT + pair,
         2 => block + pair,
-        3 => block + ENTRIES_AT + pair,
+        3 => entry_at(agent, key) + rng.below(ENTRY_WORDS),
         4 => block + *rng.pick(&[CONFIRM_AT, PROPAGATE_AT]),
         5 => block + LENGTH_AT,
         6 | 7 => block + RESIDUAL_AT + rng.below(residual),
@@ -117,6 +118,25 @@ fn damage_state(rng: &mut Rng, state: &mut [u32], sizes: Sizes) {
         rng.word() as u32,
     ];
     state[at] = *rng.pick(&values);
+}
+
+/// A writer below A or not, where the stamp is above 0 or not, at times past
+/// the keys or the agents.
+fn damage_writer(rng: &mut Rng, state: &mut [u32], sizes: Sizes) {
+    let keys = if rng.chance(80) {
+        sizes.stigmergy.max(1)
+    } else {
+        MAX_KEYS
+    };
+    let agents = if rng.chance(80) {
+        sizes.agents
+    } else {
+        MAX_AGENTS
+    };
+    let at = entry_at(rng.below(agents), rng.below(keys));
+    let past = sizes.agents as u32;
+    let writers = [0, 1, past - 1, past, past, past + 1, 65_536, u32::MAX];
+    state[at + 2] = *rng.pick(&writers);
 }
 
 fn damage_schedule(rng: &mut Rng, case: &mut Case) {

@@ -6,7 +6,7 @@ use crate::generate::fleets::{self, Scale};
 use crate::machine::open;
 use crate::rng::Rng;
 use crate::schedule::{self, MAX_STEPS};
-use crate::state::{Agent, World, MAX_CLOCK, STATE_WORDS};
+use crate::state::{entry_at, Agent, Entry, World, MAX_CLOCK, STATE_WORDS};
 use crate::step::Step;
 use crate::table::{Fleet, MAX_AGENTS, MAX_DEFINITIONS, MAX_KEYS, MAX_NODES};
 use crate::term::{Term, MAX_WORDS, SEQUENCE, TICK};
@@ -14,7 +14,7 @@ use crate::term::{Term, MAX_WORDS, SEQUENCE, TICK};
 type Make = fn(&mut Rng) -> Case;
 
 /// Edges that need few nodes.
-const SMALL: [Make; 17] = [
+const SMALL: [Make; 18] = [
     short_table,
     few_sizes,
     sizes_in_header,
@@ -26,6 +26,7 @@ const SMALL: [Make; 17] = [
     filling_residual,
     last_choice,
     clock_end,
+    last_writer,
     long_residual,
     schedule_length,
     answers_length,
@@ -35,8 +36,9 @@ const SMALL: [Make; 17] = [
 ];
 
 /// Edges that need many.
-const LARGE: [Make; 8] = [
+const LARGE: [Make; 9] = [
     many_agents,
+    many_writers,
     many_definitions,
     many_keys,
     many_nodes,
@@ -369,6 +371,47 @@ fn clock_end(rng: &mut Rng) -> Case {
     case_at(table, &world, call)
 }
 
+/// An entry whose writer is the last of so many agents, or past it; or a writer
+/// where there is no entry.
+fn writer_of(rng: &mut Rng, agents: usize) -> Case {
+    let (table, fleet) = accept(&crowd(agents));
+    let mut world = World::start(&fleet);
+    world.clock = 1;
+    let (who, past) = (rng.below(agents), agents as u32);
+    let mut writers = [past - 1, past - 1, past, past + 1];
+    if rng.chance(70) {
+        let entry = Entry::new(2, 1, 0);
+        let agent = &mut world.agents[who];
+        agent.entries.insert(0, entry);
+        agent.to_propagate.insert(0);
+        agent.to_confirm.insert(0);
+    } else {
+        writers[0] = 0;
+    }
+    let number = who as u16;
+    let mut steps = [
+        Step::propagate(number, 0),
+        Step::confirm(number, 0),
+        Step::act(number, 0),
+    ];
+    if rng.chance(50) {
+        steps.swap(0, 1);
+    }
+    let call = if rng.chance(50) {
+        Call::Step(steps[0])
+    } else {
+        run_of(&steps)
+    };
+    let mut case = case_at(table, &world, call);
+    case.state[entry_at(who, 0) + 2] = *rng.pick(&writers);
+    case
+}
+
+fn last_writer(rng: &mut Rng) -> Case {
+    let agents = *rng.pick(&[1, 2, 3, 16]);
+    writer_of(rng, agents)
+}
+
 /// A process that leaves two words more at each act: write ; (call ; tick).
 pub fn growing() -> Draft {
     let mut draft = Draft::new(1, 0);
@@ -502,6 +545,10 @@ pub fn second_naming(rng: &mut Rng) -> Case {
 fn many_agents(rng: &mut Rng) -> Case {
     let agents = MAX_AGENTS + rng.below(2);
     any_call(rng, crowd(agents).bytes())
+}
+
+fn many_writers(rng: &mut Rng) -> Case {
+    writer_of(rng, MAX_AGENTS)
 }
 
 fn many_definitions(rng: &mut Rng) -> Case {

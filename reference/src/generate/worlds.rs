@@ -72,8 +72,8 @@ fn agent(rng: &mut Rng, fleet: &Fleet, processes: &[Rc<Process>], clock: u32) ->
         } else {
             1 + rng.below(clock as usize) as u32
         };
-        let value = value(rng);
-        agent.entries.insert(key, Entry { value, stamp });
+        let entry = Entry::new(value(rng), stamp, rng.below(fleet.sizes.agents) as u16);
+        agent.entries.insert(key, entry);
         if pending && rng.chance(50) {
             agent.to_confirm.insert(key);
         }
