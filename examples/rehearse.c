@@ -59,8 +59,9 @@ int main(int argc, char **argv)
         for (unsigned key = 0; key < LABS_MAX_KEYS; key++) {
             unsigned stamp = state[LABS_ENTRY_STAMP(agent, key)];
             if (stamp)
-                printf("agent %u key %u: value %d stamp %u%s%s\n", agent, key,
+                printf("agent %u key %u: value %d stamp %u writer %u%s%s\n", agent, key,
                        (int)(int32_t)state[LABS_ENTRY_VALUE(agent, key)], stamp,
+                       (unsigned)state[LABS_ENTRY_WRITER(agent, key)],
                        state[LABS_ZC(agent)] >> key & 1 ? ", to confirm" : "",
                        state[LABS_ZP(agent)] >> key & 1 ? ", to propagate" : "");
         }

@@ -66,17 +66,15 @@ fn main() {
     }
     for agent in 0..state[word::AGENTS] as usize {
         for key in 0..MAX_KEYS {
-            let (value, stamp) = (
-                state[word::entry_value(agent, key)] as i32,
-                state[word::entry_stamp(agent, key)],
-            );
+            let value = state[word::entry_value(agent, key)] as i32;
+            let stamp = state[word::entry_stamp(agent, key)];
+            let writer = state[word::entry_writer(agent, key)];
             let waits = |set: usize, text| if state[set] >> key & 1 == 1 { text } else { "" };
             let confirm = waits(word::zc(agent), ", to confirm");
             let propagate = waits(word::zp(agent), ", to propagate");
             if stamp != 0 {
-                println!(
-                    "agent {agent} key {key}: value {value} stamp {stamp}{confirm}{propagate}"
-                );
+                print!("agent {agent} key {key}: value {value} stamp {stamp} writer {writer}");
+                println!("{confirm}{propagate}");
             }
         }
     }

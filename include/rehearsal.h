@@ -104,12 +104,14 @@ enum labs_step_kind { LABS_ACT = 0, LABS_PROPAGATE = 1, LABS_CONFIRM = 2 };
 #define LABS_ATTRIBUTE_PRESENT(agent, key) (LABS_ATTRIBUTE(agent, key))
 #define LABS_ATTRIBUTE_VALUE(agent, key) (LABS_ATTRIBUTE(agent, key) + 1)
 
-/* An entry: its value's two's complement word, and its stamp, 0 where there is no entry. */
-#define LABS_ENTRY_WORDS 2
+/* An entry: its value's two's complement word, its stamp, and its writer, the number of the agent that wrote it (not of
+ * one that passed it on). All three are 0 where there is no entry. */
+#define LABS_ENTRY_WORDS 3
 #define LABS_ENTRIES_WORDS (LABS_ENTRY_WORDS * LABS_MAX_KEYS)
 #define LABS_ENTRY(agent, key) (LABS_ATTRIBUTE(agent, LABS_MAX_KEYS) + LABS_ENTRY_WORDS * (key))
 #define LABS_ENTRY_VALUE(agent, key) (LABS_ENTRY(agent, key))
 #define LABS_ENTRY_STAMP(agent, key) (LABS_ENTRY(agent, key) + 1)
+#define LABS_ENTRY_WRITER(agent, key) (LABS_ENTRY(agent, key) + 2)
 
 /* The keys to confirm and the keys to propagate: bit k is key k. */
 #define LABS_ZC(agent) (LABS_ENTRY(agent, LABS_MAX_KEYS))
@@ -119,7 +121,7 @@ enum labs_step_kind { LABS_ACT = 0, LABS_PROPAGATE = 1, LABS_CONFIRM = 2 };
 #define LABS_RESIDUAL_LENGTH(agent) (LABS_ZP(agent) + 1)
 #define LABS_RESIDUAL(agent, i) (LABS_RESIDUAL_LENGTH(agent) + 1 + (i))
 
-/* How many words a state has: 4,194. */
+/* How many words a state has: 4,706. */
 #define LABS_STATE_WORDS (LABS_BLOCK(LABS_MAX_AGENTS))
 
 /* What the words of a residual are; any other word is a process node. */

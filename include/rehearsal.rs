@@ -19,7 +19,7 @@ pub mod word {
     pub const CLOCK: usize = 0;
     pub const AGENTS: usize = 1;
     const PAIR_WORDS: usize = 2;
-    const ENTRY_WORDS: usize = 2;
+    const ENTRY_WORDS: usize = 3;
     const BLOCK_WORDS: usize = (PAIR_WORDS + ENTRY_WORDS) * MAX_KEYS + 3 + MAX_RESIDUAL;
 
     /// A value's two words: whether it is present, and its two's complement word.
@@ -36,13 +36,18 @@ pub mod word {
         block(agent) + PAIR_WORDS * key
     }
 
-    /// The value of an entry, and its stamp, 0 where there is no entry.
+    /// The value of an entry, its stamp, and its writer; all three are 0 where there is no entry.
     pub const fn entry_value(agent: usize, key: usize) -> usize {
         attribute(agent, MAX_KEYS) + ENTRY_WORDS * key
     }
 
     pub const fn entry_stamp(agent: usize, key: usize) -> usize {
         entry_value(agent, key) + 1
+    }
+
+    /// The number of the agent that wrote the entry.
+    pub const fn entry_writer(agent: usize, key: usize) -> usize {
+        entry_value(agent, key) + 2
     }
 
     /// The keys to confirm, bit k for key k.
