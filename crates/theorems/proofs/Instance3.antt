@@ -55,14 +55,10 @@ pub rehearsed : Rehearsed
 unfolding computing
 rehearsed = record { loads = refl; one-write = refl; written = refl; none-yet = refl; waits = refl; agree = (refl, refl); silent = (refl, refl) }
 
--- writes of two agents, and an entry of each
-pub record Two-writers : Type 0 where
-  pub writes : history smallFleet steps ≡ record { agent = 0; key = 0; value = 7; stamp = 1 } ∷ record { agent = 1; key = 0; value = 9; stamp = 2 } ∷ []
-  pub entries : (entryOf (stateAfter smallFleet steps) 0 0 ≡ entry 7 1 0) × (entryOf (stateAfter smallFleet steps) 1 0 ≡ entry 9 2 1)
-
-pub two-writers : Two-writers
+-- writes of two agents; Instances has their entries, writers among them, after each step
+pub two-writers : history smallFleet steps ≡ record { agent = 0; key = 0; value = 7; stamp = 1 } ∷ record { agent = 1; key = 0; value = 9; stamp = 2 } ∷ []
 unfolding computing
-two-writers = record { writes = refl; entries = (refl, refl) }
+two-writers = refl
 
 -- the fleet's link is true, which reads nothing: it holds before every step of any list
 pub fleet-linked : (xs : List Step) (a b : ℕ) → HeldBeforeSteps fleet xs 0 a b
