@@ -7,10 +7,10 @@ use reference::describe::describe;
 use reference::draft::Draft;
 use reference::faults::pairs;
 use reference::generate::case;
-use reference::generate::edges::{accept, crowd, deep_chain};
+use reference::generate::edges::{accept, deep_chain, with_writer};
 use reference::on_deep_stack;
 use reference::schedule;
-use reference::state::{entry_at, Entry, World, STATE_WORDS};
+use reference::state::{World, STATE_WORDS};
 use reference::stats::Tally;
 use reference::step::Step;
 use reference::table::MAX_NODES;
@@ -162,43 +162,22 @@ fn operators_answer_as_the_reference_does() {
     }
 }
 
-/// Agents of whom the last has an entry with this stamp and writer to propagate, or with stamp 0 a writer alone.
-fn by_a_writer(agents: usize, stamp: u32, writer: u32) -> Case {
-    let (table, fleet) = accept(&crowd(agents));
-    let mut world = World::start(&fleet);
-    let last = agents - 1;
-    if stamp > 0 {
-        let entry = Entry::new(5, stamp, 0);
-        world.clock = stamp;
-        world.agents[last].entries.insert(0, entry);
-        world.agents[last].to_propagate.insert(0);
-    }
-    let mut state = world.words();
-    state[entry_at(last, 0) + 2] = writer;
-    Case {
-        table,
-        state,
-        fill: 0,
-        scratch: 2 * MAX_NODES,
-        call: Call::Step(Step::propagate(last as u16, 0)),
-    }
-}
-
 /// A writer below A is passed on, any other is refused, and so is one of no entry.
 #[test]
 fn writers_answer_as_the_reference_does() {
     for agents in [1, 2, 3, 31, 32] {
         let last = agents as u32 - 1;
         for writer in (0..40).chain([65_536, 65_536 + last, 1 << 31, u32::MAX]) {
-            for stamp in [0, 1] {
-                let case = by_a_writer(agents, stamp, writer);
-                let which = format!("{agents} agents, stamp {stamp}, writer {writer}");
+            for held in [false, true] {
+                let call = Call::Step(Step::propagate(last as u16, 0));
+                let case = with_writer(agents, last as usize, held, writer, call);
+                let which = format!("{agents} agents, entry {held}, writer {writer}");
                 let given = agreed(&case, &which);
-                let wanted = match stamp {
-                    0 if writer > 0 => 9,
-                    0 => 18,
-                    _ if writer > last => 9,
-                    _ => 0,
+                let wanted = match held {
+                    false if writer > 0 => 9,
+                    false => 18,
+                    true if writer > last => 9,
+                    true => 0,
                 };
                 assert_eq!(given.refusal(), wanted, "{which}");
             }

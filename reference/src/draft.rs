@@ -149,6 +149,13 @@ impl Draft {
         self.links.push(guard);
     }
 
+    /// A link that holds where the receiver has set this attribute.
+    pub fn link_where_set(&mut self, key: u16) {
+        let (x, y) = (self.attribute(key, 2), self.attribute(key, 2));
+        let set = self.equal(x, y);
+        self.link(set);
+    }
+
     pub fn agent(&mut self, start: u16) {
         self.agents.push(start);
     }

@@ -287,9 +287,7 @@ fn relay() -> Vec<u8> {
     let again = draft.call(0);
     let body = draft.sequence(any, again);
     draft.define(body);
-    let (x, y) = (draft.attribute(0, 2), draft.attribute(0, 2));
-    let entered = draft.equal(x, y);
-    draft.link(entered);
+    draft.link_where_set(0);
     draft.agents = vec![body; 3];
     draft.bytes()
 }

@@ -12,8 +12,7 @@ use Rattle.term.specs.Terms.{Term, termOf}
 use Rattle.state.specs.declared.Store.{Store}
 use Rattle.state.specs.declared.Store.the-variants.{Environment, Attributes, Entries}
 
--- HOW MANY. Words of a key of the environment or of the attributes, its pair of mark and value; of an entry, which has its writer beside them;
--- and of a residual
+-- HOW MANY. Words of a pair, mark and value of a key of the environment or the attributes; of an entry, which has its writer too; of a residual
 abbrev pub pairWords : ℕ
 pairWords = 2
 

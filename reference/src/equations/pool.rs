@@ -77,9 +77,7 @@ fn passed_on() -> Equation {
     let enter = draft.set_attribute(0, values[0]);
     let [write, later] = [1, 2].map(|i| draft.set_stigmergy(0, values[i]));
     let both = draft.sequence(enter, later);
-    let (x, y) = (draft.attribute(0, 2), draft.attribute(0, 2));
-    let entered = draft.equal(x, y);
-    draft.link(entered);
+    draft.link_where_set(0);
     draft.agents = vec![both, write, enter];
     let steps = [
         Step::act(2, 0),

@@ -371,21 +371,30 @@ fn clock_end(rng: &mut Rng) -> Case {
     case_at(table, &world, call)
 }
 
-/// An entry whose writer is the last of so many agents, or past it; or a writer
-/// where there is no entry.
-fn writer_of(rng: &mut Rng, agents: usize) -> Case {
+/// So many agents, one of whom has an entry to propagate and to confirm, or has
+/// none; the writer of that is this word.
+pub fn with_writer(agents: usize, who: usize, held: bool, writer: u32, call: Call) -> Case {
     let (table, fleet) = accept(&crowd(agents));
     let mut world = World::start(&fleet);
     world.clock = 1;
-    let (who, past) = (rng.below(agents), agents as u32);
-    let mut writers = [past - 1, past - 1, past, past + 1];
-    if rng.chance(70) {
-        let entry = Entry::new(2, 1, 0);
+    if held {
         let agent = &mut world.agents[who];
-        agent.entries.insert(0, entry);
+        agent.entries.insert(0, Entry::new(2, 1, 0));
         agent.to_propagate.insert(0);
         agent.to_confirm.insert(0);
-    } else {
+    }
+    let mut case = case_at(table, &world, call);
+    case.state[entry_at(who, 0) + 2] = writer;
+    case
+}
+
+/// An entry whose writer is the last of so many agents, or past it; or a writer
+/// where there is no entry.
+fn writer_of(rng: &mut Rng, agents: usize) -> Case {
+    let (who, past) = (rng.below(agents), agents as u32);
+    let mut writers = [past - 1, past - 1, past, past + 1];
+    let held = rng.chance(70);
+    if !held {
         writers[0] = 0;
     }
     let number = who as u16;
@@ -402,9 +411,8 @@ fn writer_of(rng: &mut Rng, agents: usize) -> Case {
     } else {
         run_of(&steps)
     };
-    let mut case = case_at(table, &world, call);
-    case.state[entry_at(who, 0) + 2] = *rng.pick(&writers);
-    case
+    let writer = *rng.pick(&writers);
+    with_writer(agents, who, held, writer, call)
 }
 
 fn last_writer(rng: &mut Rng) -> Case {
