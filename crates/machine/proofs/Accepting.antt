@@ -36,22 +36,14 @@ module _ (bytes : List ℕ) (n : Sizes) (e : n ≡ sizesOf bytes) where
   pub same-nodes : n .nodes ≡ sizesOf bytes .nodes
   same-nodes = ap (λ (m : Sizes). m .nodes) e
 
-module _ (othersFit : Bool) (was : List ℕ) {bytes before after : List ℕ} {r : Acceptance} (a : Accepts bytes (othersFit && isWhole was) before after r) where
-  abbrev checks : List Refusal
-  checks = tableChecks bytes (othersFit && isWhole was) (length before)
-
-  abbrev formed : Bool
-  formed = wellFormed (tableOf bytes) was
-
-  accepts-is : (x : Acceptance) → r ≡ x → firstOf checks ≡ acceptanceCheck x
+-- a table that is accepted, whatever was told of the call's buffers
+module _ {bytes : List ℕ} {fits : Bool} {before after : List ℕ} {r : Acceptance} (a : Accepts bytes fits before after r) where
+  accepts-is : (x : Acceptance) → r ≡ x → firstOf (tableChecks bytes fits (length before)) ≡ acceptanceCheck x
   accepts-is x e = sym (a .check) ∙ ap (λ (y : Acceptance). acceptanceCheck y) e
 
   module _ {n : Sizes} (e : r ≡ Accepted n) where
-    pub accepted-is : Acceptable bytes (othersFit && isWhole was) (length before)
+    pub accepted-is : Acceptable bytes fits (length before)
     accepted-is = accepted-table a e
-
-    whole : length was ≡ stateWords
-    whole = eqb-true (length was) stateWords (and-right othersFit (isWhole was) (accepted-is .fit))
 
     pub accepted-limits : Limits n
     accepted-limits = subst Limits (sym (a .sizes n e)) (accepted-is .table .sound .shaped .limits)
@@ -60,24 +52,36 @@ module _ (othersFit : Bool) (was : List ℕ) {bytes before after : List ℕ} {r 
     accepted-size = let f = same-nodes bytes n (a .sizes n e) in let g = accepted-is .size in omega arith
 
     -- 9, as it is asked of the table's parts
-    pub formed-is : {t : Bool} → ((operands : List ℕ) → t ≡ wellFormed (table n (take (12 + n .nodes - 12) (drop 12 bytes)) operands) was) → formed ≡ t
-    formed-is f =
+    pub formed-is : (was : List ℕ) {t : Bool} → ((operands : List ℕ) → t ≡ wellFormed (table n (take (12 + n .nodes - 12) (drop 12 bytes)) operands) was) → wellFormed (tableOf bytes) was ≡ t
+    formed-is was f =
         sym (f (take (length bytes - (12 + n .nodes)) (drop (12 + n .nodes) bytes)) ∙ ap (λ (t : Table). wellFormed t was) (lent-table bytes n (a .sizes n e)))
+
+-- told that the state, and the call's other buffers, have their lengths
+module _ (othersFit : Bool) (was : List ℕ) {bytes before after : List ℕ} {r : Acceptance} (a : Accepts bytes (othersFit && isWhole was) before after r) where
+  abbrev checks : List Refusal
+  checks = tableChecks bytes (othersFit && isWhole was) (length before)
+
+  abbrev formed : Bool
+  formed = wellFormed (tableOf bytes) was
+
+  module _ {n : Sizes} (e : r ≡ Accepted n) where
+    whole : length was ≡ stateWords
+    whole = eqb-true (length was) stateWords (and-right othersFit (isWhole was) (accepted-is a e .fit))
 
     pub check-given : CheckGiven n (take (12 + n .nodes - 12) (drop 12 bytes)) was
     check-given =
-        let f = accepted-size in
+        let f = accepted-size a e in
         record {
-          limits = accepted-limits;
+          limits = accepted-limits a e;
           nodes = omega (arith, ap (λ (ks : List ℕ). length ks) (kinds-part bytes (n .nodes)), length-kinds bytes (n .nodes) f);
           blocks = omega (arith, whole);
         }
 
     pub load-given : LoadGiven n (take (length bytes - (12 + n .nodes)) (drop (12 + n .nodes) bytes)) was
     load-given =
-        let f = accepted-size in
+        let f = accepted-size a e in
         record {
-          limits = accepted-limits;
+          limits = accepted-limits a e;
           nodes = omega (arith, ap (λ (os : List ℕ). length os) (take-rest bytes (12 + n .nodes)), length-operands bytes (n .nodes) f);
           whole = whole;
         }
@@ -85,7 +89,7 @@ module _ (othersFit : Bool) (was : List ℕ) {bytes before after : List ℕ} {r 
     pub open-broken : formed ≡ false → Opens othersFit bytes was before after (Refused 9 0)
     open-broken f =
         record {
-          check = sym (append-later checks (refuseIf 9 (not formed) ∷ []) (accepts-is (Accepted n) e) ∙ first-refuses (refuseIf 9 (not formed)) [] (ap not f));
+          check = sym (append-later checks (refuseIf 9 (not formed) ∷ []) (accepts-is a (Accepted n) e) ∙ first-refuses (refuseIf 9 (not formed)) [] (ap not f));
           opened = λ m g. absurd (let z : _≡_ {A = ℕ} 0 1 = cc in omega arith);
         }
 
@@ -93,11 +97,11 @@ module _ (othersFit : Bool) (was : List ℕ) {bytes before after : List ℕ} {r 
     unfolding firstOf
     open-formed small f =
         record {
-          check = sym (append-later checks (refuseIf 9 (not formed) ∷ []) (accepts-is (Accepted n) e) ∙ rw f);
+          check = sym (append-later checks (refuseIf 9 (not formed) ∷ []) (accepts-is a (Accepted n) e) ∙ rw f);
           opened = λ m g. let h : m ≡ n = cc in record {
             sizes = h ∙ a .sizes n e;
-            size = let f = ap (λ (k : Sizes). k .nodes) h in let g = accepted-size in omega arith;
-            ready = record { checked = accepted-is .table; counted = a .counted n e };
+            size = let f = ap (λ (k : Sizes). k .nodes) h in let g = accepted-size a e in omega arith;
+            ready = record { checked = accepted-is a e .table; counted = a .counted n e };
             proper = record { whole = whole; small = small; formed = f };
           };
         }
@@ -105,7 +109,7 @@ module _ (othersFit : Bool) (was : List ℕ) {bytes before after : List ℕ} {r 
   pub open-refused : {number place : ℕ} → r ≡ Refused number place → Opens othersFit bytes was before after (Refused number place)
   open-refused {number} {place} e =
       record {
-        check = sym (append-refuses checks (refuseIf 9 (not formed) ∷ []) (accepts-is (Refused number place) e));
+        check = sym (append-refuses checks (refuseIf 9 (not formed) ∷ []) (accepts-is a (Refused number place) e));
         opened = λ m g. absurd (let z : _≡_ {A = ℕ} 0 1 = cc in omega arith);
       }
 
@@ -113,10 +117,10 @@ module _ (othersFit : Bool) (was : List ℕ) {bytes before after : List ℕ} {r 
 module _ (was : List ℕ) {bytes before after : List ℕ} {r : Acceptance} (a : Accepts bytes (isWhole was) before after r) where
   pub load-done : {n : Sizes} → r ≡ Accepted n → {left : List ℕ} → left ≡ loaded (tableOf bytes) → Loads (loadOf bytes was (length before)) LoadDone left
   load-done e f =
-      let d = accepted-load bytes was (length before) (accepted-is true was a e) in
+      let d = accepted-load bytes was (length before) (accepted-is a e) in
       record { check = sym (ap (λ (o : Outcome). o .check) d); state = f ∙ sym (ap (λ (o : Outcome). o .state) d) }
 
   pub load-refused : {number place : ℕ} → r ≡ Refused number place → Loads (loadOf bytes was (length before)) (LoadRefused number place) was
   load-refused {number} {place} e =
-      let d = outcome-refused was noTally (loaded (tableOf bytes)) (firstOf (tableChecks bytes (isWhole was) (length before))) (accepts-is true was a (Refused number place) e) in
+      let d = outcome-refused was noTally (loaded (tableOf bytes)) (firstOf (tableChecks bytes (isWhole was) (length before))) (accepts-is a (Refused number place) e) in
       record { check = sym (ap (λ (o : Outcome). o .check) d); state = sym (ap (λ (o : Outcome). o .state) d) }

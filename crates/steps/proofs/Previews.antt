@@ -18,14 +18,14 @@ use Rattle.steps.proofs.Steps.{outcome-check, outcome-done, outcome-ref
 
 -- an outcome in another buffer, by its check
 module _ (next : List ℕ) (o : Outcome) where
-  pub into-check : into next o .check ≡ o .check
-  into-check = outcome-check next (o .tally) (o .state) (o .check)
+  pub into-refused : {n place : ℕ} → o .check ≡ refuses n place → into next o ≡ refused n place next
+  into-refused e = outcome-refused next (o .tally) (o .state) (o .check) e
 
   pub into-done : o .check ≡ passes → into next o ≡ o
   into-done e = outcome-done next (o .tally) (o .state) (o .check) e ∙ (λ i. record { check = sym e i; tally = o .tally; state = o .state })
 
-  pub into-refused : {n place : ℕ} → o .check ≡ refuses n place → into next o ≡ refused n place next
-  into-refused e = outcome-refused next (o .tally) (o .state) (o .check) e
+  pub into-check : into next o .check ≡ o .check
+  into-check = outcome-check next (o .tally) (o .state) (o .check)
 
 module _ (bytes was : List ℕ) (scratch kind x number : ℕ) (next : List ℕ) where
   abbrev preview : Outcome

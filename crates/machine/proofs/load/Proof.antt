@@ -29,15 +29,15 @@ enum-known-answer c = search needs
 
 add-operands : tie.Need-add-operands
 add-operands c =
-    let l = accepted-limits true (was (c .before .before .before .before .before .before .before .before .before .before .before)) (c .before .before .before .before .before .before .accept .ensures) (c .before .before .answer .given .1) .nodes in omega arith
+    let l = accepted-limits (c .before .before .before .before .before .before .accept .ensures) (c .before .before .answer .given .1) .nodes in omega arith
 
 sub-write-loaded : tie.Need-sub-write-loaded
 sub-write-loaded c =
-    let l = accepted-size true (was (c .before .before .before .before .before .before .before .before .before .before .before)) (c .before .before .before .before .before .before .accept .ensures) (c .before .before .answer .given .1) in omega arith
+    let l = accepted-size (c .before .before .before .before .before .before .accept .ensures) (c .before .before .answer .given .1) in omega arith
 
 part-write-loaded-start : tie.Need-part-write-loaded-start
 part-write-loaded-start c =
-    let l = accepted-size true (was (c .before .before .before .before .before .before .before .before .before .before .before)) (c .before .before .before .before .before .before .accept .ensures) (c .before .before .answer .given .1) in omega arith
+    let l = accepted-size (c .before .before .before .before .before .before .accept .ensures) (c .before .before .answer .given .1) in omega arith
 
 part-write-loaded-end : tie.Need-part-write-loaded-end
 part-write-loaded-end c = search needs

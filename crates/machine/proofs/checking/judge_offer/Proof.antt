@@ -19,10 +19,10 @@ has-requires : tie.Need-has-requires
 has-requires c κs = search needs
 
 returns : tie.Need-returns
-returns c = rw (sym (c .before .before .before .pending-at .ensures .is), sym (c .before .has .ensures) ∙ not-true _ (c .if1 .taken))
+returns c = rw (sym (c .before .before .before .pending-at .ensures .is), sym (c .before .has .ensures) ∙ not-true (c .before .has .result) (c .if1 .taken))
 
 returns-2 : tie.Need-returns-2
-returns-2 c = rw (sym (c .before .before .before .pending-at .ensures .is), sym (c .before .has .ensures) ∙ not-false _ (c .if1 .left))
+returns-2 c = rw (sym (c .before .before .before .pending-at .ensures .is), sym (c .before .has .ensures) ∙ not-false (c .before .has .result) (c .if1 .left))
 
 pub judge-offer-spec : {M : Type 1} → statement M
 judge-offer-spec = tie.close (tie.spec pending-at-requires mul-keys shared-slice-read-keys has-requires returns returns-2)

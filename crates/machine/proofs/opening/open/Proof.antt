@@ -25,8 +25,7 @@ enum-known-answer c = search needs
 
 add-operands : tie.Need-add-operands
 add-operands c =
-    let a = c .before .before .before .before .before .before .before .before .before .before .before in
-    let l = accepted-limits (fits a) (was a) (c .before .before .before .before .before .before .accept .ensures) (c .before .before .answer .given .1) .nodes in omega arith
+    let l = accepted-limits (c .before .before .before .before .before .before .accept .ensures) (c .before .before .answer .given .1) .nodes in omega arith
 
 sub-well-formed : tie.Need-sub-well-formed
 sub-well-formed c = search needs
@@ -36,8 +35,7 @@ part-well-formed-start c = search needs
 
 part-well-formed-end : tie.Need-part-well-formed-end
 part-well-formed-end c =
-    let a = c .before .before .before .before .before .before .before .before .before .before .before in
-    let l = accepted-size (fits a) (was a) (c .before .before .before .before .before .before .accept .ensures) (c .before .before .answer .given .1) in omega arith
+    let l = accepted-size (c .before .before .before .before .before .before .accept .ensures) (c .before .before .answer .given .1) in omega arith
 
 well-formed-requires : tie.Need-well-formed-requires
 well-formed-requires c κs = let a = c .before .before .before .before .before .before .before .before .before .before .before .before in check-given (fits a) (was a) (c .before .before .before .before .before .before .before .accept .ensures) (c .before .before .before .answer .given .1)
@@ -53,7 +51,7 @@ returns c =
     let a = c .before .before .before .before .before .before .before .before .before .before .before .before .before .before in
     let f = c .before .before .before .before .before .before .before .before .before .accept .ensures in
     let e = c .before .before .before .before .before .answer .given .1 in
-    open-formed (fits a) (was a) f e (λ i. c .before .before .before .before .before .before .before .before .before .before .before .before .shared-slice-known2 .given i .fits) (formed-is (fits a) (was a) f e (c .before .well-formed .ensures) ∙ c .if1 .taken)
+    open-formed (fits a) (was a) f e (λ i. c .before .before .before .before .before .before .before .before .before .before .before .before .shared-slice-known2 .given i .fits) (formed-is f e (was a) (c .before .well-formed .ensures) ∙ c .if1 .taken)
 
 same-length-2 : tie.Need-same-length-2
 same-length-2 c = search needs
@@ -63,7 +61,7 @@ returns-2 c =
     let a = c .before .before .before .before .before .before .before .before .before .before .before .before .before .before in
     let f = c .before .before .before .before .before .before .before .before .before .accept .ensures in
     let e = c .before .before .before .before .before .answer .given .1 in
-    open-broken (fits a) (was a) f e (formed-is (fits a) (was a) f e (c .before .well-formed .ensures) ∙ c .if1 .left)
+    open-broken (fits a) (was a) f e (formed-is f e (was a) (c .before .well-formed .ensures) ∙ c .if1 .left)
 
 same-length-3 : tie.Need-same-length-3
 same-length-3 c = search needs
