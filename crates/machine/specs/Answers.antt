@@ -1,4 +1,4 @@
--- What load, step and run answer: the paper's number, place and counts for each case, and that they are those of the definitions.
+-- What load, step, preview and run answer: the paper's number, place and counts for each case, and that they are those of the definitions.
 use Prim.Native.Nat.{ℕ}
 use mathlib.Core.Path.{_≡_}
 use mathlib.Core.List.{List}
@@ -20,7 +20,7 @@ abbrev pub loadCheck : Loaded → Check
 loadCheck LoadDone = passes
 loadCheck (LoadRefused number place) = refuses number place
 
--- step: what it counts
+-- step, preview: what it counts
 abbrev pub stepCheck : Stepped → Check
 stepCheck (StepDone tally) = passes
 stepCheck (StepRefused number place) = refuses number place
@@ -44,7 +44,7 @@ abbrev pub runTotals : Ran → Totals
 runTotals (RunDone counts) = counts
 runTotals (RunRefused number place) = totals 0 0 noTally
 
--- the answer r and the state after are those of an outcome, of load and of a step
+-- the answer r and the state after are those of an outcome, of load, and of a step or its preview
 pub record Loads (o : Outcome) (r : Loaded) (after : List ℕ) : Type 0 where
   pub check : loadCheck r ≡ o .check
   pub state : after ≡ o .state

@@ -25,7 +25,7 @@ pub enum Loaded {
     Refused(u8, usize),
 }
 
-// What a step answers: what it counts, or the refusal and its place.
+// What a step or its preview answers: what it counts, or the refusal and its place.
 pub enum Stepped {
     Done(Tally),
     Refused(u8, usize),
