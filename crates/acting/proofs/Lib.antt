@@ -2,4 +2,3 @@ pub mod Lent
 pub mod Sets
 pub mod Gains
 pub mod Performs
-pub mod Answers

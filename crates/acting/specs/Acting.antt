@@ -1,11 +1,10 @@
--- What an act comes to, and what its parts ask of the state.
+-- What the parts of an act ask of the state.
 use Prim.Native.Nat.{ℕ, _<_, _≤_}
 use mathlib.Core.Bool.{true}
 use mathlib.Core.Path.{_≡_}
 use mathlib.Core.List.{List}
 use lib.ListN.{length}
 use Rattle.basis.specs.Kinds as kind
-use Rattle.table.specs.Checks.{Check, passes, refuses, firstOf}
 use Rattle.table.specs.Tables.{Table, kindAt, pAt, agentLimit}
 use Rattle.table.specs.Sound.{Shaped}
 use Rattle.term.specs.Terms.{words}
@@ -16,21 +15,7 @@ use Rattle.state.specs.Layout.{keyLimit, residualWords, termIn}
 use Rattle.state.specs.Entries.{clockOf, clockLimit}
 use Rattle.state.specs.Standing.{storeAgent, HasBlocks}
 use Rattle.state.specs.WellFormed.{residualFormed}
-use Rattle.steps.specs.Acts.{wordIn, valueFor, choices, actChecks, chosen, storeOf, acted}
-use Rattle.steps.specs.Tallies.{noTally}
-use Rattle.steps.specs.Steps.{outcome}
-use Rattle.acting.specs.declared.Acted.{Acted}
-use Rattle.acting.specs.declared.Acted.the-variants.{Done, Refused}
-
--- the check for each case of the answer
-abbrev pub actedCheck : Acted → Check
-actedCheck Done = passes
-actedCheck (Refused number) = refuses number 0
-
--- choice c of agent x is done, or refused
-pub record Acts (t : Table) (was : List ℕ) (x c : ℕ) (r : Acted) (s : List ℕ) : Type 0 where
-  pub check : actedCheck r ≡ firstOf (actChecks t was x c)
-  pub state : s ≡ outcome (firstOf (actChecks t was x c)) was noTally (acted t was x (chosen t was x c)) .state
+use Rattle.steps.specs.Acts.{wordIn, valueFor, choices, chosen, storeOf}
 
 -- what choice c of agent x's residual leaves has room
 pub record Leaving (t : Table) (s : List ℕ) (x c : ℕ) : Type 0 where

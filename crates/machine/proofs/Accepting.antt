@@ -1,15 +1,16 @@
 -- What refusals 1 to 9 leave, and what load answers.
 -- Assumes nothing.
 use Prim.Native.Nat.{ℕ, _+_, _-_, _*_}
-use mathlib.Core.Bool.{Bool, true, false, not}
+use mathlib.Core.Bool.{Bool, true, false, not, _&&_}
 use mathlib.Core.Path.{_≡_, sym, ap, subst, _∙_}
 use mathlib.Core.List.{List, [], _∷_}
 use native.Mathlib.Omega.{arith}
 use lib.ListN.{length, take, drop}
 use borrow.Author.Tests.{eqb-true}
 use Rattle.basis.proofs.Lists.{take-rest}
+use Rattle.basis.proofs.Tests.{and-right}
 use Rattle.table.specs.declared.Sizes.{Sizes}
-use Rattle.table.specs.Checks.{refuseIf, firstOf}
+use Rattle.table.specs.Checks.{Refusal, refuseIf, firstOf}
 use Rattle.table.specs.Tables.{Table, table, sizesOf, tableOf}
 use Rattle.table.specs.Sound.{Limits}
 use Rattle.table.proofs.Limits.{kinds-part, length-kinds, length-operands}
@@ -35,16 +36,22 @@ module _ (bytes : List ℕ) (n : Sizes) (e : n ≡ sizesOf bytes) where
   pub same-nodes : n .nodes ≡ sizesOf bytes .nodes
   same-nodes = ap (λ (m : Sizes). m .nodes) e
 
-module _ (was : List ℕ) {bytes before after : List ℕ} {r : Acceptance} (a : Accepts bytes (isWhole was) before after r) where
-  accepts-is : (x : Acceptance) → r ≡ x → firstOf (tableChecks bytes (isWhole was) (length before)) ≡ acceptanceCheck x
+module _ (othersFit : Bool) (was : List ℕ) {bytes before after : List ℕ} {r : Acceptance} (a : Accepts bytes (othersFit && isWhole was) before after r) where
+  abbrev checks : List Refusal
+  checks = tableChecks bytes (othersFit && isWhole was) (length before)
+
+  abbrev formed : Bool
+  formed = wellFormed (tableOf bytes) was
+
+  accepts-is : (x : Acceptance) → r ≡ x → firstOf checks ≡ acceptanceCheck x
   accepts-is x e = sym (a .check) ∙ ap (λ (y : Acceptance). acceptanceCheck y) e
 
   module _ {n : Sizes} (e : r ≡ Accepted n) where
-    pub accepted-is : Acceptable bytes (isWhole was) (length before)
+    pub accepted-is : Acceptable bytes (othersFit && isWhole was) (length before)
     accepted-is = accepted-table a e
 
     whole : length was ≡ stateWords
-    whole = eqb-true (length was) stateWords (accepted-is .fit)
+    whole = eqb-true (length was) stateWords (and-right othersFit (isWhole was) (accepted-is .fit))
 
     pub accepted-limits : Limits n
     accepted-limits = subst Limits (sym (a .sizes n e)) (accepted-is .table .sound .shaped .limits)
@@ -53,7 +60,7 @@ module _ (was : List ℕ) {bytes before after : List ℕ} {r : Acceptance} (a : 
     accepted-size = let f = same-nodes bytes n (a .sizes n e) in let g = accepted-is .size in omega arith
 
     -- 9, as it is asked of the table's parts
-    pub formed-is : {t : Bool} → ((operands : List ℕ) → t ≡ wellFormed (table n (take (12 + n .nodes - 12) (drop 12 bytes)) operands) was) → wellFormed (tableOf bytes) was ≡ t
+    pub formed-is : {t : Bool} → ((operands : List ℕ) → t ≡ wellFormed (table n (take (12 + n .nodes - 12) (drop 12 bytes)) operands) was) → formed ≡ t
     formed-is f =
         sym (f (take (length bytes - (12 + n .nodes)) (drop (12 + n .nodes) bytes)) ∙ ap (λ (t : Table). wellFormed t was) (lent-table bytes n (a .sizes n e)))
 
@@ -75,20 +82,18 @@ module _ (was : List ℕ) {bytes before after : List ℕ} {r : Acceptance} (a : 
           whole = whole;
         }
 
-    pub open-broken : (wellFormed (tableOf bytes) was ≡ false) → Opens bytes was before after (Refused 9 0)
+    pub open-broken : formed ≡ false → Opens othersFit bytes was before after (Refused 9 0)
     open-broken f =
         record {
-          check = sym (append-later (tableChecks bytes (isWhole was) (length before)) (refuseIf 9 (not (wellFormed (tableOf bytes) was)) ∷ []) (accepts-is (Accepted n) e)
-              ∙ first-refuses (refuseIf 9 (not (wellFormed (tableOf bytes) was))) [] (ap not f));
+          check = sym (append-later checks (refuseIf 9 (not formed) ∷ []) (accepts-is (Accepted n) e) ∙ first-refuses (refuseIf 9 (not formed)) [] (ap not f));
           opened = λ m g. absurd (let z : _≡_ {A = ℕ} 0 1 = cc in omega arith);
         }
 
-    pub open-formed : Words was → (wellFormed (tableOf bytes) was ≡ true) → Opens bytes was before after (Accepted n)
+    pub open-formed : Words was → formed ≡ true → Opens othersFit bytes was before after (Accepted n)
     unfolding firstOf
     open-formed small f =
         record {
-          check = sym (append-later (tableChecks bytes (isWhole was) (length before)) (refuseIf 9 (not (wellFormed (tableOf bytes) was)) ∷ []) (accepts-is (Accepted n) e)
-              ∙ rw f);
+          check = sym (append-later checks (refuseIf 9 (not formed) ∷ []) (accepts-is (Accepted n) e) ∙ rw f);
           opened = λ m g. let h : m ≡ n = cc in record {
             sizes = h ∙ a .sizes n e;
             size = let f = ap (λ (k : Sizes). k .nodes) h in let g = accepted-size in omega arith;
@@ -97,21 +102,21 @@ module _ (was : List ℕ) {bytes before after : List ℕ} {r : Acceptance} (a : 
           };
         }
 
-    -- LOAD
-    pub load-done : {left : List ℕ} → left ≡ loaded (tableOf bytes) → Loads (loadOf bytes was (length before)) LoadDone left
-    load-done f =
-        let d = accepted-load bytes was (length before) accepted-is in
-        record { check = sym (ap (λ (o : Outcome). o .check) d); state = f ∙ sym (ap (λ (o : Outcome). o .state) d) }
+  pub open-refused : {number place : ℕ} → r ≡ Refused number place → Opens othersFit bytes was before after (Refused number place)
+  open-refused {number} {place} e =
+      record {
+        check = sym (append-refuses checks (refuseIf 9 (not formed) ∷ []) (accepts-is (Refused number place) e));
+        opened = λ m g. absurd (let z : _≡_ {A = ℕ} 0 1 = cc in omega arith);
+      }
 
-  module _ {number place : ℕ} (e : r ≡ Refused number place) where
-    pub open-refused : Opens bytes was before after (Refused number place)
-    open-refused =
-        record {
-          check = sym (append-refuses (tableChecks bytes (isWhole was) (length before)) (refuseIf 9 (not (wellFormed (tableOf bytes) was)) ∷ []) (accepts-is (Refused number place) e));
-          opened = λ m g. absurd (let z : _≡_ {A = ℕ} 0 1 = cc in omega arith);
-        }
+-- LOAD
+module _ (was : List ℕ) {bytes before after : List ℕ} {r : Acceptance} (a : Accepts bytes (isWhole was) before after r) where
+  pub load-done : {n : Sizes} → r ≡ Accepted n → {left : List ℕ} → left ≡ loaded (tableOf bytes) → Loads (loadOf bytes was (length before)) LoadDone left
+  load-done e f =
+      let d = accepted-load bytes was (length before) (accepted-is true was a e) in
+      record { check = sym (ap (λ (o : Outcome). o .check) d); state = f ∙ sym (ap (λ (o : Outcome). o .state) d) }
 
-    pub load-refused : Loads (loadOf bytes was (length before)) (LoadRefused number place) was
-    load-refused =
-        let d = outcome-refused was noTally (loaded (tableOf bytes)) (firstOf (tableChecks bytes (isWhole was) (length before))) (accepts-is (Refused number place) e) in
-        record { check = sym (ap (λ (o : Outcome). o .check) d); state = sym (ap (λ (o : Outcome). o .state) d) }
+  pub load-refused : {number place : ℕ} → r ≡ Refused number place → Loads (loadOf bytes was (length before)) (LoadRefused number place) was
+  load-refused {number} {place} e =
+      let d = outcome-refused was noTally (loaded (tableOf bytes)) (firstOf (tableChecks bytes (isWhole was) (length before))) (accepts-is true was a (Refused number place) e) in
+      record { check = sym (ap (λ (o : Outcome). o .check) d); state = sym (ap (λ (o : Outcome). o .state) d) }

@@ -1,80 +1,140 @@
--- What one step answers, by its checks.
+-- What is found of a step, by its checks, and what is then answered.
 -- Assumes nothing.
-use Prim.Native.Nat.{ℕ}
+use Prim.Native.Nat.{ℕ, _<_}
 use mathlib.Core.Bool.{Bool, true, false, not, cond}
-use mathlib.Core.Path.{_≡_, refl, sym, ap, _∙_}
+use mathlib.Core.Path.{_≡_, refl, sym, ap, subst, _∙_}
+use mathlib.Core.Logic.{_⊎_, ⊎-elim}
 use mathlib.Core.List.{List, [], _∷_}
 use lib.ListN.{getD}
 use Rattle.basis.specs.KeySets.{has}
-use Rattle.table.specs.Checks.{refuseIf, firstOf}
+use Rattle.basis.proofs.Tests.{not-both}
+use Rattle.table.specs.Checks.{passes, refuseIf, firstOf}
 use Rattle.table.specs.Tables.{Table}
-use Rattle.table.proofs.Checks.{first-refuses, first-later}
+use Rattle.table.proofs.Checks.{first-refuses, first-later, first-both, none-passes}
+use Rattle.term.specs.declared.Label.{Label}
 use Rattle.state.specs.Layout.{zcAt, zpAt}
+use Rattle.state.specs.WellFormed.{Proper}
 use Rattle.steps.specs.Acts.{actChecks, chosen, acted}
 use Rattle.steps.specs.declared.Tally.{Tally}
 use Rattle.steps.specs.Tallies.{noTally}
 use Rattle.steps.specs.Offers.{offerTally, sent}
 use Rattle.steps.specs.Steps.{Outcome, done, refused, outcome, outOfRange, ownChecks, tallyOf, after, stepIn}
+use Rattle.steps.specs.Previews.{into}
 use Rattle.steps.proofs.Steps.{outcome-done, outcome-refused}
-use Rattle.acting.specs.declared.Acted.{Acted}
-use Rattle.acting.specs.declared.Acted.the-variants.{Done as ActDone, Refused as ActRefused}
-use Rattle.acting.specs.Acting.{actedCheck, Acts}
-use Rattle.machine.specs.declared.Stepped.the-variants.{Done, Refused}
+use Rattle.steps.proofs.Previews.{into-done, into-refused}
+use Rattle.judging.specs.declared.Judgement.the-variants.{Refused as ActRefused, Allowed}
+use Rattle.judging.specs.Judging.{Judges}
+use Rattle.offering.specs.Passing.{Passing, Passed}
+use Rattle.machine.specs.declared.Judged.{Judged}
+use Rattle.machine.specs.declared.Judged.the-variants.{Refused, Act, Offer}
+use Rattle.machine.specs.declared.Stepped.{Stepped}
+use Rattle.machine.specs.declared.Stepped.the-variants.{Done as StepDone, Refused as StepRefused}
 use Rattle.machine.specs.Answers.{Steps}
-use Rattle.machine.specs.Stepping.{ownStep, offerKind}
+use Rattle.machine.specs.Stepping.{ownStep, offerKind, judgedOffer, isAllowed, finished, Planned, StepJudged}
+
+-- an outcome that is another
+pub steps-as : {o p : Outcome} → p ≡ o → {r : Stepped} {u : List ℕ} → Steps o r u → Steps p r u
+steps-as e {r} {u} s = subst (λ (o : Outcome). Steps o r u) (sym e) s
 
 -- an outcome that is known
-steps-done : {o : Outcome} {tally n : Tally} {s u : List ℕ} → o ≡ done tally s → n ≡ tally → u ≡ s → Steps o (Done n) u
+steps-done : {o : Outcome} {tally n : Tally} {s u : List ℕ} → o ≡ done tally s → n ≡ tally → u ≡ s → Steps o (StepDone n) u
 steps-done d e f = record { check = sym (ap (λ (o : Outcome). o .check) d); tally = e ∙ sym (ap (λ (o : Outcome). o .tally) d); state = f ∙ sym (ap (λ (o : Outcome). o .state) d) }
 
-steps-refused : {o : Outcome} {number place : ℕ} {was u : List ℕ} → o ≡ refused number place was → u ≡ was → Steps o (Refused number place) u
+pub steps-refused : {o : Outcome} {number place : ℕ} {was u : List ℕ} → o ≡ refused number place was → u ≡ was → Steps o (StepRefused number place) u
 steps-refused d f = record { check = sym (ap (λ (o : Outcome). o .check) d); tally = sym (ap (λ (o : Outcome). o .tally) d); state = f ∙ sym (ap (λ (o : Outcome). o .state) d) }
 
+-- JUDGED
 module _ (t : Table) (was : List ℕ) where
-  -- ACT
-  module _ (x c : ℕ) {r : Acted} {now : List ℕ} (a : Acts t was x c r now) where
-    act-check : (y : Acted) → r ≡ y → firstOf (actChecks t was x c) ≡ actedCheck y
-    act-check y e = sym (a .check) ∙ ap (λ (z : Acted). actedCheck z) e
+  module _ (x c : ℕ) where
+    pub act-refused : {number : ℕ} → Judges t was x c (ActRefused number) → StepJudged t was x c (ownStep t was 0 x c) (Refused number)
+    act-refused j = record { is = outcome-refused was noTally (acted t was x (chosen t was x c)) (firstOf (actChecks t was x c)) j; planned = tt }
 
-    pub act-done : {n : Tally} → r ≡ ActDone → n ≡ noTally → Steps (ownStep t was 0 x c) (Done n) now
-    act-done e f =
-        let d = outcome-done was noTally (acted t was x (chosen t was x c)) (firstOf (actChecks t was x c)) (act-check ActDone e) in
-        steps-done d f (a .state ∙ ap (λ (o : Outcome). o .state) d)
+    pub act-allowed : Proper t was → x < t .sizes .agents → {label : Label} {value keys : ℕ} → Judges t was x c (Allowed label value keys)
+        → StepJudged t was x c (ownStep t was 0 x c) (Act label value keys)
+    act-allowed p l j = record { is = outcome-done was noTally (acted t was x (chosen t was x c)) (firstOf (actChecks t was x c)) (j .0); planned = (p, l, j) }
 
-    pub act-refused : {number : ℕ} → r ≡ ActRefused number → Steps (ownStep t was 0 x c) (Refused number 0) now
-    act-refused {number} e =
-        let d = outcome-refused was noTally (acted t was x (chosen t was x c)) (firstOf (actChecks t was x c)) (act-check (ActRefused number) e) in
-        steps-refused d (a .state ∙ ap (λ (o : Outcome). o .state) d)
+  module _ (x k : ℕ) (confirming : Bool) where
+    abbrev kind : ℕ
+    kind = offerKind confirming
 
-  -- PROPAGATE AND CONFIRM
-  module _ (x k : ℕ) (confirming : Bool) {at : ℕ} (place : at ≡ cond confirming (zcAt x) (zpAt x)) where
-    offer-own : ownStep t was (offerKind confirming) x k
-        ≡ outcome (firstOf (refuseIf 18 (not (has (getD was at 0) k)) ∷ [])) was (offerTally t was x k true (t .sizes .agents)) (sent t was x k true confirming (t .sizes .agents))
-    offer-own = rw place (by confirming)
+    abbrev waits : Bool
+    waits = has (getD was (cond confirming (zcAt x) (zpAt x)) 0) k
+
+    offer-own : ownStep t was kind x k ≡ outcome (firstOf (refuseIf 18 (not waits) ∷ [])) was (tallyOf t was kind x k) (after t was kind x k)
+    offer-own = by confirming
       where
         by : (b : Bool) → ownStep t was (offerKind b) x k
-            ≡ outcome (firstOf (refuseIf 18 (not (has (getD was (cond b (zcAt x) (zpAt x)) 0) k)) ∷ [])) was (offerTally t was x k true (t .sizes .agents)) (sent t was x k true b (t .sizes .agents))
+            ≡ outcome (firstOf (refuseIf 18 (not (has (getD was (cond b (zcAt x) (zpAt x)) 0) k)) ∷ [])) was (tallyOf t was (offerKind b) x k) (after t was (offerKind b) x k)
         by true = refl
         by false = refl
 
-    pub offer-done : {n : Tally} {now : List ℕ} → has (getD was at 0) k ≡ true → n ≡ offerTally t was x k true (t .sizes .agents) → now ≡ sent t was x k true confirming (t .sizes .agents)
-        → Steps (ownStep t was (offerKind confirming) x k) (Done n) now
-    unfolding firstOf
-    offer-done h e f = steps-done (offer-own ∙ outcome-done was _ _ _ (rw h)) e f
+    pub offer-judged : Passing t was x k → StepJudged t was x k (ownStep t was kind x k) (judgedOffer was x k confirming)
+    offer-judged p = by waits refl
+      where
+        by : (b : Bool) → waits ≡ b → StepJudged t was x k (ownStep t was kind x k) (cond b (Offer confirming) (Refused 18))
+        by true h = record { is = offer-own ∙ outcome-done was _ _ _ (first-both (refuseIf 18 (not waits)) [] (ap not h) none-passes); planned = p }
+        by false h = record { is = offer-own ∙ outcome-refused was _ _ _ (first-refuses (refuseIf 18 (not waits)) [] (ap not h)); planned = tt }
 
-    pub offer-refused : has (getD was at 0) k ≡ false → Steps (ownStep t was (offerKind confirming) x k) (Refused 18 0) was
-    offer-refused h = steps-refused (offer-own ∙ outcome-refused was _ _ _ (first-refuses (refuseIf 18 (not (has (getD was at 0) k))) [] (ap not h))) refl
-
-  -- A STEP
   module _ (kind x number : ℕ) where
-    pub step-out : outOfRange t kind x number ≡ true → Steps (stepIn t was kind x number) (Refused 10 0) was
+    pub step-out : outOfRange t kind x number ≡ true → StepJudged t was x number (stepIn t was kind x number) (Refused 10)
     unfolding stepIn
     step-out e =
-        steps-refused (outcome-refused was (tallyOf t was kind x number) (after t was kind x number) (firstOf (refuseIf 10 (outOfRange t kind x number) ∷ ownChecks t was kind x number))
-        (first-refuses (refuseIf 10 (outOfRange t kind x number)) (ownChecks t was kind x number) e)) refl
+        record {
+          is = outcome-refused was (tallyOf t was kind x number) (after t was kind x number) (firstOf (refuseIf 10 (outOfRange t kind x number) ∷ ownChecks t was kind x number))
+              (first-refuses (refuseIf 10 (outOfRange t kind x number)) (ownChecks t was kind x number) e);
+          planned = tt;
+        }
 
     pub step-own : outOfRange t kind x number ≡ false → stepIn t was kind x number ≡ ownStep t was kind x number
     unfolding stepIn
     step-own e =
         ap (λ c. outcome c was (tallyOf t was kind x number) (after t was kind x number))
         (first-later (refuseIf 10 (outOfRange t kind x number)) (ownChecks t was kind x number) e)
+
+-- FINISHED
+module _ (t : Table) (s : List ℕ) (x number : ℕ) {r : Judged} where
+  pub finish-refused : {refusal : ℕ} → r ≡ Refused refusal → Steps (finished t s x number r) (StepRefused refusal 0) s
+  finish-refused e = steps-refused (ap (finished t s x number) e) refl
+
+  pub finish-act : {label : Label} {value keys : ℕ} → r ≡ Act label value keys → {n : Tally} {u : List ℕ} → n ≡ noTally → u ≡ acted t s x (chosen t s x number)
+      → Steps (finished t s x number r) (StepDone n) u
+  finish-act e f g = steps-done (ap (finished t s x number) e) f g
+
+  pub finish-offer : {confirming : Bool} → r ≡ Offer confirming → {n : Tally} {u : List ℕ}
+      → Passed (offerTally t s x number true (t .sizes .agents)) (sent t s x number true confirming (t .sizes .agents)) n u
+      → Steps (finished t s x number r) (StepDone n) u
+  finish-offer {confirming} e p = steps-done (ap (finished t s x number) e ∙ by confirming) (p .answer) (p .state)
+    where
+      by : (b : Bool) → finished t s x number (Offer b) ≡ done (offerTally t s x number true (t .sizes .agents)) (sent t s x number true b (t .sizes .agents))
+      by true = refl
+      by false = refl
+
+-- PREVIEWED: what is judged on one state is finished in a second buffer, which is a copy of it where the step is allowed and as it came where not
+abbrev pub Copied : Judged → List ℕ → List ℕ → List ℕ → Type 0
+Copied r was came next = ((isAllowed r ≡ true) × (next ≡ was)) ⊎ ((isAllowed r ≡ false) × (next ≡ came))
+
+module _ (t : Table) (was came : List ℕ) (x number : ℕ) where
+  refused-planned : (s : List ℕ) (r : Judged) → isAllowed r ≡ false → Planned t s x number r
+  refused-planned s (Refused refusal) e = tt
+  refused-planned s (Act label value keys) e = absurd (not-both refl e)
+  refused-planned s (Offer confirming) e = absurd (not-both refl e)
+
+  pub copied-planned : (r : Judged) {next : List ℕ} → Copied r was came next → Planned t was x number r → Planned t next x number r
+  copied-planned r {next} c p =
+      ⊎-elim (λ (w : (isAllowed r ≡ true) × (next ≡ was)). subst (λ (s : List ℕ). Planned t s x number r) (sym (w .1)) p)
+      (λ (w : (isAllowed r ≡ false) × (next ≡ came)). refused-planned next r (w .0)) c
+
+  allowed-into : (r : Judged) → isAllowed r ≡ true → into came (finished t was x number r) ≡ finished t was x number r
+  allowed-into (Refused refusal) e = absurd (not-both e refl)
+  allowed-into (Act label value keys) e = into-done came (finished t was x number (Act label value keys)) refl
+  allowed-into (Offer confirming) e = into-done came (finished t was x number (Offer confirming)) refl
+
+  refused-into : (r : Judged) → isAllowed r ≡ false → into came (finished t was x number r) ≡ finished t came x number r
+  refused-into (Refused refusal) e = into-refused came (finished t was x number (Refused refusal)) refl
+  refused-into (Act label value keys) e = absurd (not-both refl e)
+  refused-into (Offer confirming) e = absurd (not-both refl e)
+
+  pub copied-finished : (r : Judged) {next : List ℕ} → Copied r was came next → into came (finished t was x number r) ≡ finished t next x number r
+  copied-finished r {next} c =
+      ⊎-elim (λ (w : (isAllowed r ≡ true) × (next ≡ was)). allowed-into r (w .0) ∙ ap (λ (s : List ℕ). finished t s x number r) (sym (w .1)))
+      (λ (w : (isAllowed r ≡ false) × (next ≡ came)). refused-into r (w .0) ∙ ap (λ (s : List ℕ). finished t s x number r) (sym (w .1))) c

@@ -1,17 +1,21 @@
-// Load, step and run, for any bytes as table, state and schedule.
+// Load, step, preview and run, for any bytes as table, state and schedule.
 mod opening; // opening.rt: refusals 1 to 9
-mod stepping; // stepping.rt: a step of an accepted table and a well-formed state
+mod checking; // checking.rt: refusals 10 to 18
+mod stepping; // stepping.rt: a step, or its preview, of an accepted table and a well-formed state
 mod running; // running.rt: the steps of a schedule
 
 use accept::Acceptance;
 use opening::open;
 use running::judge_schedule;
 use running::run_steps;
+use stepping::preview_in;
 use stepping::step_in;
 use steps::Tally;
+use term::Label;
 use wellformed::write_loaded;
 ghost use lib.ListN.{length};
 ghost use Rattle.steps.specs.Steps.{loadOf, stepOf};
+ghost use Rattle.steps.specs.Previews.{previewOf};
 ghost use Rattle.steps.specs.Runs.{runOf};
 ghost use Rattle.machine.specs.Answers.{Loads, Steps, Runs};
 
@@ -25,6 +29,14 @@ pub enum Loaded {
 pub enum Stepped {
     Done(Tally),
     Refused(u8, usize),
+}
+
+// What is found of a step before anything is written: the refusal; or that it is an act, with what it does, the word
+// that it sets and the stigmergy keys that its guards read; or an offer.
+enum Judged {
+    Refused(u8),
+    Act { label: Label, value: u32, keys: u32 },
+    Offer { confirming: bool },
 }
 
 // The steps of a schedule that may be run, or the refusal.
@@ -72,7 +84,7 @@ pub fn step(
 ) -> Stepped
     ensures { λ r. ⌜ Steps (stepOf (now (table .entry)) (now (state .entry)) (length (now (scratch .entry))) kind agent number) r (now (state .exit)) ⌝ }
 {
-    let opened = open(table, state, scratch);
+    let opened = open(table, state, true, scratch);
     match opened {
         Acceptance::Accepted(sizes) => {
             let operands = table::HEADER_BYTES + sizes.nodes;
@@ -91,6 +103,39 @@ pub fn step(
     }
 }
 
+// What the same step would do: the state after it goes to a second buffer, which a refusal leaves as it came. A second
+// buffer of another length than a state's is refused (8).
+pub fn preview(
+    table: &[u8],
+    state: &[u32],
+    scratch: &mut [u32],
+    kind: u8,
+    agent: u16,
+    number: u16,
+    next: &mut [u32],
+) -> Stepped
+    ensures { λ r. ⌜ Steps (previewOf (now (table .entry)) (now (state .entry)) (length (now (scratch .entry))) kind agent number (now (next .entry))) r (now (next .exit)) ⌝ }
+{
+    let opened = open(table, state, next.len() == state::STATE_WORDS, scratch);
+    match opened {
+        Acceptance::Accepted(sizes) => {
+            let operands = table::HEADER_BYTES + sizes.nodes;
+            preview_in(
+                sizes,
+                &table[table::HEADER_BYTES..operands],
+                &table[operands..],
+                scratch,
+                state,
+                kind,
+                agent as usize,
+                number as usize,
+                next,
+            )
+        }
+        Acceptance::Refused(number, place) => Stepped::Refused(number, place),
+    }
+}
+
 // The steps of a schedule, each in turn, with an answer byte for each: 0, or its refusal.
 pub fn run(
     table: &[u8],
@@ -101,7 +146,7 @@ pub fn run(
 ) -> Ran
     ensures { λ r. ⌜ Runs (runOf (now (table .entry)) (now (state .entry)) (length (now (scratch .entry))) (now (schedule .entry)) (now (answers .entry))) r (now (state .exit)) (now (answers .exit)) ⌝ }
 {
-    let opened = open(table, state, scratch);
+    let opened = open(table, state, true, scratch);
     match opened {
         Acceptance::Accepted(sizes) => {
             let scheduled = judge_schedule(schedule, answers);

@@ -3,10 +3,12 @@ use accept::Acceptance;
 use wellformed::well_formed;
 ghost use Rattle.machine.specs.Opening.{Opens};
 
-pub fn open(table: &[u8], state: &[u32], scratch: &mut [u32]) -> Acceptance
-    ensures { λ r. ⌜ Opens (now (table .entry)) (now (state .entry)) (now (scratch .entry)) (now (scratch .exit)) r ⌝ }
+// `others`: whether the call's other buffers have the lengths that 8 asks.
+pub fn open(table: &[u8], state: &[u32], others: bool, scratch: &mut [u32]) -> Acceptance
+    ensures { λ r. ⌜ Opens others (now (table .entry)) (now (state .entry)) (now (scratch .entry)) (now (scratch .exit)) r ⌝ }
 {
-    let answer = accept::accept(table, state.len() == state::STATE_WORDS, scratch);
+    let fits = others & (state.len() == state::STATE_WORDS);
+    let answer = accept::accept(table, fits, scratch);
     match answer {
         Acceptance::Accepted(sizes) => {
             let operands = table::HEADER_BYTES + sizes.nodes;

@@ -1,77 +1,76 @@
-// A step of an accepted table and a well-formed state: refusals 10 and 18, and what its kind does.
+// A step of an accepted table and a well-formed state: judged, and then done on the state or on a copy of it.
+use crate::Judged;
 use crate::Stepped;
-use acting::Acted;
-use acting::act;
+use crate::checking::judge_step;
+use acting::perform;
+use basis::words::copy;
 use offering::no_tally;
 use offering::offer;
-use offering::pending_at;
 use table::Sizes;
 ghost use mathlib.Core.Path.{_≡_};
-ghost use mathlib.Core.List.{List};
-ghost use Prim.Native.Nat.{ℕ, _<_};
+ghost use lib.ListN.{length};
 ghost use Rattle.table.specs.Tables.{table};
 ghost use Rattle.choice.specs.Turns.{Prepared};
 ghost use Rattle.state.specs.WellFormed.{Proper};
-ghost use Rattle.steps.specs.Steps.{outOfRange, stepIn};
-ghost use Rattle.offering.specs.Passing.{Passing};
+ghost use Rattle.steps.specs.Steps.{stepIn};
+ghost use Rattle.steps.specs.Previews.{into};
 ghost use Rattle.machine.specs.Answers.{Steps};
-ghost use Rattle.machine.specs.Stepping.{ownStep, offerKind};
+ghost use Rattle.machine.specs.Stepping.{isAllowed, Planned, finished};
 
-// 10: the kind, the agent or the key is out of range.
-fn out_of_range(sizes: Sizes, kind: u8, agent: usize, number: usize) -> bool
-    ensures { λ r. ⌜ ((kinds operands : List ℕ) → r ≡ outOfRange (table sizes kinds operands) kind agent number) ⌝ }
+fn is_allowed(judged: Judged) -> bool
+    ensures { λ r. ⌜ r ≡ isAllowed judged ⌝ }
 {
-    if 3 <= kind {
-        return true;
+    match judged {
+        Judged::Refused(_) => false,
+        Judged::Act { .. } => true,
+        Judged::Offer { .. } => true,
     }
-    if sizes.agents <= agent {
-        return true;
-    }
-    if kind == 0 {
-        return false;
-    }
-    sizes.stigmergy <= number
 }
 
-fn act_step(
+// What a step was judged to be is done on a state, or is refused.
+fn finish(
     sizes: Sizes,
     kinds: &[u8],
     operands: &[u8],
     scratch: &[u32],
     state: &mut [u32],
     agent: usize,
-    choice: usize,
+    number: usize,
+    judged: Judged,
 ) -> Stepped
     requires { ⌜ Prepared (table sizes (now kinds) (now operands)) (now scratch) ⌝ }
-    requires { ⌜ Proper (table sizes (now kinds) (now operands)) (now state) ⌝ }
-    requires { ⌜ agent < sizes .agents ⌝ }
-    ensures { λ r. ⌜ Steps (ownStep (table sizes (now (kinds .entry)) (now (operands .entry))) (now (state .entry)) 0 agent choice) r (now (state .exit)) ⌝ }
+    requires { ⌜ Planned (table sizes (now kinds) (now operands)) (now state) agent number judged ⌝ }
+    ensures { λ r. ⌜ Steps (finished (table sizes (now (kinds .entry)) (now (operands .entry))) (now (state .entry)) agent number judged) r (now (state .exit)) ⌝ }
 {
-    let acted = act(sizes, kinds, operands, scratch, state, agent, choice as u64);
-    match acted {
-        Acted::Done => Stepped::Done(no_tally()),
-        Acted::Refused(number) => Stepped::Refused(number, 0),
+    match judged {
+        Judged::Refused(refusal) => Stepped::Refused(refusal, 0),
+        Judged::Act { label, value, keys } => {
+            let choice = number as u64;
+            perform(
+                sizes,
+                kinds,
+                operands,
+                scratch,
+                state,
+                agent,
+                choice,
+                label,
+                value,
+                keys,
+            );
+            Stepped::Done(no_tally())
+        }
+        Judged::Offer { confirming } => Stepped::Done(offer(
+            sizes,
+            kinds,
+            operands,
+            state,
+            agent,
+            number,
+            true,
+            confirming,
+        )),
     }
-}
-
-// Propagate, or confirm.
-fn offer_step(
-    sizes: Sizes,
-    kinds: &[u8],
-    operands: &[u8],
-    state: &mut [u32],
-    agent: usize,
-    key: usize,
-    confirming: bool,
-) -> Stepped
-    requires { ⌜ Passing (table sizes (now kinds) (now operands)) (now state) agent key ⌝ }
-    ensures { λ r. ⌜ Steps (ownStep (table sizes (now (kinds .entry)) (now (operands .entry))) (now (state .entry)) (offerKind confirming) agent key) r (now (state .exit)) ⌝ }
-{
-    let keys = state[pending_at(agent, confirming)];
-    if !basis::has(keys, key) {
-        return Stepped::Refused(18, 0);
-    }
-    Stepped::Done(offer(sizes, kinds, operands, state, agent, key, true, confirming))
 }
 
 pub fn step_in(
@@ -88,11 +87,39 @@ pub fn step_in(
     requires { ⌜ Proper (table sizes (now kinds) (now operands)) (now state) ⌝ }
     ensures { λ r. ⌜ Steps (stepIn (table sizes (now (kinds .entry)) (now (operands .entry))) (now (state .entry)) kind agent number) r (now (state .exit)) ⌝ }
 {
-    if out_of_range(sizes, kind, agent, number) {
-        return Stepped::Refused(10, 0);
+    let judged = judge_step(sizes, kinds, operands, scratch, state, kind, agent, number);
+    finish(
+        sizes,
+        kinds,
+        operands,
+        scratch,
+        state,
+        agent,
+        number,
+        judged,
+    )
+}
+
+// The step is judged on the first state; the second buffer is written only where it is done.
+pub fn preview_in(
+    sizes: Sizes,
+    kinds: &[u8],
+    operands: &[u8],
+    scratch: &[u32],
+    state: &[u32],
+    kind: u8,
+    agent: usize,
+    number: usize,
+    next: &mut [u32],
+) -> Stepped
+    requires { ⌜ Prepared (table sizes (now kinds) (now operands)) (now scratch) ⌝ }
+    requires { ⌜ Proper (table sizes (now kinds) (now operands)) (now state) ⌝ }
+    requires { ⌜ length (now state) ≡ length (now next) ⌝ }
+    ensures { λ r. ⌜ Steps (into (now (next .entry)) (stepIn (table sizes (now (kinds .entry)) (now (operands .entry))) (now (state .entry)) kind agent number)) r (now (next .exit)) ⌝ }
+{
+    let judged = judge_step(sizes, kinds, operands, scratch, state, kind, agent, number);
+    if is_allowed(judged) {
+        copy(state, next);
     }
-    if kind == 0 {
-        return act_step(sizes, kinds, operands, scratch, state, agent, number);
-    }
-    offer_step(sizes, kinds, operands, state, agent, number, kind == 2)
+    finish(sizes, kinds, operands, scratch, next, agent, number, judged)
 }

@@ -10,7 +10,6 @@ use Rattle.steps.specs.Runs.{stepLimit, Rehearsal}
 use Rattle.machine.specs.declared.Loaded.{Loaded}
 use Rattle.machine.specs.declared.Loaded.the-variants.{Refused as LoadRefused}
 use Rattle.machine.specs.declared.Stepped.{Stepped}
-use Rattle.machine.specs.declared.Stepped.the-variants.{Refused as StepRefused}
 use Rattle.machine.specs.declared.Totals.{Totals}
 use Rattle.machine.specs.declared.Ran.{Ran}
 use Rattle.machine.specs.declared.Ran.the-variants.{Done as RunDone, Refused as RunRefused}
@@ -30,12 +29,12 @@ load-packs a e = record { answer = e ∙ ap (λ (c : Check). packed c 0) (a .che
 pub load-place : {o : Outcome} {x : Loaded} {after : List ℕ} {number place : ℕ} → Loads o x after → x ≡ LoadRefused number place → Near (o .check) → place ≤ 4096
 load-place a e l = place-near (sym (ap (λ (y : Loaded). loadCheck y) e) ∙ a .check) l
 
--- STEP
+-- STEP, PREVIEW
 pub step-packs : {o : Outcome} {x : Stepped} {after : List ℕ} {r : ℕ} → Steps o x after → r ≡ packed (stepCheck x) (stepTally x .taken) → StepPacked o r after
 step-packs a e = record { answer = e ∙ (λ i. packed (a .check i) (a .tally i .taken)); state = a .state }
 
-pub step-place : {o : Outcome} {x : Stepped} {after : List ℕ} {number place : ℕ} → Steps o x after → x ≡ StepRefused number place → Near (o .check) → place ≤ 4096
-step-place a e l = place-near (sym (ap (λ (y : Stepped). stepCheck y) e) ∙ a .check) l
+pub step-place : {o : Outcome} {x : Stepped} {after : List ℕ} → Steps o x after → Near (o .check) → placeOf (stepCheck x) ≤ 4096
+step-place a l = omega (arith, ap placeOf (a .check), l .place)
 
 -- RUN
 pub run-packs : {o : Rehearsal} {x : Ran} {after bytes : List ℕ} {r : ℕ} → Runs o x after bytes → r ≡ packed (runCheck x) (packedTotals (runTotals x)) → RunPacked o r after bytes

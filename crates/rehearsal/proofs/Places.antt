@@ -1,7 +1,7 @@
 -- A refusal's number is at most 20, and its place at most 4,096: a node, a definition or 0.
 -- Assumes nothing.
 use Prim.Native.Nat.{ℕ, zero, suc, _≤_}
-use mathlib.Core.Bool.{Bool, true, false, cond}
+use mathlib.Core.Bool.{Bool, true, false, cond, _&&_}
 use mathlib.Core.Path.{_≡_, refl, sym, subst}
 use mathlib.Core.List.{List, [], _∷_, _++_}
 use native.Mathlib.Omega.{arith}
@@ -15,9 +15,11 @@ use Rattle.term.specs.Acceptance.{tableChecks}
 use Rattle.state.specs.Layout.{isWhole}
 use Rattle.state.specs.WellFormed.{loaded}
 use Rattle.steps.specs.Tallies.{noTally}
-use Rattle.steps.specs.Steps.{stateChecks, ownChecks, stepChecks, tallyOf, after, stepIn, loadOf, stepOf}
+use Rattle.steps.specs.Steps.{stateChecksWith, stateChecks, ownChecks, stepChecks, tallyOf, after, stepIn, stepWith, loadOf, stepOf}
+use Rattle.steps.specs.Previews.{previewOf}
 use Rattle.steps.specs.Runs.{scheduleChecks, runOf}
-use Rattle.steps.proofs.Steps.{outcome-check, step-in, step-stopped}
+use Rattle.steps.proofs.Steps.{outcome-check, with-in, with-stopped}
+use Rattle.steps.proofs.Previews.{preview-check}
 
 pub record Near (c : Check) : Type 0 where
   pub number : numberOf c ≤ 20
@@ -66,18 +68,21 @@ module _ (bytes : List ℕ) (fits : Bool) (scratch : ℕ) where
       (at-near 6 (omega arith) _ (sizesOf bytes .definitions) _ (omega (arith, l .definitions))
       (at-near 7 (omega arith) _ (sizesOf bytes .nodes) _ n none-near)))))))
 
-module _ (bytes was : List ℕ) (scratch : ℕ) where
-  pub load-near : Near (loadOf bytes was scratch .check)
-  load-near = subst Near (sym (outcome-check was noTally (loaded (tableOf bytes)) (firstOf (tableChecks bytes (isWhole was) scratch)))) (table-near bytes (isWhole was) scratch)
+pub load-near : (bytes was : List ℕ) (scratch : ℕ) → Near (loadOf bytes was scratch .check)
+load-near bytes was scratch =
+    subst Near (sym (outcome-check was noTally (loaded (tableOf bytes)) (firstOf (tableChecks bytes (isWhole was) scratch)))) (table-near bytes (isWhole was) scratch)
 
-  state-near : Near (firstOf (stateChecks bytes was scratch))
-  state-near = append-near (tableChecks bytes (isWhole was) scratch) _ (table-near bytes (isWhole was) scratch) (λ e. if-near 9 (omega arith) _ _ (λ _. none-near))
+module _ (othersFit : Bool) (bytes was : List ℕ) (scratch : ℕ) where
+  state-near : Near (firstOf (stateChecksWith othersFit bytes was scratch))
+  state-near =
+      append-near (tableChecks bytes (othersFit && isWhole was) scratch) _ (table-near bytes (othersFit && isWhole was) scratch)
+      (λ e. if-near 9 (omega arith) _ _ (λ _. none-near))
 
-  pub run-near : (schedule answers : List ℕ) → Near (runOf bytes was scratch schedule answers .check)
-  unfolding runOf
-  run-near schedule answers =
-      append-near (stateChecks bytes was scratch) (scheduleChecks schedule answers) state-near
-      (λ e. if-near 19 (omega arith) _ _ (λ _. if-near 20 (omega arith) _ _ (λ _. none-near)))
+pub run-near : (bytes was : List ℕ) (scratch : ℕ) (schedule answers : List ℕ) → Near (runOf bytes was scratch schedule answers .check)
+unfolding runOf
+run-near bytes was scratch schedule answers =
+    append-near (stateChecks bytes was scratch) (scheduleChecks schedule answers) (state-near true bytes was scratch)
+    (λ e. if-near 19 (omega arith) _ _ (λ _. if-near 20 (omega arith) _ _ (λ _. none-near)))
 
 -- A STEP
 module _ (t : Table) (was : List ℕ) where
@@ -99,10 +104,17 @@ module _ (t : Table) (was : List ℕ) where
       subst Near (sym (outcome-check was (tallyOf t was kind x number) (after t was kind x number) (firstOf (stepChecks t was kind x number))))
       (if-near 10 (omega arith) _ _ (λ _. own-near kind x number))
 
+with-near : (othersFit : Bool) (bytes was : List ℕ) (scratch kind x number : ℕ) → Near (stepWith othersFit bytes was scratch kind x number .check)
+with-near othersFit bytes was scratch kind x number = by (firstOf (stateChecksWith othersFit bytes was scratch)) refl
+  where
+    by : (c : Check) → firstOf (stateChecksWith othersFit bytes was scratch) ≡ c → Near (stepWith othersFit bytes was scratch kind x number .check)
+    by passes e = subst (λ o. Near (o .check)) (sym (with-in othersFit bytes was scratch kind x number e)) (in-near (tableOf bytes) was kind x number)
+    by (refuses n place) e = subst (λ o. Near (o .check)) (sym (with-stopped othersFit bytes was scratch kind x number e)) (subst Near e (state-near othersFit bytes was scratch))
+
 module _ (bytes was : List ℕ) (scratch kind x number : ℕ) where
   pub step-near : Near (stepOf bytes was scratch kind x number .check)
-  step-near = by (firstOf (stateChecks bytes was scratch)) refl
-    where
-      by : (c : Check) → firstOf (stateChecks bytes was scratch) ≡ c → Near (stepOf bytes was scratch kind x number .check)
-      by passes e = subst (λ o. Near (o .check)) (sym (step-in bytes was scratch kind x number e)) (in-near (tableOf bytes) was kind x number)
-      by (refuses n place) e = subst (λ o. Near (o .check)) (sym (step-stopped bytes was scratch kind x number e)) (subst Near e (state-near bytes was scratch))
+  unfolding stepOf
+  step-near = with-near true bytes was scratch kind x number
+
+  pub preview-near : (next : List ℕ) → Near (previewOf bytes was scratch kind x number next .check)
+  preview-near next = subst Near (sym (preview-check bytes was scratch kind x number next)) (with-near (isWhole next) bytes was scratch kind x number)

@@ -1,15 +1,20 @@
 -- What is reported is small: a step counts each of at most 32 agents once, and a run has at most 8,192 steps.
 -- Assumes nothing.
 use Prim.Native.Nat.{ℕ}
+use mathlib.Core.Bool.{Bool, true}
 use mathlib.Core.Path.{_≡_, refl}
 use mathlib.Core.List.{List}
 use native.Mathlib.Omega.{arith}
 use Rattle.table.specs.Checks.{Check, passes, refuses, firstOf}
 use Rattle.table.specs.Tables.{tableOf}
 use Rattle.table.proofs.Checks.{append-passes}
-use Rattle.steps.specs.Steps.{stateChecks, stepOf}
+use Rattle.state.specs.Layout.{isWhole}
+use Rattle.steps.specs.declared.Tally.{Tally}
+use Rattle.steps.specs.Tallies.{noTally}
+use Rattle.steps.specs.Steps.{outcome, stateChecksWith, stateChecks, stepWith, stepOf}
+use Rattle.steps.specs.Previews.{previewOf}
 use Rattle.steps.specs.Runs.{stepLimit, stepsOf, scheduleChecks, runOf}
-use Rattle.steps.proofs.Steps.{state-checks, step-in, step-stopped}
+use Rattle.steps.proofs.Steps.{checks-with, state-checks, with-in, with-stopped}
 use Rattle.steps.proofs.Schedules.{schedule-checks}
 use Rattle.offering.specs.Passing.{TallyWithin}
 use Rattle.machine.specs.Answers.{totalsOf}
@@ -24,10 +29,30 @@ module _ (bytes was : List ℕ) (scratch : ℕ) (schedule answers : List ℕ) wh
       let few = state-checks bytes was scratch .0 (w .0) .0 .table .sound .shaped .limits .agents in
       rw (runOf, e) (within-more _ (stepsOf schedule) stepLimit (schedule-checks schedule answers .0 (w .1) .1) (ran-within (tableOf bytes) few schedule was answers (stepsOf schedule)))
 
+none-within : TallyWithin 1 noTally
+none-within = record { taken = omega arith }
+
+with-within : (othersFit : Bool) (bytes was : List ℕ) (scratch kind x number : ℕ) → TallyWithin 1 (stepWith othersFit bytes was scratch kind x number .tally)
+with-within othersFit bytes was scratch kind x number = by (firstOf (stateChecksWith othersFit bytes was scratch)) refl
+  where
+    by : (c : Check) → firstOf (stateChecksWith othersFit bytes was scratch) ≡ c → TallyWithin 1 (stepWith othersFit bytes was scratch kind x number .tally)
+    by passes e =
+        rw (with-in othersFit bytes was scratch kind x number e)
+        (in-within (tableOf bytes) (checks-with othersFit bytes was scratch .0 e .0 .table .sound .shaped .limits .agents) was kind x number)
+    by (refuses n place) e = rw (with-stopped othersFit bytes was scratch kind x number e) none-within
+
+outcome-within : (was : List ℕ) (tally : Tally) (s : List ℕ) → TallyWithin 1 tally → (c : Check) → TallyWithin 1 (outcome c was tally s .tally)
+unfolding outcome
+outcome-within was tally s w passes = w
+outcome-within was tally s w (refuses n place) = none-within
+
 module _ (bytes was : List ℕ) (scratch kind x number : ℕ) where
   pub step-within : TallyWithin 1 (stepOf bytes was scratch kind x number .tally)
-  step-within = by (firstOf (stateChecks bytes was scratch)) refl
-    where
-      by : (c : Check) → firstOf (stateChecks bytes was scratch) ≡ c → TallyWithin 1 (stepOf bytes was scratch kind x number .tally)
-      by passes e = rw (step-in bytes was scratch kind x number e) (in-within (tableOf bytes) (state-checks bytes was scratch .0 e .0 .table .sound .shaped .limits .agents) was kind x number)
-      by (refuses n place) e = rw (step-stopped bytes was scratch kind x number e) (record { taken = omega arith })
+  unfolding stepOf
+  step-within = with-within true bytes was scratch kind x number
+
+  pub preview-within : (next : List ℕ) → TallyWithin 1 (previewOf bytes was scratch kind x number next .tally)
+  unfolding previewOf
+  preview-within next =
+      let o = stepWith (isWhole next) bytes was scratch kind x number in
+      outcome-within next (o .tally) (o .state) (with-within (isWhole next) bytes was scratch kind x number) (o .check)

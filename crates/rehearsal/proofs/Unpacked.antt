@@ -10,12 +10,13 @@ use native.Mathlib.Omega.{arith}
 use Rattle.basis.proofs.Tests.{lt-or-le}
 use Rattle.table.specs.Checks.{Check, passes, refuses, passed}
 use Rattle.steps.specs.Steps.{stepOf}
+use Rattle.steps.specs.Previews.{previewOf}
 use Rattle.steps.specs.Runs.{stepLimit, runOf}
 use Rattle.machine.specs.declared.Totals.{Totals}
 use Rattle.machine.specs.Running.{TotalsWithin}
 use Rattle.rehearsal.specs.Packing.{packed, packedTotals, reportOf}
 use Rattle.rehearsal.proofs.Places.{Near}
-use Rattle.rehearsal.proofs.Totals.{step-within, run-within}
+use Rattle.rehearsal.proofs.Totals.{step-within, preview-within, run-within}
 
 -- two numbers of an upper part and a lower one, which is below w
 not-less : (w c d k : ℕ) → k < w → w * d ≤ w * c + k → c < d → ⊥
@@ -45,6 +46,9 @@ told (refuses number place) (refuses other at) p q m n l k e = (λ i. refuses (s
 module _ (bytes was : List ℕ) (scratch : ℕ) where
   pub step-report : (kind x number : ℕ) → stepOf bytes was scratch kind x number .tally .taken < 2 ^ 63
   step-report kind x number = omega (arith, step-within bytes was scratch kind x number .taken)
+
+  pub preview-report : (kind x number : ℕ) (next : List ℕ) → previewOf bytes was scratch kind x number next .tally .taken < 2 ^ 63
+  preview-report kind x number next = omega (arith, preview-within bytes was scratch kind x number next .taken)
 
   pub run-report : (schedule answers : List ℕ) → runOf bytes was scratch schedule answers .check ≡ passes → reportOf (runOf bytes was scratch schedule answers .progress) < 2 ^ 63
   run-report schedule answers e = let w = run-within bytes was scratch schedule answers e in omega (arith, w .done, w .refused, w .tally .taken)

@@ -24,7 +24,7 @@ pub record LoadPacked (o : Outcome) (r : ℕ) (after : List ℕ) : Type 0 where
   pub answer : r ≡ packed (o .check) 0
   pub state : after ≡ o .state
 
--- a step reports how many agents took the entry
+-- a step, or its preview, reports how many agents took the entry
 pub record StepPacked (o : Outcome) (r : ℕ) (after : List ℕ) : Type 0 where
   pub answer : r ≡ packed (o .check) (o .tally .taken)
   pub state : after ≡ o .state

@@ -4,11 +4,12 @@ mod packing; // packing.rt: answers as one number
 
 use machine::Loaded;
 use machine::Ran;
-use machine::Stepped;
 use packing::pack_refusal;
+use packing::pack_step;
 use packing::pack_totals;
 ghost use lib.ListN.{length};
 ghost use Rattle.steps.specs.Steps.{loadOf, stepOf};
+ghost use Rattle.steps.specs.Previews.{previewOf};
 ghost use Rattle.steps.specs.Runs.{runOf};
 ghost use Rattle.rehearsal.specs.Packing.{LoadPacked, StepPacked, RunPacked};
 
@@ -37,11 +38,24 @@ pub extern "C" fn labs_step(
 ) -> u64
     ensures { λ r. ⌜ StepPacked (stepOf (now (table .entry)) (now (state .entry)) (length (now (scratch .entry))) kind agent number) r (now (state .exit)) ⌝ }
 {
-    let answer = machine::step(table, state, scratch, kind, agent, number);
-    match answer {
-        Stepped::Done(tally) => tally.taken as u64,
-        Stepped::Refused(number, place) => pack_refusal(number, place),
-    }
+    pack_step(machine::step(table, state, scratch, kind, agent, number))
+}
+
+// What the same step would do: the state after it goes to a second buffer, which a refusal leaves as it came. Reports what
+// the step would.
+#[no_mangle]
+pub extern "C" fn labs_preview(
+    table: &[u8],
+    state: &[u32],
+    scratch: &mut [u32],
+    kind: u8,
+    agent: u16,
+    number: u16,
+    next: &mut [u32],
+) -> u64
+    ensures { λ r. ⌜ StepPacked (previewOf (now (table .entry)) (now (state .entry)) (length (now (scratch .entry))) kind agent number (now (next .entry))) r (now (next .exit)) ⌝ }
+{
+    pack_step(machine::preview(table, state, scratch, kind, agent, number, next))
 }
 
 // The steps of a schedule, each in turn, with an answer byte for each: 0, or its refusal. Reports the totals.

@@ -1,9 +1,11 @@
 // Answers as one number.
+use machine::Stepped;
 use machine::Totals;
 ghost use mathlib.Core.Path.{_≡_};
 ghost use Prim.Native.Nat.{_≤_};
-ghost use Rattle.table.specs.Checks.{refuses};
+ghost use Rattle.table.specs.Checks.{refuses, placeOf};
 ghost use Rattle.steps.specs.Runs.{stepLimit};
+ghost use Rattle.machine.specs.Answers.{stepCheck, stepTally};
 ghost use Rattle.machine.specs.Running.{TotalsWithin};
 ghost use Rattle.rehearsal.specs.Packing.{packed, packedTotals};
 
@@ -16,6 +18,17 @@ pub fn pack_refusal(number: u8, place: usize) -> u64
     ensures { λ r. ⌜ r ≡ packed (refuses number place) 0 ⌝ }
 {
     REFUSED + 65536 * place as u64 + number as u64
+}
+
+// What a step answers, or its preview.
+pub fn pack_step(answer: Stepped) -> u64
+    requires { ⌜ placeOf (stepCheck answer) ≤ 4096 ⌝ }
+    ensures { λ r. ⌜ r ≡ packed (stepCheck answer) (stepTally answer .taken) ⌝ }
+{
+    match answer {
+        Stepped::Done(tally) => tally.taken as u64,
+        Stepped::Refused(number, place) => pack_refusal(number, place),
+    }
 }
 
 // The totals of a run.

@@ -7,7 +7,7 @@ pub numbered : Numbered
 numbered =
     record {
       load = λ bytes fits scratch. refl;
-      state = λ bytes was scratch. refl;
+      state = λ othersFit bytes was scratch. refl;
       act = λ t was x c. refl;
       propagate = λ t was x k. refl;
       confirm = λ t was x k. refl;

@@ -25,7 +25,7 @@ use Rattle.steps.specs.Acts.{choices, chosen, allHold, lacksValue, write
 use Rattle.term.specs.Acceptance.{tableChecks}
 use Rattle.steps.specs.declared.Tally.{Tally}
 use Rattle.steps.specs.Tallies.{noTally}
-use Rattle.steps.specs.Steps.{Outcome, done, refused, outcome, loadOf, outOfRange, ownChecks, tallyOf, after, stepChecks, stepIn, stateChecks, stepOf}
+use Rattle.steps.specs.Steps.{Outcome, done, refused, outcome, loadOf, outOfRange, ownChecks, tallyOf, after, stepChecks, stepIn, stateChecksWith, stateChecks, stepWith, stepOf}
 
 module _ (was : List ℕ) (tally : Tally) (s : List ℕ) where
   pub outcome-check : (c : Check) → outcome c was tally s .check ≡ c
@@ -169,26 +169,45 @@ pub record Done (bytes was : List ℕ) (scratch kind x number : ℕ) : Type 0 wh
   pub range : InRange (tableOf bytes) kind x number
   pub own : firstOf (ownChecks (tableOf bytes) was kind x number) ≡ passes
 
+-- 1 to 9, and a step after them, of a call with other buffers
+module _ (othersFit : Bool) (bytes was : List ℕ) (scratch : ℕ) where
+  abbrev whole : Bool
+  whole = othersFit && isWhole was
+
+  abbrev formed : Bool
+  formed = wellFormed (tableOf bytes) was
+
+  pub checks-with : firstOf (stateChecksWith othersFit bytes was scratch) ≡ passes ↔ (Acceptable bytes whole scratch × (formed ≡ true))
+  checks-with = (
+    λ e. let w = append-passes (tableChecks bytes whole scratch) _ e in
+        (passes-accepted bytes whole scratch (w .0), not-false formed (first-passes (refuseIf 9 (not formed)) [] (w .1) .0)),
+    λ p. append-both (tableChecks bytes whole scratch) _ (accepted-passes bytes whole scratch (p .0)) (first-both (refuseIf 9 (not formed)) [] (ap not (p .1)) none-passes),
+  )
+
+  module _ (kind x number : ℕ) where
+    pub with-in : firstOf (stateChecksWith othersFit bytes was scratch) ≡ passes
+        → stepWith othersFit bytes was scratch kind x number ≡ stepIn (tableOf bytes) was kind x number
+    with-in e = rw (stepWith, e)
+
+    pub with-stopped : {n place : ℕ} → firstOf (stateChecksWith othersFit bytes was scratch) ≡ refuses n place
+        → stepWith othersFit bytes was scratch kind x number ≡ refused n place was
+    with-stopped e = rw (stepWith, e)
+
 module _ (bytes was : List ℕ) (scratch : ℕ) where
   abbrev t : Table
   t = tableOf bytes
 
   pub state-checks : firstOf (stateChecks bytes was scratch) ≡ passes ↔ (Acceptable bytes (isWhole was) scratch × (wellFormed (tableOf bytes) was ≡ true))
-  state-checks = (
-    λ e. let w = append-passes (tableChecks bytes (isWhole was) scratch) _ e in
-        (passes-accepted bytes (isWhole was) scratch (w .0), not-false (wellFormed t was) (first-passes (refuseIf 9 (not (wellFormed t was))) [] (w .1) .0)),
-    λ p. append-both (tableChecks bytes (isWhole was) scratch) _ (accepted-passes bytes (isWhole was) scratch (p .0))
-        (first-both (refuseIf 9 (not (wellFormed t was))) [] (ap not (p .1)) none-passes),
-  )
+  state-checks = checks-with true bytes was scratch
 
   module _ (kind x number : ℕ) where
     pub step-in : firstOf (stateChecks bytes was scratch) ≡ passes → stepOf bytes was scratch kind x number ≡ stepIn (tableOf bytes) was kind x number
     unfolding stepOf
-    step-in e = rw (stepOf, e)
+    step-in e = with-in true bytes was scratch kind x number e
 
     pub step-stopped : {n place : ℕ} → firstOf (stateChecks bytes was scratch) ≡ refuses n place → stepOf bytes was scratch kind x number ≡ refused n place was
     unfolding stepOf
-    step-stopped e = rw (stepOf, e)
+    step-stopped e = with-stopped true bytes was scratch kind x number e
 
     abbrev checks : List Refusal
     checks = stepChecks t was kind x number

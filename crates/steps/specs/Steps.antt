@@ -65,14 +65,21 @@ module _ (t : Table) (was : List ℕ) where
       outcome (firstOf (stepChecks kind x number)) was
       (tallyOf kind x number) (after kind x number)
 
--- 9: the state is not well formed
-abbrev pub stateChecks : List ℕ → List ℕ → ℕ → List Refusal
-stateChecks bytes was scratchLength =
-    tableChecks bytes (isWhole was) scratchLength ++ (refuseIf 9 (not (wellFormed (tableOf bytes) was)) ∷ [])
+-- 9: the state is not well formed. othersFit: whether the call's other buffers have the lengths that 8 asks
+abbrev pub stateChecksWith : Bool → List ℕ → List ℕ → ℕ → List Refusal
+stateChecksWith othersFit bytes was scratchLength =
+    tableChecks bytes (othersFit && isWhole was) scratchLength ++ (refuseIf 9 (not (wellFormed (tableOf bytes) was)) ∷ [])
 
-unfoldable pub stepOf : List ℕ → List ℕ → ℕ → ℕ → ℕ → ℕ → Outcome
-stepOf bytes was scratchLength kind x number =
-    elim (firstOf (stateChecks bytes was scratchLength)) [
+abbrev pub stateChecks : List ℕ → List ℕ → ℕ → List Refusal
+stateChecks bytes was scratchLength = stateChecksWith true bytes was scratchLength
+
+-- a step of any table and state
+abbrev pub stepWith : Bool → List ℕ → List ℕ → ℕ → ℕ → ℕ → ℕ → Outcome
+stepWith othersFit bytes was scratchLength kind x number =
+    elim (firstOf (stateChecksWith othersFit bytes was scratchLength)) [
       | passes ↦ stepIn (tableOf bytes) was kind x number
       | refuses n place ↦ refused n place was
     ]
+
+unfoldable pub stepOf : List ℕ → List ℕ → ℕ → ℕ → ℕ → ℕ → Outcome
+stepOf bytes was scratchLength kind x number = stepWith true bytes was scratchLength kind x number

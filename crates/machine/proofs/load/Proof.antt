@@ -1,6 +1,7 @@
 -- `machine::load` meets its contract.
 -- Assumes nothing.
 use Prim.Native.Nat.{ℕ, _+_, _-_}
+use mathlib.Core.Bool.{true}
 use mathlib.Core.Path.{ap, _∙_}
 use mathlib.Core.List.{List}
 use native.Mathlib.Omega.{arith}
@@ -28,21 +29,21 @@ enum-known-answer c = search needs
 
 add-operands : tie.Need-add-operands
 add-operands c =
-    let l = accepted-limits (was (c .before .before .before .before .before .before .before .before .before .before .before)) (c .before .before .before .before .before .before .accept .ensures) (c .before .before .answer .given .1) .nodes in omega arith
+    let l = accepted-limits true (was (c .before .before .before .before .before .before .before .before .before .before .before)) (c .before .before .before .before .before .before .accept .ensures) (c .before .before .answer .given .1) .nodes in omega arith
 
 sub-write-loaded : tie.Need-sub-write-loaded
 sub-write-loaded c =
-    let l = accepted-size (was (c .before .before .before .before .before .before .before .before .before .before .before)) (c .before .before .before .before .before .before .accept .ensures) (c .before .before .answer .given .1) in omega arith
+    let l = accepted-size true (was (c .before .before .before .before .before .before .before .before .before .before .before)) (c .before .before .before .before .before .before .accept .ensures) (c .before .before .answer .given .1) in omega arith
 
 part-write-loaded-start : tie.Need-part-write-loaded-start
 part-write-loaded-start c =
-    let l = accepted-size (was (c .before .before .before .before .before .before .before .before .before .before .before)) (c .before .before .before .before .before .before .accept .ensures) (c .before .before .answer .given .1) in omega arith
+    let l = accepted-size true (was (c .before .before .before .before .before .before .before .before .before .before .before)) (c .before .before .before .before .before .before .accept .ensures) (c .before .before .answer .given .1) in omega arith
 
 part-write-loaded-end : tie.Need-part-write-loaded-end
 part-write-loaded-end c = search needs
 
 write-loaded-requires : tie.Need-write-loaded-requires
-write-loaded-requires c κs = load-given (was (c .before .before .before .before .before .before .before .before .before .before .before .before .before)) (c .before .before .before .before .before .before .before .before .accept .ensures) (c .before .before .before .before .answer .given .1)
+write-loaded-requires c κs = load-given true (was (c .before .before .before .before .before .before .before .before .before .before .before .before .before)) (c .before .before .before .before .before .before .before .before .accept .ensures) (c .before .before .before .before .answer .given .1)
 
 enum-known-answer-2 : tie.Need-enum-known-answer-2
 enum-known-answer-2 c = search needs

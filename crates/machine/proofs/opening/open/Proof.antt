@@ -1,6 +1,7 @@
 -- `machine::opening::open` meets its contract.
 -- Assumes nothing.
 use Prim.Native.Nat.{ℕ}
+use mathlib.Core.Bool.{Bool}
 use mathlib.Core.Path.{_∙_}
 use mathlib.Core.List.{List}
 use native.Mathlib.Omega.{arith}
@@ -9,6 +10,9 @@ use borrow.Author.Needs.{needs}
 use Rattle.machine.proofs.Accepting.{accepted-limits, accepted-size, check-given, formed-is, open-broken, open-formed, open-refused}
 use Rattle.machine.proofs.opening.open.Statement.{statement}
 use Rattle.machine.proofs.opening.open.Tie as tie
+
+abbrev fits : tie.Start → Bool
+fits a = a .args .others
 
 abbrev was : tie.Start → List ℕ
 was a = now (a .args .state)
@@ -21,7 +25,8 @@ enum-known-answer c = search needs
 
 add-operands : tie.Need-add-operands
 add-operands c =
-    let l = accepted-limits (was (c .before .before .before .before .before .before .before .before .before .before .before)) (c .before .before .before .before .before .before .accept .ensures) (c .before .before .answer .given .1) .nodes in omega arith
+    let a = c .before .before .before .before .before .before .before .before .before .before .before in
+    let l = accepted-limits (fits a) (was a) (c .before .before .before .before .before .before .accept .ensures) (c .before .before .answer .given .1) .nodes in omega arith
 
 sub-well-formed : tie.Need-sub-well-formed
 sub-well-formed c = search needs
@@ -31,10 +36,11 @@ part-well-formed-start c = search needs
 
 part-well-formed-end : tie.Need-part-well-formed-end
 part-well-formed-end c =
-    let l = accepted-size (was (c .before .before .before .before .before .before .before .before .before .before .before)) (c .before .before .before .before .before .before .accept .ensures) (c .before .before .answer .given .1) in omega arith
+    let a = c .before .before .before .before .before .before .before .before .before .before .before in
+    let l = accepted-size (fits a) (was a) (c .before .before .before .before .before .before .accept .ensures) (c .before .before .answer .given .1) in omega arith
 
 well-formed-requires : tie.Need-well-formed-requires
-well-formed-requires c κs = check-given (was (c .before .before .before .before .before .before .before .before .before .before .before .before)) (c .before .before .before .before .before .before .before .accept .ensures) (c .before .before .before .answer .given .1)
+well-formed-requires c κs = let a = c .before .before .before .before .before .before .before .before .before .before .before .before in check-given (fits a) (was a) (c .before .before .before .before .before .before .before .accept .ensures) (c .before .before .before .answer .given .1)
 
 enum-known-answer-2 : tie.Need-enum-known-answer-2
 enum-known-answer-2 c = search needs
@@ -47,7 +53,7 @@ returns c =
     let a = c .before .before .before .before .before .before .before .before .before .before .before .before .before .before in
     let f = c .before .before .before .before .before .before .before .before .before .accept .ensures in
     let e = c .before .before .before .before .before .answer .given .1 in
-    open-formed (was a) f e (λ i. c .before .before .before .before .before .before .before .before .before .before .before .before .shared-slice-known2 .given i .fits) (formed-is (was a) f e (c .before .well-formed .ensures) ∙ c .if1 .taken)
+    open-formed (fits a) (was a) f e (λ i. c .before .before .before .before .before .before .before .before .before .before .before .before .shared-slice-known2 .given i .fits) (formed-is (fits a) (was a) f e (c .before .well-formed .ensures) ∙ c .if1 .taken)
 
 same-length-2 : tie.Need-same-length-2
 same-length-2 c = search needs
@@ -57,13 +63,13 @@ returns-2 c =
     let a = c .before .before .before .before .before .before .before .before .before .before .before .before .before .before in
     let f = c .before .before .before .before .before .before .before .before .before .accept .ensures in
     let e = c .before .before .before .before .before .answer .given .1 in
-    open-broken (was a) f e (formed-is (was a) f e (c .before .well-formed .ensures) ∙ c .if1 .left)
+    open-broken (fits a) (was a) f e (formed-is (fits a) (was a) f e (c .before .well-formed .ensures) ∙ c .if1 .left)
 
 same-length-3 : tie.Need-same-length-3
 same-length-3 c = search needs
 
 returns-3 : tie.Need-returns-3
-returns-3 c = open-refused (was (c .before .before .before .before .before .before .before .before .before .before)) (c .before .before .before .before .before .accept .ensures) (c .before .answer2 .given .1)
+returns-3 c = let a = c .before .before .before .before .before .before .before .before .before .before in open-refused (fits a) (was a) (c .before .before .before .before .before .accept .ensures) (c .before .answer2 .given .1)
 
 pub open-spec : {M : Type 1} → statement M
 open-spec =

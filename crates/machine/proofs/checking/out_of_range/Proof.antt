@@ -1,9 +1,9 @@
--- `machine::stepping::out_of_range` meets its contract.
+-- `machine::checking::out_of_range` meets its contract.
 -- Assumes nothing.
 use mathlib.Core.Path.{sym}
 use Rattle.table.specs.Tables.{table}
-use Rattle.machine.proofs.stepping.out_of_range.Statement.{statement}
-use Rattle.machine.proofs.stepping.out_of_range.Tie as tie
+use Rattle.machine.proofs.checking.out_of_range.Statement.{statement}
+use Rattle.machine.proofs.checking.out_of_range.Tie as tie
 use Rattle.machine.proofs.Ranges.{kind-over, agent-over, act-within, key-judged}
 
 returns : tie.Need-returns

@@ -1,0 +1,30 @@
+-- Preview: a step on a copy, with the state after in a second buffer.
+use Prim.Native.Nat.{ℕ}
+use mathlib.Core.Bool.{true, false}
+use mathlib.Core.Path.{_≡_}
+use mathlib.Core.List.{List}
+use Rattle.table.specs.Checks.{passes, refuses}
+use Rattle.state.specs.Layout.{isWhole}
+use Rattle.steps.specs.Steps.{Outcome, refused as refusedAt, outcome, stepWith, stepOf}
+
+-- what a call comes to, with the state after in a buffer that holds `next`: a refusal leaves the buffer as it came
+abbrev pub into : List ℕ → Outcome → Outcome
+into next o = outcome (o .check) next (o .tally) (o .state)
+
+-- `next` is the second buffer as it came; 8 judges its length too
+unfoldable pub previewOf : List ℕ → List ℕ → ℕ → ℕ → ℕ → ℕ → List ℕ → Outcome
+previewOf bytes was scratchLength kind x number next = into next (stepWith (isWhole next) bytes was scratchLength kind x number)
+
+-- the same in other words
+pub record OnACopy (bytes was : List ℕ) (scratch kind x number : ℕ) (next : List ℕ) : Type 0 where
+  -- where it is done, it comes to what the step does
+  pub done : previewOf bytes was scratch kind x number next .check ≡ passes
+      → previewOf bytes was scratch kind x number next ≡ stepOf bytes was scratch kind x number
+  -- where it is refused, the second buffer stays
+  pub refused : (n place : ℕ) → previewOf bytes was scratch kind x number next .check ≡ refuses n place
+      → previewOf bytes was scratch kind x number next ≡ refusedAt n place next
+  -- the refusal is the step's; where the second buffer's length is wrong, that of a step whose state has this length
+  pub whole : isWhole next ≡ true
+      → previewOf bytes was scratch kind x number next .check ≡ stepOf bytes was scratch kind x number .check
+  pub wrong : isWhole next ≡ false
+      → previewOf bytes was scratch kind x number next .check ≡ stepOf bytes next scratch kind x number .check
