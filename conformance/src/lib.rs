@@ -43,7 +43,7 @@ pub fn expected(case: &Case) -> Given {
     }
 }
 
-/// What a preview gives back: the packed answer and the second state.
+/// What a preview gives back: the packed answer and the second buffer.
 #[derive(Clone, Debug, PartialEq, Eq)]
 pub struct Previewed {
     pub packed: u64,
@@ -144,7 +144,7 @@ pub fn call(case: &Case) -> Given {
     }
 }
 
-/// Previews a case's step on the proved library, with a second state that holds this.
+/// Previews a case's step on the proved library, with a second buffer that holds this.
 pub fn preview(case: &Case, next: &[u32]) -> Previewed {
     let Call::Step(step) = &case.call else {
         panic!("not a step");

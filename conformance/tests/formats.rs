@@ -57,7 +57,7 @@ fn agreed(table: &[u8], state: Vec<u32>, scratch: usize, asked: Call) -> Given {
     given
 }
 
-/// What a preview gives, of the library and the second implementation alike, with a second state of so many words.
+/// What a preview gives, of the library and the second implementation alike, with a second buffer of so many words.
 fn previewed(table: &[u8], state: &[u32], step: Step, words: usize) -> Previewed {
     let case = Case {
         table: table.to_vec(),

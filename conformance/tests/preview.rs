@@ -11,13 +11,13 @@ use reference::schedule;
 use reference::state::STATE_WORDS;
 use reference::stats::Tally;
 
-/// Lengths of the second state that are wrong; another one is drawn for each case.
+/// Lengths of the second buffer that are wrong; another one is drawn for each case.
 const WRONG: [usize; 4] = [0, 1, STATE_WORDS - 1, STATE_WORDS + 1];
 
 /// How many steps of a run are previewed.
 const FEW: usize = 3;
 
-/// What the library's preview of a step refuses, or 0: with a second state of so many words, it answers as the second
+/// What the library's preview of a step refuses, or 0: with a second buffer of so many words, it answers as the second
 /// implementation does, and as the library's own step on a copy.
 fn agreed(case: &Case, copy: &Given, words: usize, which: &str) -> usize {
     let before = any_words(words, 0x0bad_cafe);
@@ -36,7 +36,7 @@ fn agreed(case: &Case, copy: &Given, words: usize, which: &str) -> usize {
     ] {
         assert!(
             proved == wanted,
-            "{which}, {words} words: answer {} and not {} as of {whose}; second state the same: {}\n{}",
+            "{which}, {words} words: answer {} and not {} as of {whose}; second buffer the same: {}\n{}",
             proved.packed,
             wanted.packed,
             proved.next == wanted.next,

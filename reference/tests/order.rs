@@ -40,7 +40,7 @@ fn answers_the_first(asked: Asked, faults: &[u8]) {
     preview_answers_the_first(&case, &outcome);
 }
 
-/// The preview of a step answers as the step does, and with a second state of a
+/// The preview of a step answers as the step does, and with a second buffer of a
 /// wrong length 8, unless that is 1, 2 or 3. A refused one writes nothing.
 fn preview_answers_the_first(case: &Case, outcome: &Outcome) {
     for words in [0, 1, STATE_WORDS - 1, STATE_WORDS, STATE_WORDS + 1] {

@@ -11,7 +11,7 @@ use reference::state::{entry_at, STATE_WORDS};
 use reference::stats::Tally;
 use reference::step::Step;
 
-/// What the second state holds before a call; no state is like it.
+/// What the second buffer holds before a call; no state is like it.
 const FILL: u32 = 0x1234_5678;
 
 fn previews(table: &[u8], state: &[u32], s: Step, next: &mut [u32]) -> Answer<u32> {
@@ -103,9 +103,9 @@ fn a_write_is_seen_before_it_is_done() {
     assert_eq!(second, Ok(1));
 }
 
-/// Whatever the second state holds: no state, this one, or another one.
+/// Whatever the second buffer holds: no state, this one, or another one.
 #[test]
-fn what_the_second_state_holds_is_free() {
+fn what_the_second_buffer_holds_is_free() {
     let table = edges::example().bytes();
     let state = start(&table);
     let mut written = state.clone();
