@@ -1,6 +1,6 @@
 //! Rehearses the fleet in a file, a table and after it a schedule, as labs_show does, and says what labs_show does not:
-//! which steps were refused, and why, and how many agents would take an entry that waits to be sent. docs/FORMATS.md has
-//! the formats.
+//! which steps were refused, and why, and how many agents would take an entry that waits to be sent. docs/FORMATS.md
+//! has the formats.
 //! Status: 0 done, 1 load or run refused, 2 no such file.
 
 #[allow(dead_code)]
