@@ -1,5 +1,6 @@
 /* Rehearses the fleet in a file, a table and after it a schedule, as labs_show does, and says what labs_show does not:
- * which steps were refused, and why. docs/FORMATS.md has the formats.
+ * which steps were refused, and why, and how many agents would take an entry that waits to be sent. docs/FORMATS.md has
+ * the formats.
  * Status: 0 done, 1 load or run refused, 2 no such file. */
 #include "rehearsal.h"
 
@@ -8,7 +9,7 @@
 /* One byte more than the longest table and schedule. */
 static uint8_t input[LABS_TABLE_BYTES(LABS_MAX_NODES) + LABS_SCHEDULE_BYTES(LABS_MAX_STEPS) + 1];
 static uint8_t answers[LABS_MAX_STEPS];
-static uint32_t state[LABS_STATE_WORDS], scratch[LABS_SCRATCH_WORDS];
+static uint32_t state[LABS_STATE_WORDS], next[LABS_STATE_WORDS], scratch[LABS_SCRATCH_WORDS];
 
 static unsigned u16_at(const uint8_t *bytes)
 {
@@ -20,6 +21,14 @@ static int refused(const char *call, uint64_t answer)
     if (LABS_IS_REFUSED(answer))
         printf("%s: refusal %u at %lu\n", call, LABS_REFUSAL(answer), (unsigned long)LABS_PLACE(answer));
     return LABS_IS_REFUSED(answer);
+}
+
+/* How many agents would take the entry, by a preview of the step that sends it; next is the state after that. */
+static unsigned takers(size_t table_len, uint8_t kind, unsigned agent, unsigned key)
+{
+    uint64_t answer = labs_preview(input, table_len, state, LABS_STATE_WORDS, scratch, LABS_SCRATCH_WORDS,
+                                   kind, (uint16_t)agent, (uint16_t)key, next, LABS_STATE_WORDS);
+    return LABS_STEP_TAKEN(answer);
 }
 
 int main(int argc, char **argv)
@@ -58,12 +67,16 @@ int main(int argc, char **argv)
     for (unsigned agent = 0; agent < state[LABS_AGENTS]; agent++) {
         for (unsigned key = 0; key < LABS_MAX_KEYS; key++) {
             unsigned stamp = state[LABS_ENTRY_STAMP(agent, key)];
-            if (stamp)
-                printf("agent %u key %u: value %d stamp %u writer %u%s%s\n", agent, key,
-                       (int)(int32_t)state[LABS_ENTRY_VALUE(agent, key)], stamp,
-                       (unsigned)state[LABS_ENTRY_WRITER(agent, key)],
-                       state[LABS_ZC(agent)] >> key & 1 ? ", to confirm" : "",
-                       state[LABS_ZP(agent)] >> key & 1 ? ", to propagate" : "");
+            if (!stamp)
+                continue;
+            printf("agent %u key %u: value %d stamp %u writer %u", agent, key,
+                   (int)(int32_t)state[LABS_ENTRY_VALUE(agent, key)], stamp,
+                   (unsigned)state[LABS_ENTRY_WRITER(agent, key)]);
+            if (state[LABS_ZC(agent)] >> key & 1)
+                printf(", to confirm (%u would take it)", takers(table_len, LABS_CONFIRM, agent, key));
+            if (state[LABS_ZP(agent)] >> key & 1)
+                printf(", to propagate (%u would take it)", takers(table_len, LABS_PROPAGATE, agent, key));
+            printf("\n");
         }
     }
     return 0;

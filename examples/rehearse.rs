@@ -1,5 +1,6 @@
 //! Rehearses the fleet in a file, a table and after it a schedule, as labs_show does, and says what labs_show does not:
-//! which steps were refused, and why. docs/FORMATS.md has the formats.
+//! which steps were refused, and why, and how many agents would take an entry that waits to be sent. docs/FORMATS.md
+//! has the formats.
 //! Status: 0 done, 1 load or run refused, 2 no such file.
 
 #[allow(dead_code)]
@@ -7,7 +8,7 @@
 mod rehearsal;
 
 use rehearsal::{
-    load, run, taken_apart, word, Refused, Totals, MAX_KEYS, MAX_STEPS, SCRATCH_WORDS,
+    load, preview, run, taken_apart, word, Refused, Totals, MAX_KEYS, MAX_STEPS, SCRATCH_WORDS,
 };
 use std::process::exit;
 
@@ -64,18 +65,27 @@ fn main() {
             println!("step {i} ({kind}, agent {agent}, number {number}): refusal {answer}");
         }
     }
+    let mut next = vec![0; word::STATE_WORDS];
     for agent in 0..state[word::AGENTS] as usize {
         for key in 0..MAX_KEYS {
             let value = state[word::entry_value(agent, key)] as i32;
             let stamp = state[word::entry_stamp(agent, key)];
             let writer = state[word::entry_writer(agent, key)];
-            let waits = |set: usize, text| if state[set] >> key & 1 == 1 { text } else { "" };
-            let confirm = waits(word::zc(agent), ", to confirm");
-            let propagate = waits(word::zp(agent), ", to propagate");
-            if stamp != 0 {
-                print!("agent {agent} key {key}: value {value} stamp {stamp} writer {writer}");
-                println!("{confirm}{propagate}");
+            if stamp == 0 {
+                continue;
             }
+            print!("agent {agent} key {key}: value {value} stamp {stamp} writer {writer}");
+            let (confirm, propagate) = (state[word::zc(agent)], state[word::zp(agent)]);
+            for (what, kind, set) in [("confirm", 2, confirm), ("propagate", 1, propagate)] {
+                if set >> key & 1 == 1 {
+                    // By a preview of the step that sends it; next is the state after that.
+                    let (agent, key) = (agent as u16, key as u16);
+                    let answer = preview(table, &state, &mut scratch, kind, agent, key, &mut next);
+                    let takers = report("preview", answer);
+                    print!(", to {what} ({takers} would take it)");
+                }
+            }
+            println!();
         }
     }
 }

@@ -3,17 +3,17 @@
  * examples/rehearse.c is a whole program.
  *
  * Slices. A slice is a pointer and a count of elements. A caller owes for each that the pointer is aligned, not null
- * (also where the count is 0) and valid for so many elements, and that what is written (state, scratch, answers)
- * overlaps no other slice. Nothing else is asked: any bytes as table and schedule and any words as state get an
- * answer. No call keeps a pointer, allocates or prints.
+ * (also where the count is 0) and valid for so many elements, and that what is written (scratch, answers, next, and
+ * state but in labs_preview) overlaps no other slice. Nothing else is asked: any bytes as table and schedule and any
+ * words as state get an answer. No call keeps a pointer, allocates or prints.
  *
  * Threads. The library has no data of its own. Calls may run in several threads at once, as long as no thread uses
- * what another one's call writes; a table and a schedule are only read, and may be shared.
+ * what another one's call writes; a table, a schedule and a state that is previewed are only read, and may be shared.
  *
  * Stack. A call on the deepest tables fits 800 KB of stack, as measured.
  *
  * Answers. An answer is one number, which the macros under "Answers" take apart. A refused call has its refusal and
- * its place in it, and leaves state and answer bytes as they came. */
+ * its place in it, and leaves state, answer bytes and next as they came. */
 #ifndef REHEARSAL_H
 #define REHEARSAL_H
 
@@ -148,7 +148,8 @@ enum labs_residual {
 #define LABS_REFUSAL(answer) ((unsigned)((answer) & 0xffff))
 #define LABS_PLACE(answer) (((answer) & ~LABS_REFUSED) >> 16)
 
-/* Of a step that is done: how many agents took the entry; of an act none. A load that is done answers 0. */
+/* Of a step that is done, and of its preview: how many agents took the entry; of an act none. A load that is done
+ * answers 0. */
 #define LABS_STEP_TAKEN(answer) ((unsigned)(answer))
 
 /* Of a run that is not refused: how many steps were done, how many were refused, and how often an entry was taken. */
@@ -189,6 +190,12 @@ uint64_t labs_load(const uint8_t *table, size_t table_len, uint32_t *state, size
 /* Does one step. The number is an act's choice, or the key of a propagate or confirm. */
 uint64_t labs_step(const uint8_t *table, size_t table_len, uint32_t *state, size_t state_len,
                    uint32_t *scratch, size_t scratch_len, uint8_t kind, uint16_t agent, uint16_t number);
+
+/* Says what labs_step would do to state, which is only read: the answer is that of labs_step on a copy of it, and where
+ * the step is done, next becomes that copy. next is of LABS_STATE_WORDS words; what they hold before is free. */
+uint64_t labs_preview(const uint8_t *table, size_t table_len, const uint32_t *state, size_t state_len,
+                      uint32_t *scratch, size_t scratch_len, uint8_t kind, uint16_t agent, uint16_t number,
+                      uint32_t *next, size_t next_len);
 
 /* Does each step of a schedule in turn, going on past refused ones, and writes a byte for each to answers: 0 if it is
  * done, or its refusal. Bytes of answers past the schedule's steps stay. */

@@ -144,6 +144,33 @@ pub fn step(
     }
 }
 
+/// labs_preview.
+pub fn preview(
+    table: &[u8],
+    state: &[u32],
+    scratch: &mut [u32],
+    kind: u8,
+    agent: u16,
+    number: u16,
+    next: &mut [u32],
+) -> u64 {
+    unsafe {
+        labs_preview(
+            table.as_ptr(),
+            table.len(),
+            state.as_ptr(),
+            state.len(),
+            scratch.as_mut_ptr(),
+            scratch.len(),
+            kind,
+            agent,
+            number,
+            next.as_mut_ptr(),
+            next.len(),
+        )
+    }
+}
+
 /// labs_run.
 pub fn run(
     table: &[u8],
@@ -188,6 +215,20 @@ extern "C" {
         kind: u8,
         agent: u16,
         number: u16,
+    ) -> u64;
+
+    fn labs_preview(
+        table: *const u8,
+        table_len: usize,
+        state: *const u32,
+        state_len: usize,
+        scratch: *mut u32,
+        scratch_len: usize,
+        kind: u8,
+        agent: u16,
+        number: u16,
+        next: *mut u32,
+        next_len: usize,
     ) -> u64;
 
     fn labs_run(

@@ -9,6 +9,10 @@ pub mod rehearsal;
 
 use reference::cases::{Call, Case, ANSWER_FILL};
 
+/// Seed, whether small, and how many cases are generated.
+pub const LISTS: [(u64, bool, u64); 3] =
+    [(1, false, 40_000), (2, true, 40_000), (3, false, 20_000)];
+
 /// What a call gives back: the packed answer, the state and the answer bytes.
 #[derive(Clone, Debug, PartialEq, Eq)]
 pub struct Given {
@@ -20,9 +24,13 @@ pub struct Given {
 impl Given {
     /// The refusal, or 0.
     pub fn refusal(&self) -> usize {
-        let refused = self.packed >> 63 == 1;
-        usize::from(refused) * (self.packed & 0xffff) as usize
+        refusal(self.packed)
     }
+}
+
+fn refusal(packed: u64) -> usize {
+    let refused = packed >> 63 == 1;
+    usize::from(refused) * (packed & 0xffff) as usize
 }
 
 /// What the second implementation gives back.
@@ -33,6 +41,27 @@ pub fn expected(case: &Case) -> Given {
         state: outcome.state,
         answers: outcome.answers,
     }
+}
+
+/// What a preview gives back: the packed answer and the second buffer.
+#[derive(Clone, Debug, PartialEq, Eq)]
+pub struct Previewed {
+    pub packed: u64,
+    pub next: Vec<u32>,
+}
+
+impl Previewed {
+    /// The refusal, or 0.
+    pub fn refusal(&self) -> usize {
+        refusal(self.packed)
+    }
+}
+
+/// What the second implementation gives back of a step's preview.
+pub fn expected_preview(case: &Case, next: &[u32]) -> Previewed {
+    let mut next = next.to_vec();
+    let packed = case.preview(&mut next).expect("a step");
+    Previewed { packed, next }
 }
 
 /// Elements on either side of what is lent.
@@ -53,35 +82,47 @@ impl<T: Copy + PartialEq> Lent<T> {
         }
     }
 
+    /// To be read.
+    fn shared(&self) -> &[T] {
+        let end = self.all.len() - MARGIN;
+        &self.all[MARGIN..end]
+    }
+
+    /// To be written.
     fn slice(&mut self) -> &mut [T] {
         let end = self.all.len() - MARGIN;
         &mut self.all[MARGIN..end]
     }
 
     /// What the call left, with nothing around it changed.
-    fn content(mut self) -> Vec<T> {
+    fn content(self) -> Vec<T> {
         let end = self.all.len() - MARGIN;
         let around = self.all[..MARGIN].iter().chain(&self.all[end..]);
         assert!(
             around.copied().all(|x| x == self.mark),
             "written outside what is lent"
         );
-        self.slice().to_vec()
+        self.shared().to_vec()
     }
 }
 
-/// Scratch holds whatever was there.
-fn scratch_words(length: usize) -> Vec<u32> {
+/// Words that may be anything, other ones for each salt.
+pub fn any_words(length: usize, salt: u32) -> Vec<u32> {
     (0..length as u32)
-        .map(|i| i.wrapping_mul(2_654_435_769) ^ 0x5bd1_e995)
+        .map(|i| i.wrapping_mul(2_654_435_769) ^ salt)
         .collect()
+}
+
+/// Scratch holds whatever was there.
+fn lent_scratch(case: &Case) -> Lent<u32> {
+    Lent::new(&any_words(case.scratch, 0x5bd1_e995), 0xdead_beef)
 }
 
 /// Makes a case's call on the proved library.
 pub fn call(case: &Case) -> Given {
     let table = case.table.clone();
     let mut state = Lent::new(&case.state, 0xdead_beef);
-    let mut scratch = Lent::new(&scratch_words(case.scratch), 0xdead_beef);
+    let mut scratch = lent_scratch(case);
     let answers = match &case.call {
         Call::Run { answers, .. } => *answers,
         _ => 0,
@@ -100,6 +141,33 @@ pub fn call(case: &Case) -> Given {
         packed,
         state: state.content(),
         answers: answers.content(),
+    }
+}
+
+/// Previews a case's step on the proved library, with a second buffer that holds this.
+pub fn preview(case: &Case, next: &[u32]) -> Previewed {
+    let Call::Step(step) = &case.call else {
+        panic!("not a step");
+    };
+    let table = case.table.clone();
+    let state = Lent::new(&case.state, 0xdead_beef);
+    let mut scratch = lent_scratch(case);
+    let mut next = Lent::new(next, 0xdead_beef);
+    let packed = rehearsal::preview(
+        &table,
+        state.shared(),
+        scratch.slice(),
+        step.kind,
+        step.agent,
+        step.number,
+        next.slice(),
+    );
+    assert!(table == case.table, "the table was written");
+    assert!(state.content() == case.state, "the state was written");
+    scratch.content();
+    Previewed {
+        packed,
+        next: next.content(),
     }
 }
 

@@ -7,7 +7,9 @@ use std::process::Command;
 
 use conformance::page::{block, bytes, commands, root, rows, text};
 use conformance::program::{labs_show, printed};
-use conformance::{call, expected, numbers, Given};
+use conformance::{
+    any_words, call, expected, expected_preview, numbers, preview, Given, Previewed,
+};
 use reference::cases::{Call, Case};
 use reference::draft::Draft;
 use reference::schedule::MAX_STEPS;
@@ -52,6 +54,24 @@ fn agreed(table: &[u8], state: Vec<u32>, scratch: usize, asked: Call) -> Given {
     };
     let given = call(&case);
     assert!(given == expected(&case), "the two implementations differ");
+    given
+}
+
+/// What a preview gives, of the library and the second implementation alike, with a second buffer of so many words.
+fn previewed(table: &[u8], state: &[u32], step: Step, words: usize) -> Previewed {
+    let case = Case {
+        table: table.to_vec(),
+        state: state.to_vec(),
+        fill: 0,
+        scratch: 2 * MAX_NODES,
+        call: Call::Step(step),
+    };
+    let next = any_words(words, 0);
+    let given = preview(&case, &next);
+    assert!(
+        given == expected_preview(&case, &next),
+        "the two implementations differ"
+    );
     given
 }
 
@@ -169,6 +189,7 @@ fn one_more_step_is_answered_as_the_page_says() {
     let input = input(&page);
     let (table, bytes) = split(&input);
     let steps = schedule::read(bytes).unwrap();
+    let state = run(table, bytes).state;
     for row in rows(&page, "| Step | Answer | Why |") {
         let fields: Vec<u16> = row[0].split(' ').map(|x| x.parse().unwrap()).collect();
         let step = Step {
@@ -179,6 +200,9 @@ fn one_more_step_is_answered_as_the_page_says() {
         let longer = [steps.clone(), vec![step]].concat();
         let given = run(table, &schedule::write(&longer));
         assert_eq!(given.answers[steps.len()].to_string(), row[1], "{}", row[0]);
+        let seen = previewed(table, &state, step, STATE_WORDS);
+        assert_eq!(seen.refusal().to_string(), row[1], "{}", row[0]);
+        assert_eq!(seen.next == given.state, row[1] == "0");
     }
 }
 
@@ -411,6 +435,12 @@ fn buffers_are_refused_as_the_page_says() {
     let bare = loaded(table).state;
     assert_eq!(with_writer(bare.clone(), 0), (0, 0));
     assert_eq!(with_writer(bare, 1), (9, 0), "a writer without an entry");
+
+    let first = loaded(table).state;
+    let look = |words| previewed(table, &first, Step::act(0, 0), words).refusal();
+    assert_eq!(look(STATE_WORDS), 0);
+    assert_eq!(look(STATE_WORDS - 1), 8);
+    assert_eq!(look(4 * STATE_WORDS), 8);
 
     let steps = usize::from(schedule[0]);
     let run = |answers| {

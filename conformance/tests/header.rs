@@ -39,13 +39,16 @@ fn program(all: &[Named]) -> String {
         writeln!(text, "(uint64_t)({name}),").unwrap();
     }
     text.push_str(
-        "0};\nstatic uint32_t state[LABS_STATE_WORDS], scratch[LABS_SCRATCH_WORDS];\n\
+        "0};\nstatic uint32_t state[LABS_STATE_WORDS], scratch[LABS_SCRATCH_WORDS], next[LABS_STATE_WORDS];\n\
+         static const uint32_t *const seen = state;\n\
          int main(void)\n{\n\
          uint8_t none[1] = {0};\n\
          for (size_t i = 0; i + 1 < sizeof numbers / sizeof *numbers; i++)\n\
          printf(\"%\" PRIu64 \"\\n\", numbers[i]);\n\
          uint64_t answer = labs_load(none, 0, state, LABS_STATE_WORDS, scratch, LABS_SCRATCH_WORDS);\n\
          answer |= labs_step(none, 0, state, LABS_STATE_WORDS, scratch, LABS_SCRATCH_WORDS, LABS_ACT, 0, 0);\n\
+         answer |= labs_preview(none, 0, seen, LABS_STATE_WORDS, scratch, LABS_SCRATCH_WORDS, LABS_ACT, 0, 0,\n\
+         next, LABS_STATE_WORDS);\n\
          answer |= labs_run(none, 0, state, LABS_STATE_WORDS, scratch, LABS_SCRATCH_WORDS, none, 0, none, 0);\n\
          return LABS_REFUSAL(answer) == LABS_REFUSAL_TABLE_SHORT ? 0 : 1;\n}\n",
     );
@@ -206,15 +209,23 @@ fn every_number_of_the_module_is_the_references() {
     assert_eq!(taken_apart(answer).map(Totals::of), Ok(totals));
 }
 
-/// Threads that share a table, each with buffers of its own.
+/// Threads that share a table and a state that they preview, each with other buffers of its own.
 #[test]
 fn calls_may_run_in_several_threads() {
     let table = &conformance::fleets::table(2_000, 64);
-    let call = || {
+    let load = || {
         let mut state = vec![0; word::STATE_WORDS];
         let mut scratch = vec![0; SCRATCH_WORDS];
         let answer = rehearsal::load(table, &mut state, &mut scratch);
         (answer, state)
+    };
+    let (_, loaded) = &load();
+    let call = || {
+        let mut next = vec![0; word::STATE_WORDS];
+        let mut scratch = vec![0; SCRATCH_WORDS];
+        let answer = rehearsal::preview(table, loaded, &mut scratch, 0, 0, 0, &mut next);
+        assert!(answer == 0 && next != *loaded, "the step can be done");
+        (load(), answer, next)
     };
     let alone = call();
     let together = || (0..200).all(|_| call() == alone);

@@ -1,7 +1,7 @@
-//! labs_load, labs_step and labs_run answer as the second implementation does.
+//! labs_load, labs_step and labs_run answer as the second implementation does. (labs_preview is in another file.)
 
 use conformance::fleets::long_link;
-use conformance::{call, expected, Given};
+use conformance::{any_words, call, expected, preview, Given, LISTS};
 use reference::cases::{Call, Case, ANSWER_FILL};
 use reference::describe::describe;
 use reference::draft::Draft;
@@ -15,10 +15,7 @@ use reference::stats::Tally;
 use reference::step::Step;
 use reference::table::MAX_NODES;
 
-/// Seed, whether small, and how many cases.
-const LISTS: [(u64, bool, u64); 3] = [(1, false, 40_000), (2, true, 40_000), (3, false, 20_000)];
-
-/// A stack on which chains of about 4,000 nodes are loaded and stepped.
+/// A stack on which chains of about 4,000 nodes are loaded, stepped and previewed.
 const SMALL_STACK: usize = 800 << 10;
 
 /// How often load, step and run answer done (0) and each refusal, and the bytes of runs that are done.
@@ -185,6 +182,17 @@ fn writers_answer_as_the_reference_does() {
     }
 }
 
+/// The library's call; of a step also its preview, which says the same.
+fn call_and_preview(case: &Case) -> Given {
+    let given = call(case);
+    if let Call::Step(_) = case.call {
+        let seen = preview(case, &any_words(STATE_WORDS, 0));
+        assert_eq!(seen.packed, given.packed);
+        assert!(seen.next == given.state, "the state after the step");
+    }
+    given
+}
+
 /// What load and then some steps give, on a stack of this size.
 fn load_and_step(
     table: Vec<u8>,
@@ -221,7 +229,7 @@ fn deep_tables_fit_a_small_stack() {
     );
     for (i, (table, steps)) in chains.chain([link]).enumerate() {
         let wanted = load_and_step(table.clone(), steps.clone(), 64 << 20, expected);
-        let proved = load_and_step(table, steps, SMALL_STACK, call);
+        let proved = load_and_step(table, steps, SMALL_STACK, call_and_preview);
         assert!(proved == wanted, "deep table {i}");
         assert!(
             proved.iter().all(|given| given.packed >> 63 == 0),

@@ -18,6 +18,7 @@ use reference::rng::Rng;
 use reference::schedule::{self, MAX_STEPS};
 use reference::show::show;
 use reference::state::{World, STATE_WORDS};
+use reference::step::Step;
 use reference::table::{Sizes, MAX_NODES};
 use reference::{load, machine, run};
 
@@ -70,11 +71,14 @@ fn told(input: &[u8]) -> (String, i32) {
             let (value, stamp, writer) = (entry.value, entry.stamp, entry.writer);
             write!(lines, "agent {i} key {key}: value {value} ").unwrap();
             write!(lines, "stamp {stamp} writer {writer}").unwrap();
+            let takers = |step| world.clone().step(&fleet, step).unwrap();
             if agent.to_confirm.contains(key) {
-                lines.push_str(", to confirm");
+                let takers = takers(Step::confirm(i as u16, *key));
+                write!(lines, ", to confirm ({takers} would take it)").unwrap();
             }
             if agent.to_propagate.contains(key) {
-                lines.push_str(", to propagate");
+                let takers = takers(Step::propagate(i as u16, *key));
+                write!(lines, ", to propagate ({takers} would take it)").unwrap();
             }
             lines.push('\n');
         }

@@ -144,6 +144,23 @@ impl Case {
         }
     }
 
+    /// Previews the step, where the call is one, and packs the answer.
+    pub fn preview(&self, next: &mut [u32]) -> Option<u64> {
+        let Call::Step(step) = &self.call else {
+            return None;
+        };
+        let answer = machine::preview(
+            &self.table,
+            &self.state,
+            self.scratch,
+            step.kind,
+            step.agent,
+            step.number,
+            next,
+        );
+        Some(pack(&answer))
+    }
+
     pub fn write(&self, out: &mut impl Write) -> io::Result<()> {
         let nothing = Step::act(0, 0);
         let (call, step, schedule, answers) = match &self.call {

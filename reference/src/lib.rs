@@ -26,7 +26,7 @@ pub mod tables;
 pub mod term;
 pub mod value;
 
-pub use machine::{load, run, step};
+pub use machine::{load, preview, run, step};
 pub use refusal::{pack, Answer, Reason, Refusal, Totals};
 
 /// Runs on a stack that is deep enough for the deepest trees that a table can

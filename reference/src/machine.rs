@@ -1,4 +1,4 @@
-//! The three public calls. Each checks in the paper's order, and a refused one
+//! The four public calls. Each checks in the paper's order, and a refused one
 //! changes nothing that is lent. Scratch is lent by its length alone: this
 //! implementation has no use for the words.
 
@@ -10,15 +10,27 @@ use crate::table::{Fleet, Sizes};
 
 /// Refusals 1, 2, 3, 8, 4, 5, 6, 7.
 pub fn open(table: &[u8], state_words: usize, scratch_words: usize) -> Answer<Fleet> {
+    open_both(table, [state_words; 2], scratch_words)
+}
+
+/// The same for a call that reads one state and writes another.
+fn open_both(table: &[u8], state_words: [usize; 2], scratch_words: usize) -> Answer<Fleet> {
     let sizes = Sizes::read(table)?;
-    if state_words != STATE_WORDS || scratch_words < 2 * sizes.nodes {
+    if state_words != [STATE_WORDS; 2] || scratch_words < 2 * sizes.nodes {
         return Err(Reason::BufferLength.into());
     }
     Fleet::read(table, sizes)
 }
 
-fn open_at(table: &[u8], state: &[u32], scratch_words: usize) -> Answer<(Fleet, World)> {
-    let fleet = open(table, state.len(), scratch_words)?;
+/// Refusal 9 after these: the state that is read is judged, of the one that is
+/// written only the length.
+fn open_at(
+    table: &[u8],
+    state: &[u32],
+    written_words: usize,
+    scratch_words: usize,
+) -> Answer<(Fleet, World)> {
+    let fleet = open_both(table, [state.len(), written_words], scratch_words)?;
     let world = World::decode(state, &fleet).ok_or(Reason::StateNotWellFormed)?;
     Ok((fleet, world))
 }
@@ -30,6 +42,19 @@ pub fn load(table: &[u8], state: &mut [u32], scratch_words: usize) -> Answer<()>
     Ok(())
 }
 
+/// The world after a step, and how many agents took the entry.
+fn stepped(
+    table: &[u8],
+    state: &[u32],
+    written_words: usize,
+    scratch_words: usize,
+    step: Step,
+) -> Answer<(World, u32)> {
+    let (fleet, mut world) = open_at(table, state, written_words, scratch_words)?;
+    let taken = world.step(&fleet, step)?;
+    Ok((world, taken))
+}
+
 /// Does one step; reports how many agents took the entry.
 pub fn step(
     table: &[u8],
@@ -39,16 +64,34 @@ pub fn step(
     agent: u16,
     number: u16,
 ) -> Answer<u32> {
-    let (fleet, mut world) = open_at(table, state, scratch_words)?;
-    let taken = world.step(
-        &fleet,
-        Step {
-            kind,
-            agent,
-            number,
-        },
-    )?;
+    let step = Step {
+        kind,
+        agent,
+        number,
+    };
+    let (world, taken) = stepped(table, state, state.len(), scratch_words, step)?;
     world.encode(state);
+    Ok(taken)
+}
+
+/// Says what a step would do: it is done on a copy, which is written to `next`,
+/// whatever that held.
+pub fn preview(
+    table: &[u8],
+    state: &[u32],
+    scratch_words: usize,
+    kind: u8,
+    agent: u16,
+    number: u16,
+    next: &mut [u32],
+) -> Answer<u32> {
+    let step = Step {
+        kind,
+        agent,
+        number,
+    };
+    let (world, taken) = stepped(table, state, next.len(), scratch_words, step)?;
+    world.encode(next);
     Ok(taken)
 }
 
@@ -61,7 +104,7 @@ pub fn run(
     schedule: &[u8],
     answers: &mut [u8],
 ) -> Answer<Totals> {
-    let (fleet, mut world) = open_at(table, state, scratch_words)?;
+    let (fleet, mut world) = open_at(table, state, state.len(), scratch_words)?;
     let steps = schedule::read(schedule)?;
     if answers.len() < steps.len() {
         return Err(Reason::AnswersShort.into());

@@ -3,12 +3,13 @@
 mod common;
 
 use common::*;
-use reference::cases::ANSWER_FILL;
+use reference::cases::{Case, Outcome, ANSWER_FILL};
 use reference::draft::Draft;
 use reference::faults::{answered, case, pairs, Asked, ASKED};
 use reference::generate::edges;
 use reference::machine::run;
 use reference::schedule;
+use reference::state::STATE_WORDS;
 use reference::step::Step;
 
 /// The subsets of these refusals, each in this order.
@@ -35,6 +36,30 @@ fn answers_the_first(asked: Asked, faults: &[u8]) {
         // Only nodes and definitions are places.
         let place = outcome.packed >> 16 & 0xffff;
         assert!(place == 0 || [4, 5, 6, 7].contains(&first));
+    }
+    preview_answers_the_first(&case, &outcome);
+}
+
+/// The preview of a step answers as the step does, and with a second buffer of a
+/// wrong length 8, unless that is 1, 2 or 3. A refused one writes nothing.
+fn preview_answers_the_first(case: &Case, outcome: &Outcome) {
+    for words in [0, 1, STATE_WORDS - 1, STATE_WORDS, STATE_WORDS + 1] {
+        let before = vec![7; words];
+        let mut next = before.clone();
+        let Some(packed) = case.preview(&mut next) else {
+            return;
+        };
+        let answer = match outcome.refusal() {
+            0 | 4.. if words != STATE_WORDS => (1 << 63) + 8,
+            _ => outcome.packed,
+        };
+        assert_eq!(packed, answer, "{words} words");
+        let after = if answer >> 63 == 0 {
+            &outcome.state
+        } else {
+            &before
+        };
+        assert_eq!(next, *after, "{words} words");
     }
 }
 

@@ -1,4 +1,4 @@
-//! Deterministic inputs for the three calls: sound ones, sound ones damaged in
+//! Deterministic inputs for load, step and run: sound ones, sound ones damaged in
 //! one place, ones at and past every limit, and plain random bytes.
 
 pub mod damage;
