@@ -42,7 +42,7 @@ module _ {bytes : List ℕ} {fits : Bool} {before after : List ℕ} {r : Accepta
   accepts-is x e = sym (a .check) ∙ ap (λ (y : Acceptance). acceptanceCheck y) e
 
   module _ {n : Sizes} (e : r ≡ Accepted n) where
-    pub accepted-is : Acceptable bytes fits (length before)
+    accepted-is : Acceptable bytes fits (length before)
     accepted-is = accepted-table a e
 
     pub accepted-limits : Limits n
@@ -56,7 +56,7 @@ module _ {bytes : List ℕ} {fits : Bool} {before after : List ℕ} {r : Accepta
     formed-is was f =
         sym (f (take (length bytes - (12 + n .nodes)) (drop (12 + n .nodes) bytes)) ∙ ap (λ (t : Table). wellFormed t was) (lent-table bytes n (a .sizes n e)))
 
--- told that the state, and the call's other buffers, have their lengths
+-- told whether the state, and what the call lends besides, have their lengths
 module _ (othersFit : Bool) (was : List ℕ) {bytes before after : List ℕ} {r : Acceptance} (a : Accepts bytes (othersFit && isWhole was) before after r) where
   abbrev checks : List Refusal
   checks = tableChecks bytes (othersFit && isWhole was) (length before)

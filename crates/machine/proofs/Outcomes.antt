@@ -8,7 +8,7 @@ use mathlib.Core.List.{List, [], _∷_}
 use lib.ListN.{getD}
 use Rattle.basis.specs.KeySets.{has}
 use Rattle.basis.proofs.Tests.{not-both}
-use Rattle.table.specs.Checks.{passes, refuseIf, firstOf}
+use Rattle.table.specs.Checks.{refuseIf, firstOf}
 use Rattle.table.specs.Tables.{Table}
 use Rattle.table.proofs.Checks.{first-refuses, first-later, first-both, none-passes}
 use Rattle.term.specs.declared.Label.{Label}
@@ -30,7 +30,7 @@ use Rattle.machine.specs.declared.Judged.the-variants.{Refused, Act, Off
 use Rattle.machine.specs.declared.Stepped.{Stepped}
 use Rattle.machine.specs.declared.Stepped.the-variants.{Done as StepDone, Refused as StepRefused}
 use Rattle.machine.specs.Answers.{Steps}
-use Rattle.machine.specs.Stepping.{ownStep, offerKind, judgedOffer, isAllowed, finished, Planned, StepJudged}
+use Rattle.machine.specs.Stepping.{ownStep, offerKind, judgedOffer, isAllowed, finished, Finishing, StepJudged}
 
 -- an outcome that is another
 pub steps-as : {o p : Outcome} → p ≡ o → {r : Stepped} {u : List ℕ} → Steps o r u → Steps p r u
@@ -47,11 +47,11 @@ steps-refused d f = record { check = sym (ap (λ (o : Outcome). o .check) d); ta
 module _ (t : Table) (was : List ℕ) where
   module _ (x c : ℕ) where
     pub act-refused : {number : ℕ} → Judges t was x c (ActRefused number) → StepJudged t was x c (ownStep t was 0 x c) (Refused number)
-    act-refused j = record { is = outcome-refused was noTally (acted t was x (chosen t was x c)) (firstOf (actChecks t was x c)) j; planned = tt }
+    act-refused j = record { is = outcome-refused was noTally (acted t was x (chosen t was x c)) (firstOf (actChecks t was x c)) j; asked = tt }
 
     pub act-allowed : Proper t was → x < t .sizes .agents → {label : Label} {value keys : ℕ} → Judges t was x c (Allowed label value keys)
         → StepJudged t was x c (ownStep t was 0 x c) (Act label value keys)
-    act-allowed p l j = record { is = outcome-done was noTally (acted t was x (chosen t was x c)) (firstOf (actChecks t was x c)) (j .0); planned = (p, l, j) }
+    act-allowed p l j = record { is = outcome-done was noTally (acted t was x (chosen t was x c)) (firstOf (actChecks t was x c)) (j .0); asked = (p, l, j) }
 
   module _ (x k : ℕ) (confirming : Bool) where
     abbrev kind : ℕ
@@ -72,8 +72,8 @@ module _ (t : Table) (was : List ℕ) where
     offer-judged p = by waits refl
       where
         by : (b : Bool) → waits ≡ b → StepJudged t was x k (ownStep t was kind x k) (cond b (Offer confirming) (Refused 18))
-        by true h = record { is = offer-own ∙ outcome-done was _ _ _ (first-both (refuseIf 18 (not waits)) [] (ap not h) none-passes); planned = p }
-        by false h = record { is = offer-own ∙ outcome-refused was _ _ _ (first-refuses (refuseIf 18 (not waits)) [] (ap not h)); planned = tt }
+        by true h = record { is = offer-own ∙ outcome-done was _ _ _ (first-both (refuseIf 18 (not waits)) [] (ap not h) none-passes); asked = p }
+        by false h = record { is = offer-own ∙ outcome-refused was _ _ _ (first-refuses (refuseIf 18 (not waits)) [] (ap not h)); asked = tt }
 
   module _ (kind x number : ℕ) where
     pub step-out : outOfRange t kind x number ≡ true → StepJudged t was x number (stepIn t was kind x number) (Refused 10)
@@ -82,7 +82,7 @@ module _ (t : Table) (was : List ℕ) where
         record {
           is = outcome-refused was (tallyOf t was kind x number) (after t was kind x number) (firstOf (refuseIf 10 (outOfRange t kind x number) ∷ ownChecks t was kind x number))
               (first-refuses (refuseIf 10 (outOfRange t kind x number)) (ownChecks t was kind x number) e);
-          planned = tt;
+          asked = tt;
         }
 
     pub step-own : outOfRange t kind x number ≡ false → stepIn t was kind x number ≡ ownStep t was kind x number
@@ -114,15 +114,15 @@ abbrev pub Copied : Judged → List ℕ → List ℕ → List ℕ → Type 0
 Copied r was came next = ((isAllowed r ≡ true) × (next ≡ was)) ⊎ ((isAllowed r ≡ false) × (next ≡ came))
 
 module _ (t : Table) (was came : List ℕ) (x number : ℕ) where
-  refused-planned : (s : List ℕ) (r : Judged) → isAllowed r ≡ false → Planned t s x number r
-  refused-planned s (Refused refusal) e = tt
-  refused-planned s (Act label value keys) e = absurd (not-both refl e)
-  refused-planned s (Offer confirming) e = absurd (not-both refl e)
+  refused-asked : (s : List ℕ) (r : Judged) → isAllowed r ≡ false → Finishing t s x number r
+  refused-asked s (Refused refusal) e = tt
+  refused-asked s (Act label value keys) e = absurd (not-both refl e)
+  refused-asked s (Offer confirming) e = absurd (not-both refl e)
 
-  pub copied-planned : (r : Judged) {next : List ℕ} → Copied r was came next → Planned t was x number r → Planned t next x number r
-  copied-planned r {next} c p =
-      ⊎-elim (λ (w : (isAllowed r ≡ true) × (next ≡ was)). subst (λ (s : List ℕ). Planned t s x number r) (sym (w .1)) p)
-      (λ (w : (isAllowed r ≡ false) × (next ≡ came)). refused-planned next r (w .0)) c
+  pub copied-asked : (r : Judged) {next : List ℕ} → Copied r was came next → Finishing t was x number r → Finishing t next x number r
+  copied-asked r {next} c p =
+      ⊎-elim (λ (w : (isAllowed r ≡ true) × (next ≡ was)). subst (λ (s : List ℕ). Finishing t s x number r) (sym (w .1)) p)
+      (λ (w : (isAllowed r ≡ false) × (next ≡ came)). refused-asked next r (w .0)) c
 
   allowed-into : (r : Judged) → isAllowed r ≡ true → into came (finished t was x number r) ≡ finished t was x number r
   allowed-into (Refused refusal) e = absurd (not-both e refl)

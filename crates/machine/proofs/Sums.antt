@@ -10,7 +10,7 @@ use Rattle.basis.proofs.Numbers.{howMany-bound}
 use Rattle.table.specs.Checks.{Check, passes, refuses, firstOf}
 use Rattle.table.specs.Tables.{Table, agentLimit}
 use Rattle.steps.specs.declared.Tally.{Tally}
-use Rattle.steps.specs.Tallies.{tally, addTally}
+use Rattle.steps.specs.Tallies.{tally, noTally, addTally}
 use Rattle.steps.specs.Offers.{takes}
 use Rattle.steps.specs.Steps.{Outcome, outcome, tallyOf, after, stepChecks, stepIn}
 use Rattle.steps.specs.Runs.{Progress, begun, added, ran, kindIn, agentIn, numberIn}
@@ -42,19 +42,24 @@ added-within n i p o w l = by (o .check)
     by passes = record { done = omega (arith, w .done); refused = omega (arith, w .refused); tally = record { taken = omega (arith, w .tally .taken, l .taken) } }
     by (refuses number place) = record { done = omega (arith, w .done); refused = omega (arith, w .refused); tally = record { taken = omega (arith, w .tally .taken, l .taken) } }
 
+-- what a refused call counts, and a done one
+pub none-within : TallyWithin 1 noTally
+none-within = record { taken = omega arith }
+
+pub outcome-within : (was : List ℕ) (counted : Tally) (s : List ℕ) → TallyWithin 1 counted → (c : Check) → TallyWithin 1 (outcome c was counted s .tally)
+unfolding outcome
+outcome-within was counted s w passes = w
+outcome-within was counted s w (refuses n place) = none-within
+
 -- a step counts each agent at most once
 module _ (t : Table) (few : t .sizes .agents ≤ agentLimit) where
   tally-within : (was : List ℕ) (kind x number : ℕ) → TallyWithin 1 (tallyOf t was kind x number)
-  tally-within was zero x number = record { taken = omega arith }
+  tally-within was zero x number = none-within
   tally-within was (suc kind) x number = record { taken = omega (arith, howMany-bound (takes t was x number true) (t .sizes .agents)) }
 
   pub step-within : (was : List ℕ) (kind x number : ℕ) → TallyWithin 1 (stepIn t was kind x number .tally)
-  unfolding stepIn outcome
-  step-within was kind x number = by (firstOf (stepChecks t was kind x number))
-    where
-      by : (c : Check) → TallyWithin 1 (outcome c was (tallyOf t was kind x number) (after t was kind x number) .tally)
-      by passes = tally-within was kind x number
-      by (refuses n place) = record { taken = omega arith }
+  unfolding stepIn
+  step-within was kind x number = outcome-within was _ (after t was kind x number) (tally-within was kind x number) (firstOf (stepChecks t was kind x number))
 
   -- and a run counts each step once
   pub ran-within : (schedule was answers : List ℕ) (n : ℕ) → TotalsWithin n (totalsOf (ran t schedule n (begun was answers)))

@@ -41,12 +41,12 @@ finished t s x number (Act label value keys) = done noTally (after t s 0 x numbe
 finished t s x number (Offer confirming) = done (tallyOf t s (offerKind confirming) x number) (after t s (offerKind confirming) x number)
 
 -- what is asked of that state
-abbrev pub Planned : Table → List ℕ → ℕ → ℕ → Judged → Type 0
-Planned t s x number (Refused refusal) = Unit {0}
-Planned t s x number (Act label value keys) = Proper t s × (x < t .sizes .agents) × Judges t s x number (Allowed label value keys)
-Planned t s x number (Offer confirming) = Passing t s x number
+abbrev pub Finishing : Table → List ℕ → ℕ → ℕ → Judged → Type 0
+Finishing t s x number (Refused refusal) = Unit {0}
+Finishing t s x number (Act label value keys) = Proper t s × (x < t .sizes .agents) × Judges t s x number (Allowed label value keys)
+Finishing t s x number (Offer confirming) = Passing t s x number
 
 -- the judgement r of a step that comes to o
 pub record StepJudged (t : Table) (was : List ℕ) (x number : ℕ) (o : Outcome) (r : Judged) : Type 0 where
   pub is : o ≡ finished t was x number r
-  pub planned : Planned t was x number r
+  pub asked : Finishing t was x number r

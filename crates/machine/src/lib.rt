@@ -40,7 +40,7 @@ enum Judged {
 }
 
 // The steps of a schedule that may be run, or the refusal.
-pub enum Scheduled {
+enum Scheduled {
     Steps(usize),
     Refused(u8),
 }

@@ -3,11 +3,11 @@ use accept::Acceptance;
 use wellformed::well_formed;
 ghost use Rattle.machine.specs.Opening.{Opens};
 
-// `others`: whether the call's other buffers have the lengths that 8 asks.
-pub fn open(table: &[u8], state: &[u32], others: bool, scratch: &mut [u32]) -> Acceptance
-    ensures { λ r. ⌜ Opens others (now (table .entry)) (now (state .entry)) (now (scratch .entry)) (now (scratch .exit)) r ⌝ }
+// `others_fit`: whether what the call lends beside state and scratch has the lengths that 8 asks.
+pub fn open(table: &[u8], state: &[u32], others_fit: bool, scratch: &mut [u32]) -> Acceptance
+    ensures { λ r. ⌜ Opens «others_fit» (now (table .entry)) (now (state .entry)) (now (scratch .entry)) (now (scratch .exit)) r ⌝ }
 {
-    let fits = others & (state.len() == state::STATE_WORDS);
+    let fits = others_fit & (state.len() == state::STATE_WORDS);
     let answer = accept::accept(table, fits, scratch);
     match answer {
         Acceptance::Accepted(sizes) => {

@@ -15,7 +15,7 @@ ghost use Rattle.state.specs.WellFormed.{Proper};
 ghost use Rattle.steps.specs.Steps.{stepIn};
 ghost use Rattle.steps.specs.Previews.{into};
 ghost use Rattle.machine.specs.Answers.{Steps};
-ghost use Rattle.machine.specs.Stepping.{isAllowed, Planned, finished};
+ghost use Rattle.machine.specs.Stepping.{isAllowed, Finishing, finished};
 
 fn is_allowed(judged: Judged) -> bool
     ensures { λ r. ⌜ r ≡ isAllowed judged ⌝ }
@@ -39,7 +39,7 @@ fn finish(
     judged: Judged,
 ) -> Stepped
     requires { ⌜ Prepared (table sizes (now kinds) (now operands)) (now scratch) ⌝ }
-    requires { ⌜ Planned (table sizes (now kinds) (now operands)) (now state) agent number judged ⌝ }
+    requires { ⌜ Finishing (table sizes (now kinds) (now operands)) (now state) agent number judged ⌝ }
     ensures { λ r. ⌜ Steps (finished (table sizes (now (kinds .entry)) (now (operands .entry))) (now (state .entry)) agent number judged) r (now (state .exit)) ⌝ }
 {
     match judged {

@@ -9,9 +9,7 @@ use Rattle.table.specs.Checks.{Check, passes, refuses, firstOf}
 use Rattle.table.specs.Tables.{tableOf}
 use Rattle.table.proofs.Checks.{append-passes}
 use Rattle.state.specs.Layout.{isWhole}
-use Rattle.steps.specs.declared.Tally.{Tally}
-use Rattle.steps.specs.Tallies.{noTally}
-use Rattle.steps.specs.Steps.{outcome, stateChecksWith, stateChecks, stepWith, stepOf}
+use Rattle.steps.specs.Steps.{stateChecksWith, stateChecks, stepWith, stepOf}
 use Rattle.steps.specs.Previews.{previewOf}
 use Rattle.steps.specs.Runs.{stepLimit, stepsOf, scheduleChecks, runOf}
 use Rattle.steps.proofs.Steps.{checks-with, state-checks, with-in, with-stopped}
@@ -19,7 +17,7 @@ use Rattle.steps.proofs.Schedules.{schedule-checks}
 use Rattle.offering.specs.Passing.{TallyWithin}
 use Rattle.machine.specs.Answers.{totalsOf}
 use Rattle.machine.specs.Running.{TotalsWithin}
-use Rattle.machine.proofs.Sums.{ran-within, within-more, step-within as in-within}
+use Rattle.machine.proofs.Sums.{none-within, outcome-within, ran-within, within-more, step-within as in-within}
 
 module _ (bytes was : List ℕ) (scratch : ℕ) (schedule answers : List ℕ) where
   pub run-within : runOf bytes was scratch schedule answers .check ≡ passes → TotalsWithin stepLimit (totalsOf (runOf bytes was scratch schedule answers .progress))
@@ -29,9 +27,6 @@ module _ (bytes was : List ℕ) (scratch : ℕ) (schedule answers : List ℕ) wh
       let few = state-checks bytes was scratch .0 (w .0) .0 .table .sound .shaped .limits .agents in
       rw (runOf, e) (within-more _ (stepsOf schedule) stepLimit (schedule-checks schedule answers .0 (w .1) .1) (ran-within (tableOf bytes) few schedule was answers (stepsOf schedule)))
 
-none-within : TallyWithin 1 noTally
-none-within = record { taken = omega arith }
-
 with-within : (othersFit : Bool) (bytes was : List ℕ) (scratch kind x number : ℕ) → TallyWithin 1 (stepWith othersFit bytes was scratch kind x number .tally)
 with-within othersFit bytes was scratch kind x number = by (firstOf (stateChecksWith othersFit bytes was scratch)) refl
   where
@@ -40,11 +35,6 @@ with-within othersFit bytes was scratch kind x number = by (firstOf (stateChecks
         rw (with-in othersFit bytes was scratch kind x number e)
         (in-within (tableOf bytes) (checks-with othersFit bytes was scratch .0 e .0 .table .sound .shaped .limits .agents) was kind x number)
     by (refuses n place) e = rw (with-stopped othersFit bytes was scratch kind x number e) none-within
-
-outcome-within : (was : List ℕ) (tally : Tally) (s : List ℕ) → TallyWithin 1 tally → (c : Check) → TallyWithin 1 (outcome c was tally s .tally)
-unfolding outcome
-outcome-within was tally s w passes = w
-outcome-within was tally s w (refuses n place) = none-within
 
 module _ (bytes was : List ℕ) (scratch kind x number : ℕ) where
   pub step-within : TallyWithin 1 (stepOf bytes was scratch kind x number .tally)

@@ -41,8 +41,8 @@ pub extern "C" fn labs_step(
     pack_step(machine::step(table, state, scratch, kind, agent, number))
 }
 
-// What the same step would do: the state after it goes to a second buffer, which a refusal leaves as it came. Reports what
-// the step would.
+// What the same step would do: the state after it goes to a second buffer, which a refusal leaves as it came. Reports
+// what the step would.
 #[no_mangle]
 pub extern "C" fn labs_preview(
     table: &[u8],

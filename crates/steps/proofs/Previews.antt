@@ -14,7 +14,7 @@ use Rattle.term.proofs.Acceptance.{passes-accepted}
 use Rattle.state.specs.Layout.{isWhole}
 use Rattle.steps.specs.Steps.{Outcome, refused, stepIn, stateChecksWith, stepWith, stepOf}
 use Rattle.steps.specs.Previews.{into, previewOf, OnACopy}
-use Rattle.steps.proofs.Steps.{outcome-check, outcome-done, outcome-refused, checks-with, with-in, with-stopped, step-stopped}
+use Rattle.steps.proofs.Steps.{outcome-check, outcome-done, outcome-refused, checks-with, with-in, with-stopped}
 
 -- an outcome in another buffer, by its check
 module _ (next : List ℕ) (o : Outcome) where
@@ -24,7 +24,7 @@ module _ (next : List ℕ) (o : Outcome) where
   pub into-done : o .check ≡ passes → into next o ≡ o
   into-done e = outcome-done next (o .tally) (o .state) (o .check) e ∙ (λ i. record { check = sym e i; tally = o .tally; state = o .state })
 
-  pub into-check : into next o .check ≡ o .check
+  into-check : into next o .check ≡ o .check
   into-check = outcome-check next (o .tally) (o .state) (o .check)
 
 module _ (bytes was : List ℕ) (scratch kind x number : ℕ) (next : List ℕ) where
@@ -50,18 +50,14 @@ module _ (bytes was : List ℕ) (scratch kind x number : ℕ) (next : List ℕ) 
   unfolding stepOf
   whole-check e = preview-check ∙ ap (λ (b : Bool). stepped b .check) e
 
-  -- a buffer whose length is wrong: 1, 2, 3 or 8, whatever the state
-  stops : (s : List ℕ) {n place : ℕ} → firstOf (tableChecks bytes false scratch) ≡ refuses n place → firstOf (stateChecksWith false bytes s scratch) ≡ refuses n place
-  stops s e = append-refuses (tableChecks bytes false scratch) _ e
-
-  wrong-check : isWhole next ≡ false → preview .check ≡ stepOf bytes next scratch kind x number .check
+  -- a buffer whose length is wrong: 1, 2, 3 or 8
+  wrong-check : isWhole next ≡ false → preview .check ≡ firstOf (tableChecks bytes false scratch)
   wrong-check e = by (firstOf (tableChecks bytes false scratch)) refl
     where
-      by : (c : Check) → firstOf (tableChecks bytes false scratch) ≡ c → preview .check ≡ stepOf bytes next scratch kind x number .check
+      by : (c : Check) → firstOf (tableChecks bytes false scratch) ≡ c → preview .check ≡ firstOf (tableChecks bytes false scratch)
       by passes f = absurd (not-both (passes-accepted bytes false scratch f .fit) refl)
       by (refuses n place) f =
-          ap (λ (o : Outcome). o .check) (preview-stopped {n = n} {place = place} (rw e (stops was f)))
-          ∙ sym (ap (λ (o : Outcome). o .check) (step-stopped bytes next scratch kind x number {n = n} {place = place} (rw e (stops next f))))
+          ap (λ (o : Outcome). o .check) (preview-stopped {n = n} {place = place} (rw e (append-refuses (tableChecks bytes false scratch) _ f))) ∙ sym f
 
   fits : preview .check ≡ passes → isWhole next ≡ true
   fits e = by (firstOf (stateChecksWith (isWhole next) bytes was scratch)) refl

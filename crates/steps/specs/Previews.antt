@@ -3,7 +3,8 @@ use Prim.Native.Nat.{ℕ}
 use mathlib.Core.Bool.{true, false}
 use mathlib.Core.Path.{_≡_}
 use mathlib.Core.List.{List}
-use Rattle.table.specs.Checks.{passes, refuses}
+use Rattle.table.specs.Checks.{passes, refuses, firstOf}
+use Rattle.term.specs.Acceptance.{tableChecks}
 use Rattle.state.specs.Layout.{isWhole}
 use Rattle.steps.specs.Steps.{Outcome, refused as refusedAt, outcome, stepWith, stepOf}
 
@@ -23,8 +24,8 @@ pub record OnACopy (bytes was : List ℕ) (scratch kind x number : ℕ) (next : 
   -- where it is refused, the second buffer stays
   pub refused : (n place : ℕ) → previewOf bytes was scratch kind x number next .check ≡ refuses n place
       → previewOf bytes was scratch kind x number next ≡ refusedAt n place next
-  -- the refusal is the step's; where the second buffer's length is wrong, that of a step whose state has this length
+  -- the answer is the step's; where the second buffer's length is wrong, 8, unless the table has 1, 2 or 3
   pub whole : isWhole next ≡ true
       → previewOf bytes was scratch kind x number next .check ≡ stepOf bytes was scratch kind x number .check
   pub wrong : isWhole next ≡ false
-      → previewOf bytes was scratch kind x number next .check ≡ stepOf bytes next scratch kind x number .check
+      → previewOf bytes was scratch kind x number next .check ≡ firstOf (tableChecks bytes false scratch)

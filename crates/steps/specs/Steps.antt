@@ -65,15 +65,15 @@ module _ (t : Table) (was : List ℕ) where
       outcome (firstOf (stepChecks kind x number)) was
       (tallyOf kind x number) (after kind x number)
 
--- 9: the state is not well formed. othersFit: whether the call's other buffers have the lengths that 8 asks
+-- 9: the state is not well formed. othersFit: whether what the call lends beside state and scratch has the lengths that 8 asks
 abbrev pub stateChecksWith : Bool → List ℕ → List ℕ → ℕ → List Refusal
 stateChecksWith othersFit bytes was scratchLength =
     tableChecks bytes (othersFit && isWhole was) scratchLength ++ (refuseIf 9 (not (wellFormed (tableOf bytes) was)) ∷ [])
 
+-- of a call that lends nothing else whose length 8 judges
 abbrev pub stateChecks : List ℕ → List ℕ → ℕ → List Refusal
 stateChecks bytes was scratchLength = stateChecksWith true bytes was scratchLength
 
--- a step of any table and state
 abbrev pub stepWith : Bool → List ℕ → List ℕ → ℕ → ℕ → ℕ → ℕ → Outcome
 stepWith othersFit bytes was scratchLength kind x number =
     elim (firstOf (stateChecksWith othersFit bytes was scratchLength)) [
@@ -81,5 +81,6 @@ stepWith othersFit bytes was scratchLength kind x number =
       | refuses n place ↦ refused n place was
     ]
 
+-- a step of any table and state
 unfoldable pub stepOf : List ℕ → List ℕ → ℕ → ℕ → ℕ → ℕ → Outcome
 stepOf bytes was scratchLength kind x number = stepWith true bytes was scratchLength kind x number

@@ -11,8 +11,8 @@ use Rattle.machine.proofs.Accepting.{accepted-limits, accepted-size, ch
 use Rattle.machine.proofs.opening.open.Statement.{statement}
 use Rattle.machine.proofs.opening.open.Tie as tie
 
-abbrev fits : tie.Start → Bool
-fits a = a .args .others
+abbrev othersFit : tie.Start → Bool
+othersFit a = a .args .others-fit
 
 abbrev was : tie.Start → List ℕ
 was a = now (a .args .state)
@@ -38,7 +38,7 @@ part-well-formed-end c =
     let l = accepted-size (c .before .before .before .before .before .before .accept .ensures) (c .before .before .answer .given .1) in omega arith
 
 well-formed-requires : tie.Need-well-formed-requires
-well-formed-requires c κs = let a = c .before .before .before .before .before .before .before .before .before .before .before .before in check-given (fits a) (was a) (c .before .before .before .before .before .before .before .accept .ensures) (c .before .before .before .answer .given .1)
+well-formed-requires c κs = let a = c .before .before .before .before .before .before .before .before .before .before .before .before in check-given (othersFit a) (was a) (c .before .before .before .before .before .before .before .accept .ensures) (c .before .before .before .answer .given .1)
 
 enum-known-answer-2 : tie.Need-enum-known-answer-2
 enum-known-answer-2 c = search needs
@@ -51,7 +51,7 @@ returns c =
     let a = c .before .before .before .before .before .before .before .before .before .before .before .before .before .before in
     let f = c .before .before .before .before .before .before .before .before .before .accept .ensures in
     let e = c .before .before .before .before .before .answer .given .1 in
-    open-formed (fits a) (was a) f e (λ i. c .before .before .before .before .before .before .before .before .before .before .before .before .shared-slice-known2 .given i .fits) (formed-is f e (was a) (c .before .well-formed .ensures) ∙ c .if1 .taken)
+    open-formed (othersFit a) (was a) f e (λ i. c .before .before .before .before .before .before .before .before .before .before .before .before .shared-slice-known2 .given i .fits) (formed-is f e (was a) (c .before .well-formed .ensures) ∙ c .if1 .taken)
 
 same-length-2 : tie.Need-same-length-2
 same-length-2 c = search needs
@@ -61,13 +61,13 @@ returns-2 c =
     let a = c .before .before .before .before .before .before .before .before .before .before .before .before .before .before in
     let f = c .before .before .before .before .before .before .before .before .before .accept .ensures in
     let e = c .before .before .before .before .before .answer .given .1 in
-    open-broken (fits a) (was a) f e (formed-is f e (was a) (c .before .well-formed .ensures) ∙ c .if1 .left)
+    open-broken (othersFit a) (was a) f e (formed-is f e (was a) (c .before .well-formed .ensures) ∙ c .if1 .left)
 
 same-length-3 : tie.Need-same-length-3
 same-length-3 c = search needs
 
 returns-3 : tie.Need-returns-3
-returns-3 c = let a = c .before .before .before .before .before .before .before .before .before .before in open-refused (fits a) (was a) (c .before .before .before .before .before .accept .ensures) (c .before .answer2 .given .1)
+returns-3 c = let a = c .before .before .before .before .before .before .before .before .before .before in open-refused (othersFit a) (was a) (c .before .before .before .before .before .accept .ensures) (c .before .answer2 .given .1)
 
 pub open-spec : {M : Type 1} → statement M
 open-spec =

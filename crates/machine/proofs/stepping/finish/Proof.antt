@@ -6,7 +6,7 @@ use mathlib.Core.List.{List}
 use denote.Ref.{now}
 use Rattle.table.specs.Tables.{Table, table}
 use Rattle.machine.specs.declared.Judged.{Judged}
-use Rattle.machine.specs.Stepping.{Planned}
+use Rattle.machine.specs.Stepping.{Finishing}
 use Rattle.machine.proofs.Outcomes.{finish-refused, finish-act, finish-offer}
 use borrow.Author.Needs.{needs}
 use Rattle.machine.proofs.stepping.finish.Statement.{statement}
@@ -19,8 +19,8 @@ abbrev s : tie.Start → List ℕ
 s a = now (a .args .state)
 
 -- what is asked, by the case of the judgement
-planned : (a : tie.Start) (r : Judged) → a .args .judged ≡ r → Planned (T a) (s a) (a .args .agent) (a .args .number) r
-planned a r e = subst (Planned (T a) (s a) (a .args .agent) (a .args .number)) e (a .pre .1)
+asked : (a : tie.Start) (r : Judged) → a .args .judged ≡ r → Finishing (T a) (s a) (a .args .agent) (a .args .number) r
+asked a r e = subst (Finishing (T a) (s a) (a .args .agent) (a .args .number)) e (a .pre .1)
 
 enum-known-judged : tie.Need-enum-known-judged
 enum-known-judged c = search needs
@@ -31,7 +31,7 @@ enum-known-judged-2 c = search needs
 perform-requires : tie.Need-perform-requires
 perform-requires c κs =
     let a = c .before .before .before .before .before .before .before .before in
-    let p = planned a _ (c .before .before .judged2 .given .1) in
+    let p = asked a _ (c .before .before .judged2 .given .1) in
     (a .pre .0, (p .0, (p .1, p .2)))
 
 no-tally-requires : tie.Need-no-tally-requires
@@ -43,7 +43,7 @@ enum-known-judged-3 c = search needs
 offer-requires : tie.Need-offer-requires
 offer-requires c κs =
     let a = c .before .before .before .before .before .before .before .before in
-    planned a _ (c .before .before .judged3 .given .1)
+    asked a _ (c .before .before .judged3 .given .1)
 
 returns : tie.Need-returns
 returns c =

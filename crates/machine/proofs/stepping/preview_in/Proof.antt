@@ -9,7 +9,7 @@ use lib.ListN.{length}
 use Rattle.table.specs.Tables.{Table, table}
 use Rattle.steps.specs.Previews.{into}
 use Rattle.machine.specs.declared.Judged.{Judged}
-use Rattle.machine.proofs.Outcomes.{steps-as, Copied, copied-planned, copied-finished}
+use Rattle.machine.proofs.Outcomes.{steps-as, Copied, copied-asked, copied-finished}
 use borrow.Author.Needs.{needs}
 use Rattle.machine.proofs.stepping.preview_in.Statement.{statement}
 use Rattle.machine.proofs.stepping.preview_in.Tie as tie
@@ -48,7 +48,7 @@ finish-requires : tie.Need-finish-requires
 finish-requires c κs =
     let j = c .before in
     let a = start j in
-    (a .pre .0, copied-planned (T a) (was a) (came a) (a .args .agent) (a .args .number) (found j) (copied j) (j .before .before .judge-step .ensures .planned))
+    (a .pre .0, copied-asked (T a) (was a) (came a) (a .args .agent) (a .args .number) (found j) (copied j) (j .before .before .judge-step .ensures .asked))
 
 same-length : tie.Need-same-length
 same-length c =
