@@ -1,11 +1,14 @@
 //! The proved library, called as C calls it, on cases that the second implementation generates.
 
 pub mod fleets;
+pub mod mir;
 pub mod numbers;
 pub mod page;
 pub mod program;
 #[path = "../../include/rehearsal.rs"]
 pub mod rehearsal;
+pub mod residuals;
+pub mod stack;
 
 use reference::cases::{Call, Case, ANSWER_FILL};
 

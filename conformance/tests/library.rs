@@ -1,6 +1,10 @@
 //! labs_load, labs_step and labs_run answer as the second implementation does. (labs_preview is in another file.)
 
+use std::collections::BTreeSet;
+
 use conformance::fleets::long_link;
+use conformance::rehearsal::word;
+use conformance::residuals::long_residuals;
 use conformance::{any_words, call, expected, preview, Given, LISTS};
 use reference::cases::{Call, Case, ANSWER_FILL};
 use reference::describe::describe;
@@ -180,6 +184,29 @@ fn writers_answer_as_the_reference_does() {
             }
         }
     }
+}
+
+/// What an act leaves fills a residual's words up to the last, or the act is refused and nothing is written.
+#[test]
+fn long_residuals_answer_as_the_reference_does() {
+    let (mut seen, mut lengths) = (Tally::default(), BTreeSet::new());
+    for (i, case) in long_residuals().iter().enumerate() {
+        let given = agreed(case, &format!("act {i}"));
+        seen[given.refusal()] += 1;
+        if given.refusal() == 0 {
+            lengths.insert(given.state[word::residual_length(1)]);
+        } else {
+            assert!(given.state == case.state, "a refused act wrote the state");
+        }
+    }
+    assert!(
+        (51..=63).step_by(2).all(|length| lengths.contains(&length)),
+        "{lengths:?}"
+    );
+    assert!(
+        [12, 13, 17].into_iter().all(|answer| seen[answer] > 0),
+        "{seen:?}"
+    );
 }
 
 /// The library's call; of a step also its preview, which says the same.

@@ -1,6 +1,7 @@
 //! labs_preview answers as labs_step does on a copy of the state, and as the second implementation does.
 
 use conformance::rehearsal::{self, word, SCRATCH_WORDS};
+use conformance::residuals::long_residuals;
 use conformance::{any_words, call, expected_preview, preview, Given, Previewed, LISTS};
 use reference::cases::{Call, Case};
 use reference::describe::describe;
@@ -103,6 +104,15 @@ fn previews_of_steps_that_hold_two_faults() {
     }
     // 17 refusals of an act, 11 of a propagate, 11 of a confirm.
     assert_eq!(previewed, 136 + 55 + 55);
+}
+
+/// Up to the limit of 17, where the second buffer stays.
+#[test]
+fn previews_of_acts_on_long_residuals() {
+    for (i, case) in long_residuals().iter().enumerate() {
+        let copy = call(case);
+        agreed(case, &copy, STATE_WORDS, &format!("act {i}"));
+    }
 }
 
 /// The first state of the paper's example, in memory that cannot be written.

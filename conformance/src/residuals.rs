@@ -1,0 +1,90 @@
+//! Acts on residuals of about as many words as a residual may have.
+
+use reference::cases::{Call, Case};
+use reference::derive::count_term;
+use reference::draft::Draft;
+use reference::generate::edges::accept;
+use reference::state::{Agent, World};
+use reference::step::Step;
+use reference::table::{Fleet, MAX_NODES};
+use reference::term::{Term, MAX_WORDS};
+
+/// A part beside the acting one: after it or before it, in a sequence or in parallel.
+type Beside = fn(Term, Term) -> Term;
+
+const BESIDE: [Beside; 4] = [
+    Term::sequence,
+    Term::parallel,
+    |part, other| Term::sequence(other, part),
+    |part, other| Term::parallel(other, part),
+];
+
+/// A part with a part beside it, so many times: ticks first, then idle ones.
+fn nested(part: Term, beside: Beside, levels: usize, ticks: usize) -> Term {
+    (0..levels).fold(part, |part, level| {
+        let other = if level < ticks {
+            Term::Tick
+        } else {
+            Term::Idle
+        };
+        beside(part, other)
+    })
+}
+
+/// A write followed by so many ticks: it leaves a word, and two for each tick.
+fn write(draft: &mut Draft, ticks: usize) -> u16 {
+    let one = draft.constant(1);
+    let write = draft.set_attribute(0, one);
+    (0..ticks).fold(write, |part, _| {
+        let tick = draft.tick();
+        draft.sequence(part, tick)
+    })
+}
+
+/// Processes that leave one to seven words, by sequences and in parallel.
+fn processes(draft: &mut Draft) -> Vec<u16> {
+    let mut all: Vec<u16> = (0..4).map(|ticks| write(draft, ticks)).collect();
+    let (left, right, tick) = (write(draft, 0), write(draft, 1), draft.tick());
+    let both = draft.parallel(left, right);
+    all.push(draft.parallel(tick, both));
+    all
+}
+
+/// The first choices of an agent between two others whose residuals fill their words, and one choice too many where it
+/// has few.
+fn acts(table: &[u8], fleet: &Fleet, residual: Term) -> Vec<Case> {
+    let choices = count_term(&residual, fleet).total() as u16;
+    let full = nested(Term::Tick, Term::parallel, MAX_WORDS / 2, 0);
+    let mut world = World::start(fleet);
+    world.agents = [full.clone(), residual, full].map(Agent::new).into();
+    let case = |choice| Case {
+        table: table.to_vec(),
+        state: world.words(),
+        fill: 0,
+        scratch: 2 * MAX_NODES,
+        call: Call::Step(Step::act(1, choice)),
+    };
+    (0..=choices.min(8)).map(case).collect()
+}
+
+/// Acts on residuals of 55 to 63 words whose acting part stands innermost.
+pub fn long_residuals() -> Vec<Case> {
+    let mut draft = Draft::new(1, 0);
+    let processes = processes(&mut draft);
+    draft.agents = vec![processes[0]; 3];
+    let (table, fleet) = accept(&draft);
+    let mut all = Vec::new();
+    for process in processes {
+        let process = fleet.process(process.into()).expect("a process");
+        for beside in BESIDE {
+            for levels in 27..=MAX_WORDS / 2 {
+                for ticks in [0, 1, 2, levels] {
+                    let part = Term::Process(process.clone());
+                    let residual = nested(part, beside, levels, ticks);
+                    all.extend(acts(&table, &fleet, residual));
+                }
+            }
+        }
+    }
+    all
+}

@@ -1,0 +1,31 @@
+//! How much stack a call touches, on x86-64.
+
+use std::arch::asm;
+
+/// What the words of a stack hold before a call.
+const UNTOUCHED: u64 = 0x5bd1_e995_dead_beef;
+
+/// Bytes from the call down to the last word of the stack that it wrote.
+pub fn touched<F: FnMut()>(words: usize, mut work: F) -> usize {
+    extern "C" fn enter<F: FnMut()>(work: &mut F) {
+        work();
+    }
+    let mut stack = vec![UNTOUCHED; words & !1];
+    let top = stack.as_mut_ptr_range().end as usize & !15;
+    // The call is made on that stack: r12 holds this one's place meanwhile, which a callee keeps.
+    unsafe {
+        asm!(
+            "xchg rsp, r12",
+            "call r13",
+            "mov rsp, r12",
+            inout("r12") top => _,
+            in("r13") enter::<F>,
+            in("rdi") &mut work,
+            clobber_abi("C"),
+        );
+    }
+    let first = stack.iter().position(|&word| word != UNTOUCHED);
+    let first = first.expect("a return address");
+    assert!(first > 0, "the stack was too small");
+    8 * (stack.len() - first)
+}

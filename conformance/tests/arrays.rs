@@ -1,0 +1,259 @@
+//! What the functions that an act runs keep and write, held to the list in docs/DECISIONS.md: none of them keeps words of
+//! a residual in an array of its own.
+
+use std::collections::{BTreeMap, BTreeSet};
+use std::fs;
+use std::path::Path;
+use std::sync::LazyLock;
+
+use conformance::mir::{functions, reached, Function, Functions};
+use conformance::page::{root, rows, text};
+
+/// The calls that do acts.
+const CALLS: [&str; 3] = [
+    "rehearsal::labs_step",
+    "rehearsal::labs_preview",
+    "rehearsal::labs_run",
+];
+
+/// The head of the list.
+const HEAD: &str = "| Module | Functions | Array that one keeps | What they write |";
+
+/// What is listed of a function: its arrays, the functions that may write them, and whether it writes itself.
+#[derive(Default)]
+struct Listed {
+    arrays: Vec<String>,
+    by: BTreeSet<String>,
+    writes: bool,
+}
+
+type List = BTreeMap<String, Listed>;
+
+/// The words of a cell that stand between backticks.
+fn quoted(cell: &str) -> Vec<&str> {
+    cell.split('`').skip(1).step_by(2).collect()
+}
+
+/// A row is a module, its functions, what one of them keeps (its name, the types of its arrays, the functions that may
+/// write these), and those of them that write.
+fn listed(page: &str) -> List {
+    let mut list = List::new();
+    for row in rows(page, HEAD) {
+        let [module, names, kept, writers] = &row[..] else {
+            panic!("a row of four cells: {row:?}");
+        };
+        let path = |name: &str| format!("{module}::{name}");
+        for name in quoted(names) {
+            let double = list.insert(path(name), Listed::default());
+            assert!(double.is_none(), "{} is listed twice", path(name));
+        }
+        if let Some((name, kept)) = quoted(kept).split_first() {
+            let listed = list.get_mut(&path(name)).expect("a function of the row");
+            for word in kept.iter().map(ToString::to_string) {
+                match word.starts_with('[') {
+                    true => listed.arrays.push(word),
+                    false => drop(listed.by.insert(word)),
+                }
+            }
+            listed.arrays.sort();
+        }
+        for name in quoted(writers) {
+            let listed = list.get_mut(&path(name)).expect("a function of the row");
+            listed.writes = true;
+        }
+    }
+    list
+}
+
+/// Where the functions that calls run differ from the list, a line for each difference.
+fn differences(all: &Functions, calls: &[&str], list: &List) -> Vec<String> {
+    let run = reached(all, calls);
+    let mut lines = Vec::new();
+    for name in list.keys().filter(|name| !run.contains(name.as_str())) {
+        lines.push(format!("{name} is listed, and no act runs it"));
+    }
+    for name in run {
+        let listed = list.get(name);
+        if listed.is_none() {
+            lines.push(format!("{name} is run by an act, and not listed"));
+        }
+        compare(all, name, listed.unwrap_or(&Listed::default()), &mut lines);
+    }
+    lines
+}
+
+fn compare(all: &Functions, name: &str, listed: &Listed, lines: &mut Vec<String>) {
+    let Function { arrays, writes, .. } = &all[name];
+    if *arrays != listed.arrays {
+        let (kept, listed) = (arrays.join(", "), listed.arrays.join(", "));
+        lines.push(format!(
+            "{name} keeps arrays ({kept}), listed are ({listed})"
+        ));
+    }
+    if *writes != listed.writes {
+        lines.push(format!(
+            "{name} writes: {writes}, listed: {}",
+            listed.writes
+        ));
+    }
+    if !arrays.is_empty() {
+        let mut by = reached(all, &[name]);
+        by.retain(|run| all[*run].writes);
+        if !by.iter().eq(&listed.by) {
+            let by = Vec::from_iter(by).join(", ");
+            lines.push(format!("arrays of {name} may be written by {by}"));
+        }
+    }
+}
+
+#[test]
+fn an_act_keeps_no_residual_in_an_array() {
+    let all = functions(&root(), "rehearsal");
+    let list = listed(&text("docs/DECISIONS.md"));
+    let lines = differences(&all, &CALLS, &list);
+    assert!(
+        lines.is_empty(),
+        "No function that an act runs keeps words of a residual in an array of its own. docs/DECISIONS.md lists the \
+         functions with their arrays, and what each array holds.\n{}",
+        lines.join("\n")
+    );
+}
+
+/// The functions below, lowered from a repository of their own; nothing proves them.
+static KEPT: LazyLock<Functions> = LazyLock::new(|| {
+    let folder = Path::new(env!("CARGO_TARGET_TMPDIR")).join("arrays");
+    let source = folder.join("crates/kept/src");
+    fs::create_dir_all(&source).expect("a folder");
+    fs::write(folder.join("crates.txt"), "kept:\n").expect("a file");
+    fs::write(source.join("lib.rt"), SOURCE).expect("a file");
+    functions(&folder, "kept")
+});
+
+/// Functions that keep words in every way that there is, beside some that keep none.
+const SOURCE: &str = "
+pub struct Spare {
+    words: [u32; 63],
+    length: usize,
+}
+
+pub enum Kept {
+    Nothing,
+    Spare(Spare),
+}
+
+fn copy(from: &[u32], to: &mut [u32]) {
+    let mut i = 0;
+    while i < 63 {
+        to[i] = from[i];
+        i += 1;
+    }
+}
+
+pub fn leave(state: &mut [u32]) {
+    let mut spare = [0u32; 63];
+    copy(state, &mut spare);
+    state[0] = spare[62];
+}
+
+pub fn listed(word: u32) -> u32 {
+    let words = [word, 2, 3];
+    words[1]
+}
+
+pub fn two(word: u32) -> u32 {
+    let mut marks = [0u32; 128];
+    let mut spare = [0u32; 128];
+    marks[0] = word;
+    spare[0] = word;
+    marks[1] + spare[1]
+}
+
+pub fn nested() -> u16 {
+    let words = [[0u16; 3]; 21];
+    words[0][0]
+}
+
+pub fn lent(words: &[u32; 63]) -> u32 {
+    words[0]
+}
+
+pub fn passed(words: [u64; 63]) -> [u64; 63] {
+    words
+}
+
+pub fn in_a_struct(length: usize) -> usize {
+    let spare = Spare { words: [0; 63], length };
+    spare.length
+}
+
+pub fn in_an_enum(kept: Kept) -> bool {
+    match kept {
+        Kept::Nothing => false,
+        Kept::Spare(spare) => spare.length == 0,
+    }
+}
+
+pub fn act(state: &mut [u32]) {
+    let word = state[1];
+    leave(state);
+    state[1] = word;
+}
+";
+
+/// What the check is made of finds each of them.
+#[test]
+fn arrays_are_found_wherever_they_are_kept() {
+    let all = &KEPT;
+    let wanted = [
+        ("act", "", true),
+        ("copy", "", true),
+        ("in_a_struct", "[u32; 63], [u32; 63]", false),
+        ("in_an_enum", "[u32; 63], [u32; 63]", false),
+        ("leave", "[u32; 63]", true),
+        ("lent", "", false),
+        ("listed", "[u32; 3]", false),
+        ("nested", "[[u16; 3]; 21], [u16; 3]", false),
+        ("passed", "[u64; 63], [u64; 63]", false),
+        ("two", "[u32; 128], [u32; 128]", true),
+    ];
+    for (name, arrays, writes) in wanted {
+        let found = &all[&format!("kept::{name}")];
+        let seen = (found.arrays.join(", "), found.writes);
+        assert_eq!(seen, (arrays.to_string(), writes), "{name}");
+    }
+    let names = all.keys().filter(|name| name.starts_with("kept::"));
+    assert_eq!(names.count(), wanted.len());
+    assert_eq!(all["kept::act"].calls, ["kept::leave".to_string()].into());
+}
+
+/// The check itself: of `act`, with the lists below.
+#[test]
+fn a_spare_residual_is_refused() {
+    let lines = |kept: &str, writers: &str| {
+        let row = format!("| kept | `act`, `leave`, `copy` | {kept} | {writers} |");
+        let page = format!("\n{HEAD}\n|---|---|---|---|\n{row}\n");
+        differences(&KEPT, &["kept::act"], &listed(&page))
+    };
+    let writers = "`act`, `leave`, `copy`";
+    let by = "arrays of kept::leave may be written by kept::copy, kept::leave";
+    let kept = "kept::leave keeps arrays ([u32; 63]), listed are ()";
+    assert_eq!(lines("", writers), [kept, by]);
+    assert_eq!(lines("`leave` keeps `[u32; 63]`", writers), [by]);
+    let twice = "kept::leave keeps arrays ([u32; 63]), listed are ([u32; 63], [u32; 63])";
+    let both = "by `kept::copy` and `kept::leave`";
+    assert_eq!(
+        lines(
+            &format!("`leave` keeps `[u32; 63]` and `[u32; 63]`, {both}"),
+            writers
+        ),
+        [twice]
+    );
+    assert_eq!(
+        lines(
+            &format!("`leave` keeps `[u32; 63]`, {both}"),
+            "`act`, `leave`"
+        ),
+        ["kept::copy writes: true, listed: false"]
+    );
+    assert!(lines(&format!("`leave` keeps `[u32; 63]`, {both}"), writers).is_empty());
+}
