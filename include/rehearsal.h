@@ -10,8 +10,9 @@
  * Threads. The library has no data of its own. Calls may run in several threads at once, as long as no thread uses
  * what another one's call writes; a table, a schedule and a state that is previewed are only read, and may be shared.
  *
- * Stack. As measured, a call on the deepest tables fits 800 KB of stack, and an act with a small guard and a short
- * residual 2 KB.
+ * Stack. As measured, a call on the deepest tables fits 800 KB of stack; an act whose guard compares two constants,
+ * with a residual of one word, fits 2 KB. docs/DECISIONS.md has what each level of guards, expressions, processes and
+ * residuals adds.
  *
  * Answers. An answer is one number, which the macros under "Answers" take apart. A refused call has its refusal and
  * its place in it, and leaves state, answer bytes and next as they came. */

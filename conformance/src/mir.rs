@@ -13,7 +13,8 @@ pub struct Function {
     /// those behind a reference. In order, and each as often as it is held. An integer has no sign in this form and is
     /// shown as u8 to u64.
     pub arrays: Vec<String>,
-    /// Whether it stores to a place behind a pointer: to what is lent to it, or to an array of its own.
+    /// Whether it stores behind a pointer, to what is lent to it or to an array of its own, or puts more than constants
+    /// into a local that holds an array.
     pub writes: bool,
 }
 
@@ -83,61 +84,61 @@ fn read(text: &str) -> Vec<Printed<'_>> {
 }
 
 impl<'p> Printed<'p> {
+    /// Its name and what follows that.
+    fn parts(&self) -> (&'p str, &[Printed<'p>]) {
+        match self {
+            Word(word) => (word, &[]),
+            Terms(terms) => (terms[0].parts().0, &terms[1..]),
+        }
+    }
+
     fn name(&self) -> &'p str {
-        match self {
-            Word(word) => word,
-            Terms(terms) => terms[0].name(),
-        }
+        self.parts().0
     }
 
-    /// What follows the name.
-    fn operands(&self) -> &[Printed<'p>] {
-        match self {
-            Word(_) => &[],
-            Terms(terms) => &terms[1..],
-        }
-    }
-
-    /// The items of a list, which is an item and a list, or a word.
     fn items(&self) -> Vec<&Printed<'p>> {
         let (mut items, mut list) = (Vec::new(), self);
-        while let [item, rest] = list.operands() {
-            items.push(item);
-            list = rest;
+        loop {
+            match list.parts() {
+                ("lcons", [item, rest]) => {
+                    items.push(item);
+                    list = rest;
+                }
+                ("lnil", []) => return items,
+                (other, _) => panic!("a list of an unknown form: {other}"),
+            }
         }
-        items
     }
 
-    /// This term and all terms in it.
-    fn each(&self, visit: &mut impl FnMut(&Printed<'p>)) {
-        visit(self);
-        for term in self.operands() {
-            term.each(visit);
-        }
+    /// What stands for a declared name, and what is said of it.
+    fn pair(&self) -> (&'p str, &Printed<'p>) {
+        let ("pair", [name, of]) = self.parts() else {
+            panic!("no pair: {}", self.name());
+        };
+        (name.name(), of)
     }
 }
 
 /// The declared types that a function names, by their names.
 type Types<'t, 'p> = BTreeMap<&'p str, &'t Printed<'p>>;
 
-/// Adds the arrays that a value of a type holds.
-fn add_arrays(arrays: &mut Vec<String>, ty: &Printed, types: &Types) {
-    match (ty.name(), ty.operands()) {
-        ("tyInt" | "tyBool" | "tyFloat" | "tyPtr" | "tyRef" | "tyUnit", _) => {}
-        ("tyArray", _) => arrays.push(shown(ty)),
+/// The arrays that a value of a type holds.
+fn arrays_of(ty: &Printed, types: &Types) -> Vec<String> {
+    match ty.parts() {
+        ("tyInt" | "tyBool" | "tyFloat" | "tyPtr" | "tyRef" | "tyUnit" | "tnil" | "ttnil", _) => {
+            Vec::new()
+        }
+        ("tyArray", _) => vec![shown(ty)],
         ("tyStruct" | "tyEnum", [_, parts]) | ("fields" | "variants", [parts]) => {
-            add_arrays(arrays, parts, types);
+            arrays_of(parts, types)
         }
         ("tcons" | "ttcons", [first, rest]) => {
-            add_arrays(arrays, first, types);
-            add_arrays(arrays, rest, types);
+            [arrays_of(first, types), arrays_of(rest, types)].concat()
         }
-        ("tnil" | "ttnil", []) => {}
-        ("tyNamed", [pair]) => {
-            let name = pair.operands()[0].name();
+        ("tyNamed", [named]) => {
+            let name = named.pair().0;
             let declared = types.get(name);
-            let declared = declared.unwrap_or_else(|| panic!("{name} is not declared"));
-            add_arrays(arrays, declared, types);
+            arrays_of(declared.expect("a declared type"), types)
         }
         (other, _) => panic!("a type of an unknown form: {other}"),
     }
@@ -145,64 +146,105 @@ fn add_arrays(arrays: &mut Vec<String>, ty: &Printed, types: &Types) {
 
 /// A type as the source writes it, as far as an array's elements need.
 fn shown(ty: &Printed) -> String {
-    match (ty.name(), ty.operands()) {
+    match ty.parts() {
         ("tyArray", [element, length]) => {
-            let length = length.operands()[0].name();
-            format!("[{}; {length}]", shown(element))
+            let ("lenLit", [length]) = length.parts() else {
+                panic!("a length of an unknown form: {}", length.name());
+            };
+            format!("[{}; {}]", shown(element), length.name())
         }
         ("tyInt", [bits]) => format!("u{}", bits.name()),
-        ("tyNamed", [pair]) => pair.operands()[0].name().to_string(),
+        ("tyBool", []) => "bool".to_string(),
+        ("tyNamed", [named]) => named.pair().0.to_string(),
         (other, _) => other.to_string(),
     }
 }
 
-/// Whether a place stands behind a pointer.
-fn is_behind(place: &Printed) -> bool {
-    let [_, steps] = place.operands() else {
-        panic!("a place is a local and steps");
-    };
-    steps.items().iter().any(|step| step.name() == "deref")
+/// Whether a value is made of constants alone. (An operation's is no array.)
+fn is_constant(value: &Printed) -> bool {
+    let constant = |operand: &Printed| operand.name() != "copy";
+    match value.parts() {
+        ("rvOpd", [operand]) | ("repeat", [operand, _]) => constant(operand),
+        ("aggregate", [operands]) => operands.items().into_iter().all(constant),
+        _ => false,
+    }
 }
 
-/// A definition is a name, an item and, where the function names declared types, these; an item ends with its locals
-/// and its body.
-fn function(definition: &Printed) -> (String, Function) {
-    let [name, item, declared @ ..] = definition.operands() else {
-        panic!("a function of an unknown form");
-    };
-    let [.., locals, body] = item.operands() else {
-        panic!("an item of an unknown form");
-    };
-    let types: Types = declared
-        .iter()
-        .flat_map(Printed::items)
-        .map(|pair| (pair.operands()[0].name(), &pair.operands()[1]))
-        .collect();
-    let mut function = Function::default();
-    for local in locals.items() {
-        add_arrays(&mut function.arrays, &local.operands()[0], &types);
-    }
-    function.arrays.sort();
-    body.each(
-        &mut |statement| match (statement.name(), statement.operands()) {
-            ("assign", [place, _]) => function.writes |= is_behind(place),
-            ("call", [callee, _, place]) => {
-                assert_eq!(callee.name(), "direct", "a call of an unknown form");
-                let called = callee.operands()[0].operands()[0].name();
-                function.calls.insert(called.to_string());
-                function.writes |= is_behind(place);
+/// A function whose statements are gone through, and which of its locals hold arrays.
+struct Lowered {
+    holding: Vec<bool>,
+    function: Function,
+}
+
+impl Lowered {
+    fn statement(&mut self, statement: &Printed) {
+        match statement.parts() {
+            ("skip" | "return" | "noDefault", []) | ("exit", [_]) => {}
+            ("block" | "loop" | "default", [inner]) | ("switch", [_, inner]) => {
+                self.statement(inner);
             }
-            ("assign" | "call", _) => panic!("a statement of an unknown form"),
-            _ => {}
-        },
-    );
-    (name.name().to_string(), function)
+            ("seq", [first, second]) | ("if" | "arm", [_, first, second]) => {
+                self.statement(first);
+                self.statement(second);
+            }
+            ("assign", [place, value]) => self.store(place, is_constant(value)),
+            ("call", [callee, _, place]) => {
+                self.call(callee);
+                self.store(place, false);
+            }
+            (other, _) => panic!("a statement of an unknown form: {other}"),
+        }
+    }
+
+    fn call(&mut self, callee: &Printed) {
+        let ("direct", [function]) = callee.parts() else {
+            panic!("a call of an unknown form: {}", callee.name());
+        };
+        let ("fnRef", [name]) = function.parts() else {
+            panic!("a callee of an unknown form: {}", function.name());
+        };
+        self.function.calls.insert(name.name().to_string());
+    }
+
+    fn store(&mut self, place: &Printed, constant: bool) {
+        let ("place", [local, steps]) = place.parts() else {
+            panic!("a place of an unknown form: {}", place.name());
+        };
+        let local: usize = local.name().parse().expect("a local's number");
+        let behind = steps.items().iter().any(|step| step.name() == "deref");
+        self.function.writes |= behind || self.holding[local] && !constant;
+    }
+}
+
+/// A definition is a name, an item and, where the function names declared types, these.
+fn function(definition: &Printed) -> (String, Function) {
+    let ("fn-def", [name, item, declared @ ..]) = definition.parts() else {
+        panic!("a definition of an unknown form: {}", definition.name());
+    };
+    let ("fnItem", [_, _, _, locals, body]) = item.parts() else {
+        panic!("an item of an unknown form: {}", item.name());
+    };
+    let declared = declared.iter().flat_map(Printed::items);
+    let types: Types = declared.map(Printed::pair).collect();
+    let mut lowered = Lowered {
+        holding: Vec::new(),
+        function: Function::default(),
+    };
+    for local in locals.items() {
+        let ("local", [ty, _]) = local.parts() else {
+            panic!("a local of an unknown form: {}", local.name());
+        };
+        let arrays = arrays_of(ty, &types);
+        lowered.holding.push(!arrays.is_empty());
+        lowered.function.arrays.extend(arrays);
+    }
+    lowered.function.arrays.sort();
+    lowered.statement(body);
+    (name.name().to_string(), lowered.function)
 }
 
 /// The functions of a printed program.
 fn lowered(program: &str) -> Functions {
     let terms = read(program);
-    let definitions = terms[1].items();
-    assert!(definitions.iter().all(|term| term.name() == "fn-def"));
-    definitions.into_iter().map(function).collect()
+    terms[1].items().into_iter().map(function).collect()
 }

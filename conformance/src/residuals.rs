@@ -19,17 +19,23 @@ const BESIDE: [Beside; 4] = [
     |part, other| Term::parallel(other, part),
 ];
 
-/// A part with a part beside it, so many times: ticks first, then idle ones.
-fn nested(part: Term, beside: Beside, levels: usize, ticks: usize) -> Term {
-    (0..levels).fold(part, |part, level| {
-        let other = if level < ticks {
-            Term::Tick
-        } else {
-            Term::Idle
-        };
-        beside(part, other)
-    })
+/// A part that has a derivation, a tick, or has none, of so many words, which is odd.
+fn other(ticks: bool, words: usize) -> Term {
+    let leaf = if ticks { Term::Tick } else { Term::Idle };
+    (1..words)
+        .step_by(2)
+        .fold(leaf.clone(), |part, _| Term::sequence(leaf.clone(), part))
 }
+
+/// Which of the parts beside tick, from the innermost one on: none, the first two, the last two, all.
+type Ticks = fn(level: usize, levels: usize) -> bool;
+
+const TICKS: [Ticks; 4] = [
+    |_, _| false,
+    |level, _| level < 2,
+    |level, levels| level + 2 >= levels,
+    |_, _| true,
+];
 
 /// A write followed by so many ticks: it leaves a word, and two for each tick.
 fn write(draft: &mut Draft, ticks: usize) -> u16 {
@@ -54,7 +60,7 @@ fn processes(draft: &mut Draft) -> Vec<u16> {
 /// has few.
 fn acts(table: &[u8], fleet: &Fleet, residual: Term) -> Vec<Case> {
     let choices = count_term(&residual, fleet).total() as u16;
-    let full = nested(Term::Tick, Term::parallel, MAX_WORDS / 2, 0);
+    let full = other(false, MAX_WORDS);
     let mut world = World::start(fleet);
     world.agents = [full.clone(), residual, full].map(Agent::new).into();
     let case = |choice| Case {
@@ -67,7 +73,23 @@ fn acts(table: &[u8], fleet: &Fleet, residual: Term) -> Vec<Case> {
     (0..=choices.min(8)).map(case).collect()
 }
 
-/// Acts on residuals of 55 to 63 words whose acting part stands innermost.
+/// Residuals of 55 to 63 words around an acting part, with parts of so many words beside it.
+fn around(acting: &Term, words: usize) -> Vec<Term> {
+    let mut all = Vec::new();
+    for levels in 55 / (words + 1)..=MAX_WORDS / (words + 1) {
+        for (beside, ticks) in BESIDE
+            .iter()
+            .flat_map(|beside| TICKS.map(|ticks| (beside, ticks)))
+        {
+            all.push((0..levels).fold(acting.clone(), |part, level| {
+                beside(part, other(ticks(level, levels), words))
+            }));
+        }
+    }
+    all
+}
+
+/// Acts on such residuals, with parts of one word and of five beside the acting one, which stands innermost.
 pub fn long_residuals() -> Vec<Case> {
     let mut draft = Draft::new(1, 0);
     let processes = processes(&mut draft);
@@ -75,15 +97,9 @@ pub fn long_residuals() -> Vec<Case> {
     let (table, fleet) = accept(&draft);
     let mut all = Vec::new();
     for process in processes {
-        let process = fleet.process(process.into()).expect("a process");
-        for beside in BESIDE {
-            for levels in 27..=MAX_WORDS / 2 {
-                for ticks in [0, 1, 2, levels] {
-                    let part = Term::Process(process.clone());
-                    let residual = nested(part, beside, levels, ticks);
-                    all.extend(acts(&table, &fleet, residual));
-                }
-            }
+        let acting = Term::Process(fleet.process(process.into()).expect("a process"));
+        for residual in [1, 5].map(|words| around(&acting, words)).concat() {
+            all.extend(acts(&table, &fleet, residual));
         }
     }
     all

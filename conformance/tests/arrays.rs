@@ -1,5 +1,5 @@
-//! What the functions that an act runs keep and write, held to the list in docs/DECISIONS.md: none of them keeps words of
-//! a residual in an array of its own.
+//! What the functions that an act runs keep and write, held to the list in docs/DECISIONS.md: none of them keeps words
+//! of a residual in an array of its own.
 
 use std::collections::{BTreeMap, BTreeSet};
 use std::fs;
@@ -23,7 +23,7 @@ const HEAD: &str = "| Module | Functions | Array that one keeps | What they writ
 #[derive(Default)]
 struct Listed {
     arrays: Vec<String>,
-    by: BTreeSet<String>,
+    writers: BTreeSet<String>,
     writes: bool,
 }
 
@@ -50,9 +50,10 @@ fn listed(page: &str) -> List {
         if let Some((name, kept)) = quoted(kept).split_first() {
             let listed = list.get_mut(&path(name)).expect("a function of the row");
             for word in kept.iter().map(ToString::to_string) {
-                match word.starts_with('[') {
-                    true => listed.arrays.push(word),
-                    false => drop(listed.by.insert(word)),
+                if word.starts_with('[') {
+                    listed.arrays.push(word);
+                } else {
+                    listed.writers.insert(word);
                 }
             }
             listed.arrays.sort();
@@ -97,12 +98,17 @@ fn compare(all: &Functions, name: &str, listed: &Listed, lines: &mut Vec<String>
         ));
     }
     if !arrays.is_empty() {
-        let mut by = reached(all, &[name]);
-        by.retain(|run| all[*run].writes);
-        if !by.iter().eq(&listed.by) {
-            let by = Vec::from_iter(by).join(", ");
-            lines.push(format!("arrays of {name} may be written by {by}"));
-        }
+        compare_writers(all, name, listed, lines);
+    }
+}
+
+/// Of all functions that a function runs, those that write may write its arrays.
+fn compare_writers(all: &Functions, name: &str, listed: &Listed, lines: &mut Vec<String>) {
+    let mut writers = reached(all, &[name]);
+    writers.retain(|run| all[*run].writes);
+    if !writers.iter().eq(&listed.writers) {
+        let writers = Vec::from_iter(writers).join(", ");
+        lines.push(format!("arrays of {name} may be written by {writers}"));
     }
 }
 
@@ -119,26 +125,24 @@ fn an_act_keeps_no_residual_in_an_array() {
     );
 }
 
-/// The functions below, lowered from a repository of their own; nothing proves them.
-static KEPT: LazyLock<Functions> = LazyLock::new(|| {
-    let folder = Path::new(env!("CARGO_TARGET_TMPDIR")).join("arrays");
-    let source = folder.join("crates/kept/src");
-    fs::create_dir_all(&source).expect("a folder");
-    fs::write(folder.join("crates.txt"), "kept:\n").expect("a file");
-    fs::write(source.join("lib.rt"), SOURCE).expect("a file");
-    functions(&folder, "kept")
-});
-
-/// Functions that keep words in every way that there is, beside some that keep none.
+/// Functions that keep words in many ways, beside some that keep none.
 const SOURCE: &str = "
 pub struct Spare {
     words: [u32; 63],
     length: usize,
 }
 
+pub struct Marked(u32, Spare);
+
 pub enum Kept {
     Nothing,
     Spare(Spare),
+}
+
+impl Spare {
+    pub fn first(self) -> u32 {
+        self.words[0]
+    }
 }
 
 fn copy(from: &[u32], to: &mut [u32]) {
@@ -155,21 +159,37 @@ pub fn leave(state: &mut [u32]) {
     state[0] = spare[62];
 }
 
-pub fn listed(word: u32) -> u32 {
+pub fn marks(n: usize) -> u32 {
+    let marks = [0u32; 128];
+    marks[n]
+}
+
+pub fn two(n: usize) -> u32 {
+    let marks = [0u32; 128];
+    let spare = [1u32; 128];
+    marks[n] + spare[n]
+}
+
+pub fn repeated(word: u32) -> u32 {
+    let words = [word; 63];
+    words[1]
+}
+
+pub fn of_elements(word: u32) -> u32 {
     let words = [word, 2, 3];
     words[1]
 }
 
-pub fn two(word: u32) -> u32 {
-    let mut marks = [0u32; 128];
-    let mut spare = [0u32; 128];
-    marks[0] = word;
-    spare[0] = word;
-    marks[1] + spare[1]
+pub fn assigned(word: u32) -> u32 {
+    let mut words = [1u32, 2, 3];
+    if words[1] == word {
+        words = [word, 5, 6];
+    }
+    words[1]
 }
 
-pub fn nested() -> u16 {
-    let words = [[0u16; 3]; 21];
+pub fn nested() -> bool {
+    let words = [[false; 3]; 21];
     words[0][0]
 }
 
@@ -181,9 +201,17 @@ pub fn passed(words: [u64; 63]) -> [u64; 63] {
     words
 }
 
+pub fn passed_on(word: u32) -> u32 {
+    lent(&[word; 63])
+}
+
 pub fn in_a_struct(length: usize) -> usize {
     let spare = Spare { words: [0; 63], length };
     spare.length
+}
+
+pub fn in_structs(marked: Marked) -> u32 {
+    marked.0
 }
 
 pub fn in_an_enum(kept: Kept) -> bool {
@@ -200,30 +228,45 @@ pub fn act(state: &mut [u32]) {
 }
 ";
 
-/// What the check is made of finds each of them.
+/// These functions, lowered from a repository of their own; nothing proves them.
+static KEPT: LazyLock<Functions> = LazyLock::new(|| {
+    let folder = Path::new(env!("CARGO_TARGET_TMPDIR")).join("arrays");
+    let source = folder.join("crates/kept/src");
+    fs::create_dir_all(&source).expect("a folder");
+    fs::write(folder.join("crates.txt"), "kept:\n").expect("a file");
+    fs::write(source.join("lib.rt"), SOURCE).expect("a file");
+    functions(&folder, "kept")
+});
+
+/// What the check is made of finds all of them, and tells apart whether they are made of constants.
 #[test]
 fn arrays_are_found_wherever_they_are_kept() {
-    let all = &KEPT;
     let wanted = [
+        ("Spare::first", "[u32; 63], [u32; 63]", true),
         ("act", "", true),
+        ("assigned", "[u32; 3]", true),
         ("copy", "", true),
-        ("in_a_struct", "[u32; 63], [u32; 63]", false),
-        ("in_an_enum", "[u32; 63], [u32; 63]", false),
+        ("in_a_struct", "[u32; 63], [u32; 63]", true),
+        ("in_an_enum", "[u32; 63], [u32; 63]", true),
+        ("in_structs", "[u32; 63]", false),
         ("leave", "[u32; 63]", true),
         ("lent", "", false),
-        ("listed", "[u32; 3]", false),
-        ("nested", "[[u16; 3]; 21], [u16; 3]", false),
-        ("passed", "[u64; 63], [u64; 63]", false),
-        ("two", "[u32; 128], [u32; 128]", true),
+        ("marks", "[u32; 128]", false),
+        ("nested", "[[bool; 3]; 21], [bool; 3]", true),
+        ("of_elements", "[u32; 3]", true),
+        ("passed", "[u64; 63], [u64; 63]", true),
+        ("passed_on", "[u32; 63]", true),
+        ("repeated", "[u32; 63]", true),
+        ("two", "[u32; 128], [u32; 128]", false),
     ];
     for (name, arrays, writes) in wanted {
-        let found = &all[&format!("kept::{name}")];
+        let found = &KEPT[&format!("kept::{name}")];
         let seen = (found.arrays.join(", "), found.writes);
         assert_eq!(seen, (arrays.to_string(), writes), "{name}");
     }
-    let names = all.keys().filter(|name| name.starts_with("kept::"));
+    let names = KEPT.keys().filter(|name| name.starts_with("kept::"));
     assert_eq!(names.count(), wanted.len());
-    assert_eq!(all["kept::act"].calls, ["kept::leave".to_string()].into());
+    assert_eq!(KEPT["kept::act"].calls, ["kept::leave".to_string()].into());
 }
 
 /// The check itself: of `act`, with the lists below.

@@ -1,7 +1,5 @@
 //! labs_load, labs_step and labs_run answer as the second implementation does. (labs_preview is in another file.)
 
-use std::collections::BTreeSet;
-
 use conformance::fleets::long_link;
 use conformance::rehearsal::word;
 use conformance::residuals::long_residuals;
@@ -18,6 +16,7 @@ use reference::state::{World, STATE_WORDS};
 use reference::stats::Tally;
 use reference::step::Step;
 use reference::table::MAX_NODES;
+use reference::term::{IDLE, MAX_WORDS, TICK};
 
 /// A stack on which chains of about 4,000 nodes are loaded, stepped and previewed.
 const SMALL_STACK: usize = 800 << 10;
@@ -186,26 +185,32 @@ fn writers_answer_as_the_reference_does() {
     }
 }
 
+/// The residual of the agent that acts in `long_residuals`.
+fn residual(state: &[u32]) -> &[u32] {
+    let length = word::residual_length(1);
+    &state[length + 1..][..state[length] as usize]
+}
+
 /// What an act leaves fills a residual's words up to the last, or the act is refused and nothing is written.
 #[test]
 fn long_residuals_answer_as_the_reference_does() {
-    let (mut seen, mut lengths) = (Tally::default(), BTreeSet::new());
+    let (mut seen, mut filled, mut joined) = (Tally::default(), 0, 0);
     for (i, case) in long_residuals().iter().enumerate() {
         let given = agreed(case, &format!("act {i}"));
         seen[given.refusal()] += 1;
-        if given.refusal() == 0 {
-            lengths.insert(given.state[word::residual_length(1)]);
-        } else {
+        if given.refusal() > 0 {
             assert!(given.state == case.state, "a refused act wrote the state");
         }
+        let (before, after) = (residual(&case.state), residual(&given.state));
+        filled += u32::from(before.len() < MAX_WORDS && after.len() == MAX_WORDS);
+        // A tick at the end joined: what stood before it moved, but for the operator of both.
+        let ended = (before.last(), after.last()) == (Some(&TICK), Some(&IDLE));
+        joined += u32::from(ended && after.len() > 50);
     }
+    let refused = [12, 13, 17].into_iter().all(|answer| seen[answer] > 0);
     assert!(
-        (51..=63).step_by(2).all(|length| lengths.contains(&length)),
-        "{lengths:?}"
-    );
-    assert!(
-        [12, 13, 17].into_iter().all(|answer| seen[answer] > 0),
-        "{seen:?}"
+        refused && filled > 0 && joined > 0,
+        "{seen:?} {filled} {joined}"
     );
 }
 
