@@ -19,7 +19,7 @@ const BESIDE: [Beside; 4] = [
     |part, other| Term::parallel(other, part),
 ];
 
-/// A part that has a derivation, a tick, or has none, of so many words, which is odd.
+/// A part of so many words, an odd number, that can tick or has no derivation.
 fn other(ticks: bool, words: usize) -> Term {
     let leaf = if ticks { Term::Tick } else { Term::Idle };
     (1..words)

@@ -5,14 +5,15 @@ use std::arch::asm;
 /// What the words of a stack hold before a call.
 const UNTOUCHED: u64 = 0x5bd1_e995_dead_beef;
 
-/// Bytes from the call down to the last word of the stack that it wrote.
+/// Bytes from a call down to the lowest word of its stack that it writes; the stack has so many words, which must be
+/// ample, as nothing stops a call below them.
 pub fn touched<F: FnMut()>(words: usize, mut work: F) -> usize {
     extern "C" fn enter<F: FnMut()>(work: &mut F) {
         work();
     }
     let mut stack = vec![UNTOUCHED; words & !1];
     let top = stack.as_mut_ptr_range().end as usize & !15;
-    // The call is made on that stack: r12 holds this one's place meanwhile, which a callee keeps.
+    // The call is made on that stack; r12, which a callee keeps, holds the place on this one meanwhile.
     unsafe {
         asm!(
             "xchg rsp, r12",

@@ -10,7 +10,7 @@ use reference::state::{Agent, World};
 use reference::step::Step;
 use reference::term::{Term, MAX_WORDS};
 
-/// Words of a stack that suffices.
+/// Words of a stack that is ten times what these acts take.
 const STACK: usize = 1 << 14;
 
 /// A fleet whose one agent has an act to do.
@@ -20,7 +20,7 @@ struct Acting {
 }
 
 impl Acting {
-    /// The process that these nodes end with.
+    /// It starts with the process that is built.
     fn process(build: impl FnOnce(&mut Draft) -> u16) -> Acting {
         let mut draft = Draft::new(1, 0);
         let start = build(&mut draft);
@@ -30,7 +30,7 @@ impl Acting {
         Acting { table, world }
     }
 
-    /// A residual around that process, which stands for a term.
+    /// Its residual is built around a write.
     fn residual(build: impl FnOnce(Term) -> Term) -> Acting {
         let mut acting = Acting::process(write);
         let agent = &mut acting.world.agents[0];
