@@ -13,6 +13,8 @@ pub struct Function {
     /// those behind a reference. In order, and each as often as it is held. An integer has no sign in this form and is
     /// shown as u8 to u64.
     pub arrays: Vec<String>,
+    /// How many of its parameters are lent to be written: `&mut`.
+    pub lent: usize,
     /// Whether it stores behind a pointer, to what is lent to it or to an array of its own, or puts more than constants
     /// into a local that holds an array.
     pub writes: bool,
@@ -110,7 +112,7 @@ impl<'p> Printed<'p> {
         }
     }
 
-    /// What stands for a declared name, and what is said of it.
+    /// A name and what is said of it.
     fn pair(&self) -> (&'p str, &Printed<'p>) {
         let ("pair", [name, of]) = self.parts() else {
             panic!("no pair: {}", self.name());
@@ -141,6 +143,16 @@ fn arrays_of(ty: &Printed, types: &Types) -> Vec<String> {
             arrays_of(declared.expect("a declared type"), types)
         }
         (other, _) => panic!("a type of an unknown form: {other}"),
+    }
+}
+
+/// Whether a type is a reference through which is written, or a slice, which holds one.
+fn is_mutable(ty: &Printed) -> bool {
+    match ty.parts() {
+        ("tyRef", [_, mutability, _]) => mutability.name() == "mut",
+        ("tyStruct", [_, parts]) => is_mutable(parts),
+        ("tcons", [first, rest]) => is_mutable(first) || is_mutable(rest),
+        _ => false,
     }
 }
 
@@ -221,19 +233,23 @@ fn function(definition: &Printed) -> (String, Function) {
     let ("fn-def", [name, item, declared @ ..]) = definition.parts() else {
         panic!("a definition of an unknown form: {}", definition.name());
     };
-    let ("fnItem", [_, _, _, locals, body]) = item.parts() else {
+    let ("fnItem", [_, _, parameters, locals, body]) = item.parts() else {
         panic!("an item of an unknown form: {}", item.name());
     };
+    let parameters: usize = parameters.name().parse().expect("a count");
     let declared = declared.iter().flat_map(Printed::items);
     let types: Types = declared.map(Printed::pair).collect();
     let mut lowered = Lowered {
         holding: Vec::new(),
         function: Function::default(),
     };
-    for local in locals.items() {
+    // The result is local 0, and the parameters follow.
+    for (number, local) in locals.items().into_iter().enumerate() {
         let ("local", [ty, _]) = local.parts() else {
             panic!("a local of an unknown form: {}", local.name());
         };
+        let parameter = (1..=parameters).contains(&number);
+        lowered.function.lent += usize::from(parameter && is_mutable(ty));
         let arrays = arrays_of(ty, &types);
         lowered.holding.push(!arrays.is_empty());
         lowered.function.arrays.extend(arrays);

@@ -112,17 +112,40 @@ fn compare_writers(all: &Functions, name: &str, listed: &Listed, lines: &mut Vec
     }
 }
 
+/// The library's functions.
+static LIBRARY: LazyLock<Functions> = LazyLock::new(|| functions(&root(), "rehearsal"));
+
 #[test]
 fn an_act_keeps_no_residual_in_an_array() {
-    let all = functions(&root(), "rehearsal");
     let list = listed(&text("docs/DECISIONS.md"));
-    let lines = differences(&all, &CALLS, &list);
+    let lines = differences(&LIBRARY, &CALLS, &list);
     assert!(
         lines.is_empty(),
         "No function that an act runs keeps words of a residual in an array of its own. docs/DECISIONS.md lists the \
          functions with their arrays, and what each array holds.\n{}",
         lines.join("\n")
     );
+}
+
+/// Once a table is accepted and a state is well formed, these two do a step: the first is lent nothing to write, and the
+/// second the state alone.
+const STEP: [(&str, usize); 2] = [
+    ("machine::checking::judge_step", 0),
+    ("machine::stepping::finish", 1),
+];
+
+#[test]
+fn an_act_is_lent_nothing_to_write_but_the_state() {
+    for (name, lent) in STEP {
+        assert_eq!(LIBRARY[name].lent, lent, "{name}");
+    }
+    for by in [
+        "machine::stepping::step_in",
+        "machine::stepping::preview_in",
+    ] {
+        let calls = &LIBRARY[by].calls;
+        assert!(STEP.iter().all(|(name, _)| calls.contains(*name)), "{by}");
+    }
 }
 
 /// Functions that keep words in many ways, beside some that keep none.
@@ -264,6 +287,8 @@ fn arrays_are_found_wherever_they_are_kept() {
         let seen = (found.arrays.join(", "), found.writes);
         assert_eq!(seen, (arrays.to_string(), writes), "{name}");
     }
+    let lent = |name: &str| KEPT[&format!("kept::{name}")].lent;
+    assert_eq!(["act", "copy", "lent", "two"].map(lent), [1, 1, 0, 0]);
     let names = KEPT.keys().filter(|name| name.starts_with("kept::"));
     assert_eq!(names.count(), wanted.len());
     assert_eq!(KEPT["kept::act"].calls, ["kept::leave".to_string()].into());
