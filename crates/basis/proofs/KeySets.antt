@@ -94,6 +94,13 @@ has-plusIf w k false j = rw (and-false (eqb k j))
 pub has-plus-same : (w k : ℕ) → has (plus w k) k ≡ true
 has-plus-same w k = rw (has-plus w k k, eq-eqb k k refl)
 
+-- a key added twice
+pub plusIf-twice : (w k : ℕ) (a b : Bool) → plusIf (plusIf w k a) k b ≡ plusIf w k (a || b)
+unfolding plusIf plus
+plusIf-twice w k true true = rw (has-plus-same w k)
+plusIf-twice w k true false = refl
+plusIf-twice w k false b = refl
+
 pub has-plus-other : (w k j : ℕ) → (k ≡ j → ⊥) → has (plus w k) j ≡ has w j
 has-plus-other w k j d = rw (has-plus w k j, ne-eqb k j d)
 

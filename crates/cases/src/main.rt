@@ -1,6 +1,6 @@
 // Makes the calls on standard input (reference/README.md has their format) and prints a line for each: `done` with the
-// counts of done and refused steps and of taken entries, or `refused` with number and place; then a digest of the state
-// after the call and one of the answer buffer.
+// counts of done and refused steps and of entries taken, added and replaced, or `refused` with number and place; then a
+// digest of the state after the call and one of the answer buffer.
 mod calls; // calls.rt: load, step or run
 mod digests; // digests.rt: a digest of every word
 mod states; // states.rt: the state before the call
@@ -11,6 +11,7 @@ use calls::make_call;
 use digests::digest_bytes;
 use digests::digest_words;
 use machine::Ran;
+use machine::taken;
 use states::fill_bytes;
 use states::fill_words;
 use states::patch;
@@ -35,7 +36,9 @@ fn print_answer(answer: Ran) {
             io::write_all(OUTPUT, b"done");
             print_number(totals.done as u64);
             print_number(totals.refused as u64);
-            print_number(tally.taken as u64);
+            print_number(taken(tally) as u64);
+            print_number(tally.added as u64);
+            print_number(tally.replaced as u64);
         }
         Ran::Refused(number, place) => {
             io::write_all(OUTPUT, b"refused");

@@ -5,6 +5,8 @@ use mathlib.Core.Bool.{Bool, cond, not, _&&_, _||_}
 use mathlib.Core.Option.{Option, none, some}
 use lib.Dec.{eqb}
 use Rattle.value.specs.declared.Value.{Value}
+use Rattle.state.specs.declared.Insertion.{Insertion}
+use Rattle.state.specs.declared.Insertion.the-variants.{Add, Update, Discard}
 use Rattle.term.specs.Terms.{Term}
 
 infixl 60 _⟦_≔_⟧
@@ -57,8 +59,8 @@ _∖｛_｝ Z x = λ y. not (eqb x y) && Z y
 abbrev pub _∪_ : Keys → Keys → Keys
 _∪_ Z W = λ y. Z y || W y
 
--- TABLE 1. L ⊕ (x, e) is L′
-pub data Inserted (L : Stigmergy) (x : ℕ) (e : Entry) : Stigmergy → Type 0 where
-  add : L x ≡ none → Inserted L x e (L ⟦ x ≔ some e ⟧)
-  update : {f : Entry} → L x ≡ some f → f .time < e .time → Inserted L x e (L ⟦ x ≔ some e ⟧)
-  discard : {f : Entry} → L x ≡ some f → e .time ≤ f .time → Inserted L x e L
+-- TABLE 1. L ⊕ (x, e) is L′, by one of its rules; that the rule is told is change request 5's
+pub data Inserted (L : Stigmergy) (x : ℕ) (e : Entry) : Insertion → Stigmergy → Type 0 where
+  add : L x ≡ none → Inserted L x e Add (L ⟦ x ≔ some e ⟧)
+  update : {f : Entry} → L x ≡ some f → f .time < e .time → Inserted L x e Update (L ⟦ x ≔ some e ⟧)
+  discard : {f : Entry} → L x ≡ some f → e .time ≤ f .time → Inserted L x e Discard L

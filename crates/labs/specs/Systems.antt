@@ -7,6 +7,8 @@ use mathlib.Core.Path.{_≡_}
 use mathlib.Core.List.{List, [], _∷_}
 use Rattle.value.specs.declared.Value.the-variants.{Present}
 use Rattle.table.specs.Tables.{Table}
+use Rattle.state.specs.declared.Insertion.{Insertion}
+use Rattle.state.specs.declared.Insertion.the-variants.{Discard}
 use Rattle.term.specs.declared.Label.the-variants.{Ticking, Acting}
 use Rattle.term.specs.Terms.{Term}
 use Rattle.term.specs.Processes.{Derivation, derivation}
@@ -68,8 +70,8 @@ pub data Acts (t : Table) (E : Interface) (T n : ℕ) (a : Agent) (d : Derivatio
   EPSILON : {a′ : Agent} → Wills t a d ε a′ → Await t E a (d .guards) → Acts t E T n a d E T (awaited t a (d .guards) a′)
   EVAL-I : {e : Expr} {x : ℕ} {a′ : Agent} (v : ℕ) → Wills t a d (e ▹ attribute x) a′ → Await t E a (d .guards) → E⟦ e ⟧ alone E a ⇓ v →
       Acts t E T n a d E T (awaited t a (d .guards) ⟨ a′ .I ⟦ x ≔ Present v ⟧ ⸴ a′ .L ⸴ a′ .P ⸴ a′ .Zc ⸴ a′ .Zp ⟩)
-  EVAL-L : {e : Expr} {x : ℕ} {a′ : Agent} {L′ : Stigmergy} (v : ℕ) → Wills t a d (e ▹ stigmergy x) a′ → Await t E a (d .guards) → E⟦ e ⟧ alone E a ⇓ v →
-      Inserted (a′ .L) x (record { value = v; time = suc T; writer = n }) L′ →
+  EVAL-L : {e : Expr} {x : ℕ} {a′ : Agent} {rule : Insertion} {L′ : Stigmergy} (v : ℕ) → Wills t a d (e ▹ stigmergy x) a′ → Await t E a (d .guards) → E⟦ e ⟧ alone E a ⇓ v →
+      Inserted (a′ .L) x (record { value = v; time = suc T; writer = n }) rule L′ →
       Acts t E T n a d E (suc T) (awaited t a (d .guards) ⟨ a′ .I ⸴ L′ ⸴ a′ .P ⸴ a′ .Zc ⸴ a′ .Zp ∪｛ x ｝ ⟩)
   EVAL-E : {e : Expr} {x : ℕ} {a′ : Agent} (v : ℕ) → Wills t a d (e ▹ environment x) a′ → Await t E a (d .guards) → E⟦ e ⟧ alone E a ⇓ v →
       Acts t E T n a d (E ⟦ x ≔ Present v ⟧) T (awaited t a (d .guards) a′)
@@ -118,26 +120,26 @@ between S x y = record { E = S .E; sender = S .agent x; receiver = S .agent y }
 abbrev pub Linked : Table → Interface → Message → Agent → Type 0
 Linked t E m a = record { E = E; sender = m .sender; receiver = a } ⊨ φ t (m .x)
 
--- `Receives t E m a took a′`: message m makes another agent a into a′, which took the entry or did not. Table 8 as printed labels
+-- `Receives t E m a rule a′`: message m makes another agent a into a′, by this rule of Table 1; Discard where no entry is inserted. Table 8 as printed labels
 -- PUT's conclusion qry, prints QRY₁ in QRY₂'s place, and has neither that a is linked nor that its entry is older or newer: these are from
 -- 2.3's prose and from the paper
-pub data Receives (t : Table) (E : Interface) (m : Message) (a : Agent) : Bool → Agent → Type 0 where
-  PUT : {L′ : Stigmergy} → m .kind ≡ put → Linked t E m a → Older (a .L (m .x)) (m .entry .time) → Inserted (a .L) (m .x) (m .entry) L′ →
-      Receives t E m a true ⟨ a .I ⸴ L′ ⸴ a .P ⸴ a .Zc ∖｛ m .x ｝ ⸴ a .Zp ∪｛ m .x ｝ ⟩
-  QRY₁ : {L′ : Stigmergy} → m .kind ≡ qry → Linked t E m a → Older (a .L (m .x)) (m .entry .time) → Inserted (a .L) (m .x) (m .entry) L′ →
-      Receives t E m a true ⟨ a .I ⸴ L′ ⸴ a .P ⸴ a .Zc ∖｛ m .x ｝ ⸴ a .Zp ∪｛ m .x ｝ ⟩
+pub data Receives (t : Table) (E : Interface) (m : Message) (a : Agent) : Insertion → Agent → Type 0 where
+  PUT : {rule : Insertion} {L′ : Stigmergy} → m .kind ≡ put → Linked t E m a → Older (a .L (m .x)) (m .entry .time) → Inserted (a .L) (m .x) (m .entry) rule L′ →
+      Receives t E m a rule ⟨ a .I ⸴ L′ ⸴ a .P ⸴ a .Zc ∖｛ m .x ｝ ⸴ a .Zp ∪｛ m .x ｝ ⟩
+  QRY₁ : {rule : Insertion} {L′ : Stigmergy} → m .kind ≡ qry → Linked t E m a → Older (a .L (m .x)) (m .entry .time) → Inserted (a .L) (m .x) (m .entry) rule L′ →
+      Receives t E m a rule ⟨ a .I ⸴ L′ ⸴ a .P ⸴ a .Zc ∖｛ m .x ｝ ⸴ a .Zp ∪｛ m .x ｝ ⟩
   QRY₂ : m .kind ≡ qry → Linked t E m a → Newer (a .L (m .x)) (m .entry .time) →
-      Receives t E m a false ⟨ a .I ⸴ a .L ⸴ a .P ⸴ a .Zc ⸴ a .Zp ∪｛ m .x ｝ ⟩
+      Receives t E m a Discard ⟨ a .I ⸴ a .L ⸴ a .P ⸴ a .Zc ⸴ a .Zp ∪｛ m .x ｝ ⟩
   -- Table 8 prints no rule for an agent that none above reaches: it stays as it is
   STAY : (Linked t E m a → Older (a .L (m .x)) (m .entry .time) → ⊥) →
-      (m .kind ≡ qry → Linked t E m a → Newer (a .L (m .x)) (m .entry .time) → ⊥) → Receives t E m a false a
+      (m .kind ≡ qry → Linked t E m a → Newer (a .L (m .x)) (m .entry .time) → ⊥) → Receives t E m a Discard a
 
--- MSG: agent x sends a message on key k, every other agent receives it, and the environment and the clock stay; `took` tells who took the entry
-pub record Passed (t : Table) (agents x : ℕ) (kind : Kind) (k : ℕ) (took : ℕ → Bool) (S S′ : System) : Type 0 where
+-- MSG: agent x sends a message on key k, every other agent receives it, and the environment and the clock stay; `rule` tells how each inserted the entry
+pub record Passed (t : Table) (agents x : ℕ) (kind : Kind) (k : ℕ) (rule : ℕ → Insertion) (S S′ : System) : Type 0 where
   pub there : x < agents
   pub entry : Entry
   pub sends : Sends (S .agent x) (message kind (S .agent x) k entry) (S′ .agent x)
-  pub itself : took x ≡ false
-  pub receives : (y : ℕ) → y < agents → (y ≡ x → ⊥) → Receives t (S .E) (message kind (S .agent x) k entry) (S .agent y) (took y) (S′ .agent y)
+  pub itself : rule x ≡ Discard
+  pub receives : (y : ℕ) → y < agents → (y ≡ x → ⊥) → Receives t (S .E) (message kind (S .agent x) k entry) (S .agent y) (rule y) (S′ .agent y)
   pub environment-stays : S′ .E ≡ S .E
   pub clock-stays : S′ .clock ≡ S .clock

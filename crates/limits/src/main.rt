@@ -83,7 +83,7 @@ fn all_done(answer: Ran, steps: usize) -> usize
     ensures { λ r. ⌜ r ≤ 1 ⌝ }
 {
     match answer {
-        Ran::Done(totals) => { if totals.done == steps { 1 } else { 0 } }
+        Ran::Done(totals) => { if totals.done as usize == steps { 1 } else { 0 } }
         Ran::Refused(_, _) => 0,
     }
 }

@@ -46,8 +46,8 @@ fleet clock = setClock clock (set (replicate stateWords 0) agentsAt 2)
 abbrev paper : List ℕ
 paper = putEntry 0 0 (entry 7 1 0) (put (Attributes 1) 0 7 1 (putEntry 1 0 (entry 7 1 0) (fleet 1)))
 
-pub papers : shown (record { check = passes; progress = record { state = paper; answers = []; done = 5; refused = 2; tally = tally 1 } })
-    ≡ ascii "done 5 refused 2 taken 1\nclock 1\ns 0 0 7 1 0\na 1 0 7\ns 1 0 7 1 0\n"
+pub papers : shown (record { check = passes; progress = record { state = paper; answers = []; done = 5; refused = 2; tally = tally 1 0 } })
+    ≡ ascii "done 5 refused 2 taken 1 added 1 replaced 0\nclock 1\ns 0 0 7 1 0\na 1 0 7\ns 1 0 7 1 0\n"
 unfolding computing
 papers = refl
 

@@ -27,12 +27,15 @@ use Rattle.lines.specs.Sizes.{totalsBytes, clockBytes, environmentBytes,
 use Rattle.lines.proofs.Decimal.{decimal-few, value-low, value-high}
 use Rattle.lines.proofs.Writing.{line-size}
 
--- NUMBERS: of 64 bits, words, and words as values
+-- NUMBERS: of 64 bits, words, sums of two, and words as values
 count : (n : ℕ) → n < 2 ^ 64 → length (decimal n) ≤ 20
 count n h = decimal-few 19 n (omega arith)
 
 word : (n : ℕ) → n < 2 ^ 32 → length (decimal n) ≤ 10
 word n h = decimal-few 9 n (omega arith)
+
+sum : (m n : ℕ) → m < 2 ^ 32 → n < 2 ^ 32 → length (decimal (m + n)) ≤ 10
+sum m n h k = decimal-few 9 (m + n) (omega arith)
 
 signed : (w : ℕ) → w < 2 ^ 32 → length (value w) ≤ 11
 signed w h =
@@ -41,13 +44,23 @@ signed w h =
 
 -- LINES. A refusal is all that is printed of it
 pub record Counts (t : Totals) : Type 0 where
-  pub done : t .done < 2 ^ 64
-  pub refused : t .refused < 2 ^ 64
-  pub taken : t .tally .taken < 2 ^ 64
+  pub done : t .done < 2 ^ 32
+  pub refused : t .refused < 2 ^ 32
+  pub added : t .tally .added < 2 ^ 32
+  pub replaced : t .tally .replaced < 2 ^ 32
 
 totals-fit : (t : Totals) → Counts t → length (totalsLine t) ≤ totalsBytes
 unfolding totalsLine
-totals-fit t c = simp line-size (omega (arith, count (t .done) (c .done), count (t .refused) (c .refused), count (t .tally .taken) (c .taken)))
+totals-fit t c =
+    simp line-size
+    (omega (
+      arith,
+      word (t .done) (c .done),
+      word (t .refused) (c .refused),
+      sum (t .tally .added) (t .tally .replaced) (c .added) (c .replaced),
+      word (t .tally .added) (c .added),
+      word (t .tally .replaced) (c .replaced),
+    ))
 
 pub refusal-fits : (number place : ℕ) → number < 2 ^ 64 → place < 2 ^ 64 → length (refusedLine number place) ≤ shownBytes
 unfolding refusedLine
@@ -130,7 +143,7 @@ module _ (s : List ℕ) (words : (i : ℕ) → getD s i 0 < 2 ^ 32) where
   pub done-fits : (t : Totals) → Counts t → getD s agentsAt 0 ≤ agentLimit → length (totalsLine t) + length (stateLines s) ≤ shownBytes
   done-fits t c h = omega (arith, totals-fit t c, state-fits h)
 
--- WHAT IS PRINTED of a rehearsal: a refusal, and totals, of 64 bits; words of 32 bits, and at most 32 agents
+-- WHAT IS PRINTED of a rehearsal: a refusal of 64 bits; totals and words of 32 bits, and at most 32 agents
 pub record Bounded (o : Rehearsal) : Type 0 where
   pub refusal : (number place : ℕ) → o .check ≡ refuses number place → (number < 2 ^ 64) × (place < 2 ^ 64)
   pub counts : Counts (totalsOf (o .progress))

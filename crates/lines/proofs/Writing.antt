@@ -74,7 +74,7 @@ abbrev pub sizes : List (List ℕ) → ℕ
 sizes [] = 1
 sizes (part ∷ parts) = suc (length part) + sizes parts
 
-spaced-size : (parts : List (List ℕ)) → length (spaced parts) ≡ sizes parts
+pub spaced-size : (parts : List (List ℕ)) → length (spaced parts) ≡ sizes parts
 unfolding spaced
 spaced-size [] = refl
 spaced-size (part ∷ parts) = ap suc (length-append part (spaced parts)) ∙ ap (λ (n : ℕ). suc (length part + n)) (spaced-size parts) ∙ omega arith

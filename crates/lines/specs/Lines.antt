@@ -12,6 +12,8 @@ use Rattle.state.specs.declared.Store.the-variants.{Environment, Attributes, En
 use Rattle.state.specs.declared.Entry.{Entry}
 use Rattle.state.specs.Layout.{keyLimit, agentsAt, valueIn, zcOf, zpOf}
 use Rattle.state.specs.Entries.{entryOf, clockOf}
+use Rattle.steps.specs.declared.Tally.{Tally}
+use Rattle.steps.specs.Tallies.{taken}
 use Rattle.steps.specs.Runs.{Rehearsal}
 use Rattle.machine.specs.declared.Totals.{Totals}
 use Rattle.machine.specs.Answers.{totalsOf}
@@ -21,11 +23,13 @@ use Rattle.lines.specs.Text.{ascii, decimal, signedDecimal, line, eachBe
 abbrev pub value : ℕ → List ℕ
 value word = signedDecimal (signedOf word)
 
--- `done D refused R taken T`
+-- `taken T added M replaced R`, at the end of the first line
+abbrev pub tallyParts : Tally → List (List ℕ)
+tallyParts c = ascii "taken" ∷ decimal (taken c) ∷ ascii "added" ∷ decimal (c .added) ∷ ascii "replaced" ∷ decimal (c .replaced) ∷ []
+
+-- `done D refused R`, and then what the steps count
 unfoldable pub totalsLine : Totals → List ℕ
-totalsLine t =
-    line (ascii "done")
-    (decimal (t .done) ∷ ascii "refused" ∷ decimal (t .refused) ∷ ascii "taken" ∷ decimal (t .tally .taken) ∷ [])
+totalsLine t = line (ascii "done") (decimal (t .done) ∷ ascii "refused" ∷ decimal (t .refused) ∷ tallyParts (t .tally))
 
 -- `refused number place`
 unfoldable pub refusedLine : ℕ → ℕ → List ℕ

@@ -2,19 +2,16 @@
 use Prim.Native.Nat.{ℕ, _+_, _*_}
 use Rattle.state.specs.Layout.{agentLimit, keyLimit}
 
--- a space and the digits of a word; of a value, which may have a sign; of a count
+-- a space and the digits of a word, or of the sum of two; of a value, which may have a sign
 abbrev pub wordBytes : ℕ
 wordBytes = 1 + 10
 
 abbrev pub valueBytes : ℕ
 valueBytes = 1 + 11
 
-abbrev pub countBytes : ℕ
-countBytes = 1 + 20
-
 -- lines: their names, numbers and newline
 abbrev pub totalsBytes : ℕ
-totalsBytes = 4 + countBytes + 8 + countBytes + 6 + countBytes + 1
+totalsBytes = 4 + wordBytes + 8 + wordBytes + 6 + wordBytes + 6 + wordBytes + 9 + wordBytes + 1
 
 abbrev pub clockBytes : ℕ
 clockBytes = 5 + wordBytes + 1

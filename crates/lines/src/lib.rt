@@ -11,7 +11,7 @@ ghost use mathlib.Core.Path.{_≡_};
 ghost use lib.ListN.{length};
 ghost use Rattle.lines.specs.Sizes.{shownBytes};
 
-const SHOWN_BYTES: usize = 73203;
+const SHOWN_BYTES: usize = 73210;
 
 // As many bytes as suffice for all that is printed.
 pub fn output_buffer() -> [u8; SHOWN_BYTES]

@@ -4,19 +4,31 @@ use crate::text::put_named;
 use crate::text::put_number;
 use crate::text::put_value;
 use machine::Totals;
+use machine::taken;
 use state::Entry;
-ghost use Rattle.lines.specs.Lines.{totalsLine, refusedLine, clockLine, environmentLine, attributeLine, entryLine, pendingLine};
+use steps::Tally;
+ghost use Rattle.lines.specs.Text.{spaced};
+ghost use Rattle.lines.specs.Lines.{tallyParts, totalsLine, refusedLine, clockLine, environmentLine, attributeLine, entryLine, pendingLine};
 ghost use Rattle.lines.specs.Writing.{Room, Wrote};
+
+// The end of the first line: how often an entry was taken, added and replaced.
+fn tally_end(tally: Tally, out: &mut [u8], at: usize) -> usize
+    requires { ⌜ Room (spaced (tallyParts tally)) at (now out) ⌝ }
+    ensures { λ r. ⌜ Wrote (spaced (tallyParts tally)) at (now (out .entry)) (now (out .exit)) r ⌝ }
+{
+    let next = put_named(b" taken", taken(tally), out, at);
+    let next = put_named(b" added", tally.added as usize, out, next);
+    let next = put_named(b" replaced", tally.replaced as usize, out, next);
+    end_line(out, next)
+}
 
 pub fn totals_line(totals: Totals, out: &mut [u8], at: usize) -> usize
     requires { ⌜ Room (totalsLine totals) at (now out) ⌝ }
     ensures { λ r. ⌜ Wrote (totalsLine totals) at (now (out .entry)) (now (out .exit)) r ⌝ }
 {
-    let tally = totals.tally;
-    let next = put_named(b"done", totals.done, out, at);
-    let next = put_named(b" refused", totals.refused, out, next);
-    let next = put_named(b" taken", tally.taken, out, next);
-    end_line(out, next)
+    let next = put_named(b"done", totals.done as usize, out, at);
+    let next = put_named(b" refused", totals.refused as usize, out, next);
+    tally_end(totals.tally, out, next)
 }
 
 pub fn refused_line(number: u8, place: usize, out: &mut [u8], at: usize) -> usize

@@ -13,7 +13,9 @@ use stepping::step_in;
 use steps::Tally;
 use term::Label;
 use wellformed::write_loaded;
+ghost use mathlib.Core.Path.{_≡_};
 ghost use lib.ListN.{length};
+ghost use Rattle.steps.specs.Tallies.{taken as takenOf};
 ghost use Rattle.steps.specs.Steps.{loadOf, stepOf};
 ghost use Rattle.steps.specs.Previews.{previewOf};
 ghost use Rattle.steps.specs.Runs.{runOf};
@@ -47,9 +49,16 @@ enum Scheduled {
 
 // How many steps of a run were done and refused, and what they count.
 pub struct Totals {
-    pub done: usize,
-    pub refused: usize,
+    pub done: u32,
+    pub refused: u32,
     pub tally: Tally,
+}
+
+// How many agents took an entry, by the tally of a step or of a run.
+pub fn taken(tally: Tally) -> usize
+    ensures { λ r. ⌜ r ≡ takenOf tally ⌝ }
+{
+    tally.added as usize + tally.replaced as usize
 }
 
 // What a run answers: its totals, or the refusal and its place.

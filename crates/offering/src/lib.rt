@@ -18,13 +18,6 @@ ghost use Rattle.state.specs.Standing.{Standing};
 ghost use Rattle.steps.specs.Offers.{offerTally, sent};
 ghost use Rattle.offering.specs.Passing.{Passing, Passed};
 
-// Sets of agents whom an offer could touch: those with an older entry, who may take it, and in a confirm those who hold
-// a newer one.
-struct Receivers {
-    takers: u32,
-    holders: u32,
-}
-
 // The set that a step takes its key from: Zc for a confirm, else Zp.
 pub fn pending_at(agent: usize, confirming: bool) -> usize
     requires { ⌜ agent < agentLimit ⌝ }

@@ -1,6 +1,5 @@
 // An agent's entry offered to all others: who could be touched, whom of them the link reaches, and then what is
 // written.
-use crate::Receivers;
 use crate::responses::add_tally;
 use crate::responses::no_tally;
 use crate::responses::respond;
@@ -12,14 +11,15 @@ use state::entry_of;
 use state::newer;
 use steps::Tally;
 use table::Sizes;
+ghost use mathlib.Core.Path.{_≡_};
 ghost use Prim.Native.Nat.{_≤_};
 ghost use Rattle.table.specs.Tables.{table, agentLimit};
 ghost use Rattle.state.specs.declared.Store.the-variants.{Entries};
 ghost use Rattle.state.specs.Standing.{Pair, HasBlocks};
 ghost use Rattle.steps.specs.Offers.{offerTally, offered};
-ghost use Rattle.offering.specs.Passing.{Passing, Passed, Touched};
+ghost use Rattle.offering.specs.Passing.{Passing, Passed, touched};
 
-// The agents whom an offer could touch.
+// The agents whom an offer could touch: those with an older entry, and in a confirm those with a newer one.
 fn receivers(
     state: &[u32],
     agents: usize,
@@ -27,21 +27,20 @@ fn receivers(
     key: usize,
     counts: bool,
     confirming: bool,
-) -> Receivers
+) -> u32
     requires { ⌜ HasBlocks (now state) × (agents ≤ agentLimit) × Pair (Entries agent) key ⌝ }
-    ensures { λ r. ⌜ Touched (now (state .entry)) agent key counts confirming agents r ⌝ }
+    ensures { λ r. ⌜ r ≡ touched (now (state .entry)) agent key counts confirming agents ⌝ }
 {
     let mine = entry_of(state, agent, key);
-    let mut takers = 0;
-    let mut holders = 0;
+    let mut touched = 0;
     let mut other = 0;
     while other < agents {
         let theirs = entry_of(state, other, key);
-        takers = plus_if(takers, other, counts & newer(mine, theirs));
-        holders = plus_if(holders, other, counts & confirming & newer(theirs, mine));
+        touched = plus_if(touched, other, counts & newer(mine, theirs));
+        touched = plus_if(touched, other, counts & confirming & newer(theirs, mine));
         other += 1;
     }
-    Receivers { takers, holders }
+    touched
 }
 
 // Offers an agent's entry to every other: what the responses count. The link is judged once, before anything is
@@ -59,8 +58,7 @@ pub fn offer_all(
     requires { ⌜ Passing (table sizes (now kinds) (now operands)) (now state) agent key ⌝ }
     ensures { λ r. ⌜ Passed (offerTally (table sizes (now (kinds .entry)) (now (operands .entry))) (now (state .entry)) agent key counts (sizes .agents)) (offered (table sizes (now (kinds .entry)) (now (operands .entry))) (now (state .entry)) agent key counts confirming (sizes .agents)) r (now (state .exit)) ⌝ }
 {
-    let touched = receivers(state, sizes.agents, agent, key, counts, confirming);
-    let asked = touched.takers | touched.holders;
+    let asked = receivers(state, sizes.agents, agent, key, counts, confirming);
     let mut tally = no_tally();
     if asked == 0 {
         return tally;
@@ -69,7 +67,7 @@ pub fn offer_all(
     let entry = entry_of(state, agent, key);
     let mut other = 0;
     while other < sizes.agents {
-        let response = respond(linked, touched.takers, other);
+        let response = respond(state, linked, key, entry, other);
         write_response(state, key, entry, other, response);
         tally = add_tally(tally, tally_of(response));
         other += 1;

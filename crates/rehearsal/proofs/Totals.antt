@@ -1,31 +1,17 @@
--- What is reported is small: a step counts each of at most 32 agents once, and a run has at most 8,192 steps.
+-- What a step reports is small: it counts each of at most 32 agents once.
 -- Assumes nothing.
 use Prim.Native.Nat.{ℕ}
 use mathlib.Core.Bool.{Bool, true}
 use mathlib.Core.Path.{_≡_, refl}
 use mathlib.Core.List.{List}
-use native.Mathlib.Omega.{arith}
 use Rattle.table.specs.Checks.{Check, passes, refuses, firstOf}
 use Rattle.table.specs.Tables.{tableOf}
-use Rattle.table.proofs.Checks.{append-passes}
 use Rattle.state.specs.Layout.{isWhole}
-use Rattle.steps.specs.Steps.{stateChecksWith, stateChecks, stepWith, stepOf}
+use Rattle.steps.specs.Steps.{stateChecksWith, stepWith, stepOf}
 use Rattle.steps.specs.Previews.{previewOf}
-use Rattle.steps.specs.Runs.{stepLimit, stepsOf, scheduleChecks, runOf}
-use Rattle.steps.proofs.Steps.{checks-with, state-checks, with-in, with-stopped}
-use Rattle.steps.proofs.Schedules.{schedule-checks}
+use Rattle.steps.proofs.Steps.{checks-with, with-in, with-stopped}
 use Rattle.offering.specs.Passing.{TallyWithin}
-use Rattle.machine.specs.Answers.{totalsOf}
-use Rattle.machine.specs.Running.{TotalsWithin}
-use Rattle.machine.proofs.Sums.{none-within, outcome-within, ran-within, within-more, step-within as in-within}
-
-module _ (bytes was : List ℕ) (scratch : ℕ) (schedule answers : List ℕ) where
-  pub run-within : runOf bytes was scratch schedule answers .check ≡ passes → TotalsWithin stepLimit (totalsOf (runOf bytes was scratch schedule answers .progress))
-  unfolding runOf
-  run-within e =
-      let w = append-passes (stateChecks bytes was scratch) (scheduleChecks schedule answers) e in
-      let few = state-checks bytes was scratch .0 (w .0) .0 .table .sound .shaped .limits .agents in
-      rw (runOf, e) (within-more _ (stepsOf schedule) stepLimit (schedule-checks schedule answers .0 (w .1) .1) (ran-within (tableOf bytes) few schedule was answers (stepsOf schedule)))
+use Rattle.machine.proofs.Sums.{none-within, outcome-within, step-within as in-within}
 
 with-within : (othersFit : Bool) (bytes was : List ℕ) (scratch kind x number : ℕ) → TallyWithin 1 (stepWith othersFit bytes was scratch kind x number .tally)
 with-within othersFit bytes was scratch kind x number = by (firstOf (stateChecksWith othersFit bytes was scratch)) refl

@@ -1,68 +1,64 @@
--- Nothing is lost in packing: the number tells whether a call was refused, and with what number and place, or else what it reports.
+-- Nothing is lost in packing: what a caller reads off the number is what the call came to.
 -- Assumes nothing.
-use Prim.Native.Nat.{ℕ, _+_, _*_, _^_, _<_, _≤_}
-use mathlib.Core.Bool.{true}
-use mathlib.Core.Logic.{⊎-elim}
-use mathlib.Core.Path.{_≡_, refl}
-use mathlib.Core.List.{List}
-use native.Mathlib.Nat.{mul-suc, mul-le-mul-left}
+use Prim.Native.Nat.{ℕ, _+_, _*_, _/_, _%_, _^_, _<_, _≤_}
+use mathlib.Core.Path.{_≡_, refl, ap, _∙_}
+use mathlib.Core.List.{List, [], _∷_}
 use native.Mathlib.Omega.{arith}
-use Rattle.basis.proofs.Tests.{lt-or-le}
-use Rattle.table.specs.Checks.{Check, passes, refuses, passed}
-use Rattle.steps.specs.Steps.{stepOf}
-use Rattle.steps.specs.Previews.{previewOf}
-use Rattle.steps.specs.Runs.{stepLimit, runOf}
+use lib.ListN.{length}
+use borrow.Author.Tests.{lt-ltb, le-ltb}
+use Rattle.table.specs.Checks.{Check, passes, refuses}
+use Rattle.steps.specs.declared.Tally.{Tally}
+use Rattle.steps.specs.Tallies.{tally}
+use Rattle.steps.specs.Steps.{Outcome}
+use Rattle.offering.specs.Passing.{TallyWithin}
 use Rattle.machine.specs.declared.Totals.{Totals}
-use Rattle.machine.specs.Running.{TotalsWithin}
-use Rattle.rehearsal.specs.Packing.{packed, packedTotals, reportOf}
-use Rattle.rehearsal.proofs.Places.{Near}
-use Rattle.rehearsal.proofs.Totals.{step-within, preview-within, run-within}
+use Rattle.rehearsal.specs.Results.{written, totalNumbers}
+use Rattle.rehearsal.specs.Packing.{packed, packedTally}
+use Rattle.rehearsal.specs.Unpacking.{checkIn, tallyIn, totalsIn, Told, Nothing-lost}
+use Rattle.rehearsal.proofs.Places.{Near, load-near, step-near, preview-near, run-near}
+use Rattle.rehearsal.proofs.Totals.{step-within, preview-within}
 
--- two numbers of an upper part and a lower one, which is below w
-not-less : (w c d k : ℕ) → k < w → w * d ≤ w * c + k → c < d → ⊥
-not-less w c d k l e h = let f = mul-le-mul-left w h in let g = mul-suc w c in omega arith
+-- a check, with a report below 2^63
+check-told : (c : Check) → Near c → (report : ℕ) → report < 2 ^ 63 → checkIn (packed c report) ≡ c
+check-told passes l report small = rw (lt-ltb report (2 ^ 63) small)
+check-told (refuses number place) l report small =
+    let n : ℕ = 2 ^ 63 + 65536 * place + number in
+    let a : n % 65536 ≡ number = omega (arith, l .number, l .place) in
+    let b : n % 2 ^ 63 / 65536 ≡ place = omega (arith, l .number, l .place) in
+    rw (le-ltb n (2 ^ 63) (omega arith)) (λ i. refuses (a i) (b i))
 
-same-upper : (w a b m n : ℕ) → m < w → n < w → w * a + m ≡ w * b + n → a ≡ b
-same-upper w a b m n l k e =
-    ⊎-elim (λ (h : a < b). absurd (not-less w a b m l (omega arith) h))
-    (λ (h : b ≤ a). ⊎-elim (λ (g : b < a). absurd (not-less w b a n k (omega arith) g)) (λ (g : a ≤ b). omega arith) (lt-or-le b a)) (lt-or-le a b)
+-- both counts
+tally-told : (c : Tally) → TallyWithin 1 c → tallyIn (packedTally c) ≡ c
+tally-told c w =
+    let a : packedTally c % 65536 ≡ c .added = omega (arith, w .added, w .replaced) in
+    let q : packedTally c / 65536 ≡ c .replaced = omega (arith, w .added, w .replaced) in
+    let r : c .replaced % 65536 ≡ c .replaced = omega (arith, w .replaced) in
+    let b : packedTally c / 65536 % 65536 ≡ c .replaced = ap (λ (n : ℕ). n % 65536) q ∙ r in
+    (λ i. tally (a i) (b i))
 
--- a refusal
-module _ {number place other at : ℕ} (l : Near (refuses number place)) (k : Near (refuses other at)) (e : 2 ^ 63 + 65536 * place + number ≡ 2 ^ 63 + 65536 * at + other) where
-  same-place : place ≡ at
-  same-place = let f = l .number in let g = k .number in same-upper 65536 place at number other (omega arith) (omega arith) (omega arith)
+-- a step, or its preview
+step-told : (o : Outcome) → Near (o .check) → TallyWithin 1 (o .tally) → Told o
+step-told o l w =
+    record {
+      check = check-told (o .check) l (packedTally (o .tally)) (omega (arith, w .added, w .replaced));
+      counts = λ e. ap (λ (c : Check). tallyIn (packed c (packedTally (o .tally)))) e ∙ tally-told (o .tally) w;
+    }
 
-  same-number : number ≡ other
-  same-number = let f = same-place in omega arith
+-- the totals of a run
+totals-told : (c : Totals) (lent : List ℕ) → 4 ≤ length lent → totalsIn (written (totalNumbers c) lent) ≡ c
+totals-told c [] h = absurd (omega arith)
+totals-told c (a ∷ []) h = absurd (omega arith)
+totals-told c (a ∷ b ∷ []) h = absurd (omega arith)
+totals-told c (a ∷ b ∷ d ∷ []) h = absurd (omega arith)
+totals-told c (a ∷ b ∷ d ∷ e ∷ lent) h = refl
 
--- two calls that answer the same number
-pub told : (c d : Check) → Near c → Near d → (m n : ℕ) → m < 2 ^ 63 → n < 2 ^ 63 → packed c m ≡ packed d n → (c ≡ d) × (passed c ≡ true → m ≡ n)
-told passes passes p q m n l k e = (refl, λ h. e)
-told passes (refuses other at) p q m n l k e = absurd (omega arith)
-told (refuses number place) passes p q m n l k e = absurd (omega arith)
-told (refuses number place) (refuses other at) p q m n l k e = (λ i. refuses (same-number p q e i) (same-place p q e i), λ h. absurd (let z : _≡_ {A = ℕ} 0 1 = cc in omega arith))
-
--- what they report is below 2^63, as `told` asks
-module _ (bytes was : List ℕ) (scratch : ℕ) where
-  pub step-report : (kind x number : ℕ) → stepOf bytes was scratch kind x number .tally .taken < 2 ^ 63
-  step-report kind x number = omega (arith, step-within bytes was scratch kind x number .taken)
-
-  pub preview-report : (kind x number : ℕ) (next : List ℕ) → previewOf bytes was scratch kind x number next .tally .taken < 2 ^ 63
-  preview-report kind x number next = omega (arith, preview-within bytes was scratch kind x number next .taken)
-
-  pub run-report : (schedule answers : List ℕ) → runOf bytes was scratch schedule answers .check ≡ passes → reportOf (runOf bytes was scratch schedule answers .progress) < 2 ^ 63
-  run-report schedule answers e = let w = run-within bytes was scratch schedule answers e in omega (arith, w .done, w .refused, w .tally .taken)
-
--- two runs that report the same number
-module _ (c d : Totals) (v : TotalsWithin stepLimit c) (w : TotalsWithin stepLimit d) (e : packedTotals c ≡ packedTotals d) where
-  same-taken : c .tally .taken ≡ d .tally .taken
-  same-taken =
-      same-upper (2 ^ 32) (c .tally .taken) (d .tally .taken) (c .done + 65536 * c .refused) (d .done + 65536 * d .refused)
-      (omega (arith, v .done, v .refused)) (omega (arith, w .done, w .refused)) (omega (arith, e))
-
-  same-refused : c .refused ≡ d .refused
-  same-refused =
-      same-upper 65536 (c .refused) (d .refused) (c .done) (d .done) (omega (arith, v .done)) (omega (arith, w .done)) (omega (arith, e, same-taken))
-
-  pub totals-told : (c .done ≡ d .done) × (c .refused ≡ d .refused) × (c .tally .taken ≡ d .tally .taken)
-  totals-told = (omega (arith, e, same-refused, same-taken), same-refused, same-taken)
+pub nothing-lost : Nothing-lost
+nothing-lost =
+    record {
+      of-load = λ bytes was scratch. check-told _ (load-near bytes was scratch) 0 (omega arith);
+      of-step = λ bytes was scratch kind x number. step-told _ (step-near bytes was scratch kind x number) (step-within bytes was scratch kind x number);
+      of-preview = λ bytes was scratch kind x number next.
+          step-told _ (preview-near bytes was scratch kind x number next) (preview-within bytes was scratch kind x number next);
+      of-run = λ bytes was scratch schedule answers. check-told _ (run-near bytes was scratch schedule answers) 0 (omega arith);
+      of-totals = totals-told;
+    }

@@ -1,12 +1,13 @@
-// The machine for C and Rust: each function calls the machine's and packs its answer into one number. A slice is a
-// pointer and a count.
+// The machine for C and Rust: each function calls the machine's and packs its answer into one number; a run's totals go
+// to a lent buffer. A slice is a pointer and a count.
 mod packing; // packing.rt: answers as one number
+mod results; // results.rt: result numbers in a lent buffer
 
-use machine::Loaded;
-use machine::Ran;
-use packing::pack_refusal;
+use packing::pack_load;
+use packing::pack_run;
 use packing::pack_step;
-use packing::pack_totals;
+use results::totals_of;
+use results::write_totals;
 ghost use lib.ListN.{length};
 ghost use Rattle.steps.specs.Steps.{loadOf, stepOf};
 ghost use Rattle.steps.specs.Previews.{previewOf};
@@ -18,15 +19,11 @@ ghost use Rattle.rehearsal.specs.Packing.{LoadPacked, StepPacked, RunPac
 pub extern "C" fn labs_load(table: &[u8], state: &mut [u32], scratch: &mut [u32]) -> u64
     ensures { λ r. ⌜ LoadPacked (loadOf (now (table .entry)) (now (state .entry)) (length (now (scratch .entry)))) r (now (state .exit)) ⌝ }
 {
-    let answer = machine::load(table, state, scratch);
-    match answer {
-        Loaded::Done => 0,
-        Loaded::Refused(number, place) => pack_refusal(number, place),
-    }
+    pack_load(machine::load(table, state, scratch))
 }
 
 // One step: act (kind 0; number is a choice), propagate (1) or confirm (2; number is a key). Reports how many agents
-// took the entry.
+// took the entry: those that had none, and those that had an older one.
 #[no_mangle]
 pub extern "C" fn labs_step(
     table: &[u8],
@@ -58,7 +55,8 @@ pub extern "C" fn labs_preview(
     pack_step(machine::preview(table, state, scratch, kind, agent, number, next))
 }
 
-// The steps of a schedule, each in turn, with an answer byte for each: 0, or its refusal. Reports the totals.
+// The steps of a schedule, each in turn, with an answer byte for each: 0, or its refusal. The totals go to a buffer,
+// as many as it has room for: done, refused, added, replaced; all 0 where the run is refused. Reports 0.
 #[no_mangle]
 pub extern "C" fn labs_run(
     table: &[u8],
@@ -66,12 +64,11 @@ pub extern "C" fn labs_run(
     scratch: &mut [u32],
     schedule: &[u8],
     answers: &mut [u8],
+    totals: &mut [u32],
 ) -> u64
-    ensures { λ r. ⌜ RunPacked (runOf (now (table .entry)) (now (state .entry)) (length (now (scratch .entry))) (now (schedule .entry)) (now (answers .entry))) r (now (state .exit)) (now (answers .exit)) ⌝ }
+    ensures { λ r. ⌜ RunPacked (runOf (now (table .entry)) (now (state .entry)) (length (now (scratch .entry))) (now (schedule .entry)) (now (answers .entry))) (now (totals .entry)) r (now (state .exit)) (now (answers .exit)) (now (totals .exit)) ⌝ }
 {
     let answer = machine::run(table, state, scratch, schedule, answers);
-    match answer {
-        Ran::Done(totals) => pack_totals(totals),
-        Ran::Refused(number, place) => pack_refusal(number, place),
-    }
+    write_totals(totals, totals_of(answer));
+    pack_run(answer)
 }

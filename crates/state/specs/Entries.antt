@@ -1,11 +1,13 @@
 -- An agent's entry for a stigmergy key, and the clock that its stamp comes from.
 use Prim.Native.Nat.{ℕ, _+_}
-use mathlib.Core.Bool.{Bool}
+use mathlib.Core.Bool.{Bool, true, false, cond}
 use mathlib.Core.List.{List}
-use lib.Dec.{ltb}
+use lib.Dec.{eqb, ltb}
 use lib.ListN.{getD, set}
 use Rattle.state.specs.declared.Store.the-variants.{Entries}
 use Rattle.state.specs.declared.Entry.{Entry}
+use Rattle.state.specs.declared.Insertion.{Insertion}
+use Rattle.state.specs.declared.Insertion.the-variants.{Add, Update, Discard}
 use Rattle.state.specs.Layout.{clockAt, writerAt, wordOf, stampOf, writerOf, put}
 
 abbrev pub entry : ℕ → ℕ → ℕ → Entry
@@ -18,6 +20,20 @@ entryOf s a k = entry (wordOf s (Entries a) k) (stampOf s a k) (writerOf s a k)
 -- the first is newer than the second; any entry is newer than none
 abbrev pub newer : Entry → Entry → Bool
 newer e f = ltb (f .stamp) (e .stamp)
+
+-- Table 1: by which rule e is inserted where f is. What has stamp 0 is no entry: any is added there, and it is inserted nowhere
+abbrev pub insertion : Entry → Entry → Insertion
+insertion e f = cond (newer e f) (cond (eqb (f .stamp) 0) Add Update) Discard
+
+abbrev pub isAdd : Insertion → Bool
+isAdd Add = true
+isAdd Update = false
+isAdd Discard = false
+
+abbrev pub isUpdate : Insertion → Bool
+isUpdate Add = false
+isUpdate Update = true
+isUpdate Discard = false
 
 -- agent a's entry for key k becomes e
 abbrev pub putEntry : ℕ → ℕ → Entry → List ℕ → List ℕ

@@ -1,5 +1,6 @@
 // Entries of agents, and the clock.
 use super::Entry;
+use super::Insertion;
 use super::Store;
 use super::layout::CLOCK;
 use super::layout::mark_at;
@@ -11,7 +12,7 @@ ghost use Prim.Native.Nat.{_<_};
 ghost use lib.ListN.{length};
 ghost use Rattle.state.specs.declared.Store.the-variants.{Entries};
 ghost use Rattle.state.specs.Layout.{clockAt};
-ghost use Rattle.state.specs.Entries.{entryOf, newer as newerOf, putEntry, clockOf, setClock};
+ghost use Rattle.state.specs.Entries.{entryOf, newer as newerOf, insertion, putEntry, clockOf, setClock};
 ghost use Rattle.state.specs.Standing.{Pair, HasBlocks};
 
 // An agent's entry for a key; its stamp is 0 where there is none.
@@ -34,6 +35,19 @@ pub fn newer(first: Entry, second: Entry) -> bool
     ensures { λ r. ⌜ r ≡ newerOf first second ⌝ }
 {
     second.stamp < first.stamp
+}
+
+// By which rule an entry is inserted where another is.
+pub fn insertion_of(entry: Entry, there: Entry) -> Insertion
+    ensures { λ r. ⌜ r ≡ insertion entry there ⌝ }
+{
+    if newer(entry, there) {
+        if there.stamp == 0 {
+            return Insertion::Add;
+        }
+        return Insertion::Update;
+    }
+    Insertion::Discard
 }
 
 // An agent's entry for a key is set.

@@ -5,6 +5,7 @@ mod entries; // entries.rt: entries of agents, and the clock
 
 pub use entries::clock_of;
 pub use entries::entry_of;
+pub use entries::insertion_of;
 pub use entries::newer;
 pub use entries::put_entry;
 pub use entries::set_clock;
@@ -38,4 +39,11 @@ pub struct Entry {
     pub value: u32,
     pub stamp: u32,
     pub writer: u32,
+}
+
+// By which rule of LAbS's Table 1 an entry is inserted: the key has no entry, an older one, or neither.
+pub enum Insertion {
+    Add,
+    Update,
+    Discard,
 }

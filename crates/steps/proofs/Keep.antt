@@ -37,7 +37,7 @@ use Rattle.state.proofs.Formed.{ResidualFormed, ProperFacts, There, highestIn, 
 use Rattle.state.proofs.Keep.{Kept, kept-proper, kept-start, kept-later, kept-clock, kept-keys, kept-add, kept-drop, kept-put, kept-entry, pair-kept, writer-kept, set-kept, residual-kept, set-plusAll}
 use Rattle.steps.specs.Acts.{wordIn, leave, valueFor, writesEntry, guardsRead, labelReads, toConfirm, setKey, acted}
 use Rattle.steps.specs.declared.Response.the-variants.{Takes, Propagates, Ignores}
-use Rattle.steps.specs.Offers.{takeEntry, responded, linked, takes, holdsNewer, response, offer, offered}
+use Rattle.steps.specs.Offers.{takeEntry, responded, linked, takes, holdsNewer, inserts, response, offer, offered}
 use Rattle.steps.proofs.Acts.{set-attribute, set-entry, set-environment}
 use Rattle.steps.proofs.Leave.{leave-length, leave-small, leave-other, leave-size, leave-word}
 
@@ -119,7 +119,7 @@ module _ (t : Table) (limits : Limits (t .sizes)) (was : List ℕ) where
             let g = ltb-true (stampOf was x k) (stampOf was y k) (and-right (linked t was x k counts y) (newer (entryOf was y k) (entryOf was x k)) f) in
             kept-add t limits was now now s h Zp y k l k16 (h .stamps y k k16 (omega arith))
 
-        by : (a c b : Bool) → holdsNewer t was x k counts y ≡ b → Kept t now now was (responded k e y (cond a Takes (cond (c && b) Propagates Ignores)) s)
+        by : (a c b : Bool) → holdsNewer t was x k counts y ≡ b → Kept t now now was (responded k e y (cond a (Takes (inserts t was x k counts y)) (cond (c && b) Propagates Ignores)) s)
         by true c b f = take
         by false true true f = answer f
         by false true false f = h

@@ -1,6 +1,6 @@
 -- What stands where after an offer: each agent is as its own offer leaves it, and nothing else changes.
 -- Assumes nothing.
-use Prim.Native.Nat.{ℕ, _<_, _≤_}
+use Prim.Native.Nat.{ℕ, zero, suc, _+_, _<_, _≤_}
 use mathlib.Core.Bool.{Bool, true, false, cond, _&&_, _||_, and-true, and-false}
 use mathlib.Core.Path.{_≡_, refl, sym, ap, ap₂, _∙_}
 use mathlib.Core.Logic.{⊎-elim}
@@ -9,21 +9,57 @@ use native.Mathlib.Omega.{arith}
 use lib.Dec.{eqb}
 use lib.ListN.{length}
 use borrow.Author.Tests.{eq-eqb}
+use Rattle.basis.specs.Numbers.{howMany}
 use Rattle.basis.specs.KeySets.{has, plus, minus}
 use Rattle.basis.proofs.KeySets.{has-plus}
 use Rattle.basis.proofs.Numbers.{forEach-same, forEach-at}
-use Rattle.basis.proofs.Tests.{same-or-other}
+use Rattle.basis.proofs.Tests.{same-or-other, not-both}
 use Rattle.table.specs.Tables.{Table}
 use Rattle.state.specs.declared.Store.the-variants.{Entries}
 use Rattle.state.specs.declared.Entry.{Entry}
-use Rattle.state.specs.Layout.{keyLimit, zcAt, zpOf, dropKey}
-use Rattle.state.specs.Entries.{entry, entryOf, putEntry}
+use Rattle.state.specs.declared.Insertion.{Insertion}
+use Rattle.state.specs.declared.Insertion.the-variants.{Add, Update, Discard}
+use Rattle.state.specs.Layout.{keyLimit, zcAt, stampOf, zpOf, dropKey}
+use Rattle.state.specs.Entries.{entry, entryOf, newer, isAdd, isUpdate, putEntry}
 use Rattle.state.specs.Standing.{HasBlocks}
 use Rattle.state.proofs.Places.{Place, Zc, Zp, Mark, Word, Writer, Waits, Inside, placeKind, placeAgent, same, else-agent}
 use Rattle.state.proofs.Frames.{wordAt, SameAt, pick-entry, put-entry-length, put-entry-other, put-entry-word, add-length, add-other, add-word, drop-length, drop-other, drop-word}
 use Rattle.steps.specs.declared.Response.{Response}
 use Rattle.steps.specs.declared.Response.the-variants.{Takes, Propagates, Ignores}
-use Rattle.steps.specs.Offers.{takeEntry, responded, linked, takes, holdsNewer, response, offer, offered}
+use Rattle.steps.specs.Tallies.{taken}
+use Rattle.steps.specs.Offers.{takeEntry, responded, linked, takes, holdsNewer, inserts, response, offer, offered, offerTally}
+
+-- THE RULE by which an agent inserts the entry: whether that is later than its own, and whether it has none
+abbrev pub ruleBy : Bool → Bool → Insertion
+ruleBy later none = cond later (cond none Add Update) Discard
+
+module _ (t : Table) (was : List ℕ) (x k : ℕ) (counts : Bool) where
+  -- what it does not take it discards
+  pub not-taken : (y : ℕ) → takes t was x k counts y ≡ false → inserts t was x k counts y ≡ Discard
+  unfolding takes inserts
+  not-taken y e = by (linked t was x k counts y) (newer (entryOf was x k) (entryOf was y k)) e
+    where
+      by : (a b : Bool) → (a && b) ≡ false → cond a (ruleBy b (eqb (stampOf was y k) 0)) Discard ≡ Discard
+      by true true f = absurd (not-both refl f)
+      by true false f = refl
+      by false b f = refl
+
+  -- and what it takes is added or replaces an older one, not both
+  counts-one : (y : ℕ) → cond (isAdd (inserts t was x k counts y)) 1 0 + cond (isUpdate (inserts t was x k counts y)) 1 0 ≡ cond (takes t was x k counts y) 1 0
+  unfolding takes inserts
+  counts-one y = by (linked t was x k counts y) (newer (entryOf was x k) (entryOf was y k)) (eqb (stampOf was y k) 0)
+    where
+      by : (a b c : Bool) → cond (isAdd (cond a (ruleBy b c) Discard)) 1 0 + cond (isUpdate (cond a (ruleBy b c) Discard)) 1 0 ≡ cond (a && b) 1 0
+      by true true true = refl
+      by true true false = refl
+      by true false c = refl
+      by false b c = refl
+
+  -- THOSE THAT TAKE THE ENTRY are those that had none and those that had an older one
+  pub taken-takes : (agents : ℕ) → taken (offerTally t was x k counts agents) ≡ howMany (takes t was x k counts) agents
+  unfolding howMany
+  taken-takes zero = refl
+  taken-takes (suc n) = omega (arith, taken-takes n, counts-one n)
 
 -- place q is not agent y's
 abbrev pub Elsewhere : ℕ → Place → Type 0
@@ -43,14 +79,14 @@ tookWord k e y word q =
 
 -- and after any response
 abbrev pub respondedWord : (k : ℕ) (e : Entry) (y : ℕ) → Response → (Place → ℕ) → Place → ℕ
-respondedWord k e y Takes word q = tookWord k e y word q
+respondedWord k e y (Takes rule) word q = tookWord k e y word q
 respondedWord k e y Propagates word q = cond (same q (Waits Zp y)) (plus (word (Waits Zp y)) k) (word q)
 respondedWord k e y Ignores word q = word q
 
 -- of words that are the same at y's sets and at q
 respond-same : (k : ℕ) (e : Entry) (y : ℕ) (r : Response) (word before : Place → ℕ) (q : Place)
     → word (Waits Zp y) ≡ before (Waits Zp y) → word (Waits Zc y) ≡ before (Waits Zc y) → word q ≡ before q → respondedWord k e y r word q ≡ respondedWord k e y r before q
-respond-same k e y Takes word before q p c h = rw (p, c, h)
+respond-same k e y (Takes rule) word before q p c h = rw (p, c, h)
 respond-same k e y Propagates word before q p c h = rw (p, h)
 respond-same k e y Ignores word before q p c h = h
 
@@ -67,7 +103,7 @@ module _ (k : ℕ) (e : Entry) (y : ℕ) (s : List ℕ) where
 
   pub responded-length : (r : Response) → length (responded k e y r s) ≡ length s
   unfolding responded
-  responded-length Takes = take-length
+  responded-length (Takes rule) = take-length
   responded-length Propagates = add-length Zp y k s
   responded-length Ignores = refl
 
@@ -81,7 +117,7 @@ module _ (k : ℕ) (e : Entry) (y : ℕ) (s : List ℕ) where
 
     responded-other : (r : Response) (q : Place) → Inside q → Elsewhere y q → SameAt (responded k e y r s) s q
     unfolding responded
-    responded-other Takes q h f = take-other q h f
+    responded-other (Takes rule) q h f = take-other q h f
     responded-other Propagates q h f = add-other Zp y k s q h (elsewhere q (Waits Zp y) (omega arith) f)
     responded-other Ignores q h f = refl
 
@@ -99,7 +135,7 @@ module _ (k : ℕ) (e : Entry) (y : ℕ) (s : List ℕ) where
 
       responded-word : (r : Response) (q : Place) → Inside q → wordAt (responded k e y r s) q ≡ respondedWord k e y r (wordAt s) q
       unfolding responded
-      responded-word Takes q h = take-word q h
+      responded-word (Takes rule) q h = take-word q h
       responded-word Propagates q h = add-word Zp y k s room there q h
       responded-word Ignores q h = refl
 
@@ -140,11 +176,17 @@ module _ (t : Table) (was : List ℕ) (x k : ℕ) (counts confirming : Bool) whe
     offered-turn n y l q h e =
         forEach-at (offer t was x k counts confirming) (λ (u : List ℕ). wordAt u q) y n l (λ z j d s. offer-other z s q h (λ c. absurd (d (sym c ∙ e)))) was
 
-    module _ (agents : ℕ) (few : agents ≤ 32) (room : HasBlocks was) where
-      -- no offer to a lower agent changes y
-      untouched : (y : ℕ) (q : Place) → Inside q → placeAgent q ≡ y → SameAt (offered t was x k counts confirming y) was q
-      untouched y q h e = offered-other y q h (λ z l d c. absurd (omega arith))
+    -- no offer to a lower agent changes y
+    untouched : (y : ℕ) (q : Place) → Inside q → placeAgent q ≡ y → SameAt (offered t was x k counts confirming y) was q
+    untouched y q h e = offered-other y q h (λ z l d c. absurd (omega arith))
 
+    pub own-entry : (y : ℕ) → entryOf (offered t was x k counts confirming y) y k ≡ entryOf was y k
+    own-entry y =
+        let v = untouched y (Word (Entries y) k) key refl in
+        let m = untouched y (Mark (Entries y) k) key refl in
+        let w = untouched y (Writer y k) key refl in (λ i. entry (v i) (m i) (w i))
+
+    module _ (agents : ℕ) (few : agents ≤ 32) (room : HasBlocks was) where
       -- an agent is as its own offer leaves it
       pub offered-word : (y : ℕ) → y < agents → (q : Place) → Inside q → placeAgent q ≡ y → wordAt (offered t was x k counts confirming agents) q ≡ offerWord y (wordAt was) q
       offered-word y l q h e =
@@ -162,7 +204,7 @@ module _ (t : Table) (was : List ℕ) (x k : ℕ) (counts confirming : Bool) whe
 
         -- its response, by whether it takes the entry and whether it has a newer one
         abbrev answer : Bool → Bool → Place → ℕ
-        answer a b q = respondedWord k (entryOf was x k) y (cond a Takes (cond b Propagates Ignores)) (wordAt was) q
+        answer a b q = respondedWord k (entryOf was x k) y (cond a (Takes (inserts t was x k counts y)) (cond b Propagates Ignores)) (wordAt was) q
 
         offered-answer : (q : Place) → Inside q → placeAgent q ≡ y → wordAt (offered t was x k counts confirming agents) q ≡ answer T N q
         unfolding response

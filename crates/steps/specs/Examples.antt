@@ -46,10 +46,10 @@ holding at e f = setClock 4 (addKey at 0 (putEntry 1 0 f (putEntry 0 0 e (put (A
 abbrev pub bit : Bool → ℕ
 bit b = cond b 1 0
 
--- what a step comes to: refusal, taken, then for each agent value, stamp and writer of key 0, Zc, Zp
+-- what a step comes to: refusal, added, replaced, then for each agent value, stamp and writer of key 0, Zc, Zp
 abbrev pub shown : Outcome → List ℕ
 shown o =
-    numberOf (o .check) ∷ o .tally .taken
+    numberOf (o .check) ∷ o .tally .added ∷ o .tally .replaced
     ∷ wordOf (o .state) (Entries 0) 0 ∷ stampOf (o .state) 0 0 ∷ writerOf (o .state) 0 0 ∷ zcOf (o .state) 0 ∷ zpOf (o .state) 0
     ∷ wordOf (o .state) (Entries 1) 0 ∷ stampOf (o .state) 1 0 ∷ writerOf (o .state) 1 0 ∷ zcOf (o .state) 1 ∷ zpOf (o .state) 1 ∷ []
 
@@ -87,22 +87,22 @@ abbrev pub _gives_ : List ℕ → List ℕ → Example
 _gives_ c e = record { computed = c; expected = e }
 
 infix 10 _gives_
--- Columns of a step: refusal, taken; value, stamp, writer, Zc, Zp of agent 0; the same of agent 1. The paper's entries have no writers: in (b)
+-- Columns of a step: refusal, added, replaced; value, stamp, writer, Zc, Zp of agent 0; the same of agent 1. The paper's entries have no writers: in (b)
 -- what is taken was written by the agent that takes it, in (c) by the sender.
 -- Columns of `leaving`: for each choice the number of words that it leaves, and the words. Of `value`: present, word
 abbrev pub examples : List Example
 examples =
     (numberOf (loadOf example (replicate stateWords 0) scratch .check) ∷ [] gives 0 ∷ [])  -- the table is accepted
-    ∷ (propagating (entry 9 3 1) (entry 5 3 0) gives 0 ∷ 0 ∷ 9 ∷ 3 ∷ 1 ∷ 0 ∷ 0 ∷ 5 ∷ 3 ∷ 0 ∷ 0 ∷ 0 ∷ [])  -- (a) stored (5, stamp 3), offered (9, 3): stays
-    ∷ (propagating (entry 9 4 1) (entry 5 3 0) gives 0 ∷ 1 ∷ 9 ∷ 4 ∷ 1 ∷ 0 ∷ 0 ∷ 9 ∷ 4 ∷ 1 ∷ 0 ∷ 1 ∷ [])  -- (b) offered (9, 4): taken, with its writer
-    ∷ (propagating (entry 5 3 0) (entry 0 0 0) gives 0 ∷ 1 ∷ 5 ∷ 3 ∷ 0 ∷ 0 ∷ 0 ∷ 5 ∷ 3 ∷ 0 ∷ 0 ∷ 1 ∷ [])  -- (c) none stored, offered (5, 3): taken
+    ∷ (propagating (entry 9 3 1) (entry 5 3 0) gives 0 ∷ 0 ∷ 0 ∷ 9 ∷ 3 ∷ 1 ∷ 0 ∷ 0 ∷ 5 ∷ 3 ∷ 0 ∷ 0 ∷ 0 ∷ [])  -- (a) stored (5, stamp 3), offered (9, 3): stays
+    ∷ (propagating (entry 9 4 1) (entry 5 3 0) gives 0 ∷ 0 ∷ 1 ∷ 9 ∷ 4 ∷ 1 ∷ 0 ∷ 0 ∷ 9 ∷ 4 ∷ 1 ∷ 0 ∷ 1 ∷ [])  -- (b) offered (9, 4): replaced, with its writer
+    ∷ (propagating (entry 5 3 0) (entry 0 0 0) gives 0 ∷ 1 ∷ 0 ∷ 5 ∷ 3 ∷ 0 ∷ 0 ∷ 0 ∷ 5 ∷ 3 ∷ 0 ∷ 0 ∷ 1 ∷ [])  -- (c) none stored, offered (5, 3): added
     ∷ (length (derivations (process t (Node 8))) ∷ [] gives 2 ∷ [])  -- (d) tick|tick has 2 choices
     ∷ (leaving 12 gives 3 ∷ parWord ∷ tickWord ∷ 11 ∷ 1 ∷ tickWord ∷ [])  -- (e) action|tick has 2, leaving 3 words and 1 word
     ∷ (leaving 17 gives 3 ∷ parWord ∷ tickWord ∷ 16 ∷ 3 ∷ parWord ∷ 14 ∷ tickWord ∷ [])  -- (f) a|b leaves tick|b, then a|tick
     ∷ (guardBit 3 ∷ guardBit 5 ∷ [] gives 0 ∷ 1 ∷ [])  -- (g) not (attribute = 1), attribute absent: doesn't hold; the same or true: holds
     ∷ (value 24 gives 0 ∷ 0 ∷ [])  -- (h) 2,147,483,647 + 1 is absent
     ∷ (value 27 gives 1 ∷ 2 ∷ [])  -- (i) -7 remainder 3 is 2
-    ∷ (confirming (entry 5 3 1) (entry 9 4 0) gives 0 ∷ 0 ∷ 5 ∷ 3 ∷ 1 ∷ 0 ∷ 0 ∷ 9 ∷ 4 ∷ 0 ∷ 0 ∷ 1 ∷ [])  -- (j) asker (5, 3), other (9, 4): nobody's entry changes, the other gains the key in Zp
+    ∷ (confirming (entry 5 3 1) (entry 9 4 0) gives 0 ∷ 0 ∷ 0 ∷ 5 ∷ 3 ∷ 1 ∷ 0 ∷ 0 ∷ 9 ∷ 4 ∷ 0 ∷ 0 ∷ 1 ∷ [])  -- (j) asker (5, 3), other (9, 4): nobody's entry changes, the other gains the key in Zp
     ∷ []
 
 -- every example gives what it should

@@ -6,8 +6,10 @@ use lib.Dec.{eqb}
 use Rattle.basis.specs.Numbers.{forEach, howMany}
 use Rattle.table.specs.Tables.{Table}
 use Rattle.state.specs.declared.Entry.{Entry}
+use Rattle.state.specs.declared.Insertion.{Insertion}
+use Rattle.state.specs.declared.Insertion.the-variants.{Discard}
 use Rattle.state.specs.Layout.{zcAt, zpAt, addKey, dropKey}
-use Rattle.state.specs.Entries.{entryOf, newer, putEntry}
+use Rattle.state.specs.Entries.{entryOf, newer, insertion, isAdd, isUpdate, putEntry}
 use Rattle.state.specs.Evaluation.{linkHolds}
 use Rattle.steps.specs.declared.Response.{Response}
 use Rattle.steps.specs.declared.Response.the-variants.{Takes, Propagates, Ignores}
@@ -20,7 +22,7 @@ takeEntry k e y s = addKey (zpAt y) k (dropKey (zcAt y) k (putEntry y k e s))
 
 -- agent y's words after its response to entry e
 unfoldable pub responded : ℕ → Entry → ℕ → Response → List ℕ → List ℕ
-responded k e y Takes s = takeEntry k e y s
+responded k e y (Takes rule) s = takeEntry k e y s
 responded k e y Propagates s = addKey (zpAt y) k s
 responded k e y Ignores s = s
 
@@ -37,9 +39,13 @@ module _ (t : Table) (was : List ℕ) (x k : ℕ) (counts : Bool) where
   unfoldable pub holdsNewer : ℕ → Bool
   holdsNewer y = linked y && newer (entryOf was y k) (entryOf was x k)
 
+  -- by which rule of Table 1 the entry is inserted at y: where the link does not reach y, it is not
+  unfoldable pub inserts : ℕ → Insertion
+  inserts y = cond (linked y) (insertion (entryOf was x k) (entryOf was y k)) Discard
+
   -- in a confirm, a linked agent with a newer entry only gains the key in Zp
   unfoldable pub response : Bool → ℕ → Response
-  response confirming y = cond (takes y) Takes (cond (confirming && holdsNewer y) Propagates Ignores)
+  response confirming y = cond (takes y) (Takes (inserts y)) (cond (confirming && holdsNewer y) Propagates Ignores)
 
   -- what an offer does to y
   unfoldable pub offer : Bool → ℕ → List ℕ → List ℕ
@@ -48,9 +54,9 @@ module _ (t : Table) (was : List ℕ) (x k : ℕ) (counts : Bool) where
   abbrev pub offered : Bool → ℕ → List ℕ
   offered confirming agents = forEach (offer confirming) agents was
 
-  -- what the agents' responses count
+  -- the linked agents that had no entry for the key, and those that had an older one
   abbrev pub offerTally : ℕ → Tally
-  offerTally agents = tally (howMany takes agents)
+  offerTally agents = tally (howMany (λ (y : ℕ). isAdd (inserts y)) agents) (howMany (λ (y : ℕ). isUpdate (inserts y)) agents)
 
   -- then x no longer has to confirm the key, or to propagate it
   abbrev pub sent : Bool → ℕ → List ℕ

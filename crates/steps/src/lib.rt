@@ -1,14 +1,18 @@
 // Load, act, propagate, confirm, step, preview and run: definitions in specs/, laws in proofs/. The crate has no
 // functions.
 
-// What an offer does to an agent: it takes the entry; it has a newer one, which it then has to propagate; or neither.
+use state::Insertion;
+
+// What an offer does to an agent: it takes the entry, by ADD or UPDATE of Table 1; it has a newer one, which it then has
+// to propagate; or neither.
 pub enum Response {
-    Takes,
+    Takes(Insertion),
     Propagates,
     Ignores,
 }
 
-// What a step counts: the agents that take an entry.
+// What a step counts: the agents that take an entry, those that had none and those that had an older one.
 pub struct Tally {
-    pub taken: usize,
+    pub added: u32,
+    pub replaced: u32,
 }

@@ -55,7 +55,7 @@ table-passes : firstOf (tableChecks fleet true 16) ≡ passes
 unfolding computing
 table-passes = refl
 
-steps-come : (stepped s₀ 0 0 0 ≡ done (tally 0) s₁) × (stepped s₁ 1 0 0 ≡ done (tally 1) s₂) × (stepped s₂ 1 1 0 ≡ done (tally 0) s₃) × (stepped s₃ 0 1 0 ≡ done (tally 0) s₄) × (stepped s₄ 2 1 0 ≡ done (tally 0) s₅)
+steps-come : (stepped s₀ 0 0 0 ≡ done (tally 0 0) s₁) × (stepped s₁ 1 0 0 ≡ done (tally 1 0) s₂) × (stepped s₂ 1 1 0 ≡ done (tally 0 0) s₃) × (stepped s₃ 0 1 0 ≡ done (tally 0 0) s₄) × (stepped s₄ 2 1 0 ≡ done (tally 0 0) s₅)
     × (stepped s₀ 0 1 0 .check ≡ refuses 15 0)
 unfolding computing
 steps-come = (refl, refl, refl, refl, refl, refl)
@@ -67,15 +67,15 @@ fleet-small = small-bytes fleet refl
 pub fleet-ready : Ready fleet s₀ 16
 fleet-ready = loaded-ready fleet fleet-small 16 table-passes
 
-pub fleet-steps : Allowed (tableOf fleet) (systemOf s₀) (systemOf s₁) 0 0 0 (tally 0) × Allowed (tableOf fleet) (systemOf s₁) (systemOf s₂) 1 0 0 (tally 1)
-    × Allowed (tableOf fleet) (systemOf s₂) (systemOf s₃) 1 1 0 (tally 0) × Allowed (tableOf fleet) (systemOf s₃) (systemOf s₄) 0 1 0 (tally 0)
-    × Allowed (tableOf fleet) (systemOf s₄) (systemOf s₅) 2 1 0 (tally 0)
+pub fleet-steps : Allowed (tableOf fleet) (systemOf s₀) (systemOf s₁) 0 0 0 (tally 0 0) × Allowed (tableOf fleet) (systemOf s₁) (systemOf s₂) 1 0 0 (tally 1 0)
+    × Allowed (tableOf fleet) (systemOf s₂) (systemOf s₃) 1 1 0 (tally 0 0) × Allowed (tableOf fleet) (systemOf s₃) (systemOf s₄) 0 1 0 (tally 0 0)
+    × Allowed (tableOf fleet) (systemOf s₄) (systemOf s₅) 2 1 0 (tally 0 0)
 fleet-steps =
-    let g₁ = done-allowed fleet s₀ s₁ 16 0 0 0 (tally 0) fleet-ready (steps-come .0) in
-    let g₂ = done-allowed fleet s₁ s₂ 16 1 0 0 (tally 1) (g₁ .0) (steps-come .1) in
-    let g₃ = done-allowed fleet s₂ s₃ 16 1 1 0 (tally 0) (g₂ .0) (steps-come .2) in
-    let g₄ = done-allowed fleet s₃ s₄ 16 0 1 0 (tally 0) (g₃ .0) (steps-come .3) in
-    let g₅ = done-allowed fleet s₄ s₅ 16 2 1 0 (tally 0) (g₄ .0) (steps-come .4) in
+    let g₁ = done-allowed fleet s₀ s₁ 16 0 0 0 (tally 0 0) fleet-ready (steps-come .0) in
+    let g₂ = done-allowed fleet s₁ s₂ 16 1 0 0 (tally 1 0) (g₁ .0) (steps-come .1) in
+    let g₃ = done-allowed fleet s₂ s₃ 16 1 1 0 (tally 0 0) (g₂ .0) (steps-come .2) in
+    let g₄ = done-allowed fleet s₃ s₄ 16 0 1 0 (tally 0 0) (g₃ .0) (steps-come .3) in
+    let g₅ = done-allowed fleet s₄ s₅ 16 2 1 0 (tally 0 0) (g₄ .0) (steps-come .4) in
     (g₁ .1, g₂ .1, g₃ .1, g₄ .1, g₅ .1)
 
 -- agent 1 has nothing to copy yet: no rule allows its act, whatever system it would leave

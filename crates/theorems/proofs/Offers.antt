@@ -1,38 +1,39 @@
 -- TABLE 8 on a state's words: propagate and confirm stand for the message that every other agent receives, and for no other system;
--- the machine's takers are the agents that take the entry.
+-- the machine's rule for each agent is the one by which it inserts the entry.
 -- Assumes nothing.
-use Prim.Native.Nat.{ℕ, _<_, _≤_}
+use Prim.Native.Nat.{ℕ, zero, suc, _<_, _≤_}
 use mathlib.Core.Bool.{Bool, true, false, cond, _&&_}
 use mathlib.Core.Logic.{_↔_}
 use mathlib.Core.Option.{Option, none, some}
 use mathlib.Core.Path.{_≡_, refl, sym, ap, subst, _∙_, fun-ext}
 use mathlib.Core.List.{List}
 use native.Mathlib.Omega.{arith}
+use lib.Dec.{eqb}
 use borrow.Author.Tests.{ltb-true, lt-ltb, eq-eqb, ne-eqb}
-use Rattle.basis.specs.Numbers.{howMany}
 use Rattle.basis.specs.KeySets.{has}
 use Rattle.basis.proofs.Tests.{not-both, and-left, and-right, and-both}
 use Rattle.table.specs.Tables.{Table}
 use Rattle.table.specs.Sound.{Limits}
-use Rattle.state.specs.declared.Store.the-variants.{Environment}
+use Rattle.state.specs.declared.Store.the-variants.{Environment, Entries}
 use Rattle.state.specs.declared.Entry.{Entry as Stored}
-use Rattle.state.specs.Layout.{keyLimit, stampOf, dropKey}
+use Rattle.state.specs.declared.Insertion.{Insertion}
+use Rattle.state.specs.declared.Insertion.the-variants.{Add, Update, Discard}
+use Rattle.state.specs.Layout.{keyLimit, wordOf, stampOf, writerOf, dropKey}
 use Rattle.state.specs.Entries.{entryOf, putEntry}
 use Rattle.state.specs.Standing.{HasBlocks}
 use Rattle.state.specs.Evaluation.{linkHolds}
 use Rattle.state.proofs.Places.{Place, KeySet, Zc, Zp, Clock, Mark, Word, Waits, placeAt, placeKind, Inside, same-not, other-agent}
 use Rattle.state.proofs.Frames.{wordAt, SameAt, put-entry-length, drop-length, drop-other, value-same}
 use Rattle.steps.specs.declared.Response.the-variants.{Takes, Propagates, Ignores}
-use Rattle.steps.specs.Tallies.{tally}
-use Rattle.steps.specs.Offers.{takeEntry, responded, linked, takes, holdsNewer, response, offer, offered, offerTally, sent}
-use Rattle.steps.proofs.Offers.{offer-length, offered-length, offered-other, offered-turn}
+use Rattle.steps.specs.Offers.{takeEntry, responded, linked, takes, holdsNewer, inserts, response, offer, offered, offerTally, sent}
+use Rattle.steps.proofs.Offers.{not-taken, offer-length, offered-length, offered-other, offered-turn}
 use Rattle.labs.specs.Agents.{⟨_⸴_⸴_⸴_⸴_⟩, Agent, Entry, System, _⟦_≔_⟧, _∪｛_｝, _∖｛_｝, Inserted}
 use Rattle.labs.specs.Systems.{Kind, put, qry, Message, message, Sends, PROPAGATE, CONFIRM, Older, Newer, Linked, Receives, PUT, QRY₁, QRY₂, STAY, Passed}
 use Rattle.labs.specs.Reading.{agentOf, systemOf}
-use Rattle.theorems.specs.Demand2.{Same}
+use Rattle.theorems.specs.Demand2.{ruleTally, Same}
 use Rattle.theorems.proofs.Expressions.{Narrow, link-holds}
-use Rattle.theorems.proofs.Reading.{labsEntry, timeIn, entry-present, entry-stamp, agent-same, put-agent, with, keysIn, add-zp-agent, drop-agent}
-use Rattle.theorems.proofs.Passing.{inserted, sends-zp, sends-zc, passed-unique, passed-count}
+use Rattle.theorems.proofs.Reading.{stamped, labsEntry, timeIn, entry-read, entry-present, entry-stamp, agent-same, put-agent, with, keysIn, add-zp-agent, drop-agent}
+use Rattle.theorems.proofs.Passing.{takenBy, inserted, sends-zp, sends-zc, passed-unique, passed-count}
 
 -- older and newer, by the stamp
 older-time : (o : Option Entry) (n : ℕ) → 0 < n → Older o n ↔ (timeIn o < n)
@@ -74,9 +75,9 @@ module _ (t : Table) (limits : Limits (t .sizes)) (was : List ℕ) (narrow : Nar
   abbrev said : Kind → Message
   said kind = message kind (agentOf was x) k mine
 
-  takes-self : takes t was x k true x ≡ false
-  unfolding takes linked
-  takes-self = rw (eq-eqb x x refl)
+  inserts-self : inserts t was x k true x ≡ Discard
+  unfolding inserts linked
+  inserts-self = rw (eq-eqb x x refl)
 
   module _ (confirming : Bool) where
     abbrev spread : List ℕ
@@ -100,7 +101,7 @@ module _ (t : Table) (limits : Limits (t .sizes)) (was : List ℕ) (narrow : Nar
       turned = agent-same spread (offer t was x k true confirming y now) y (offered-length t was x k true confirming agents ∙ sym (offer-length t was x k true confirming y now ∙ offered-length t was x k true confirming y))
           (λ p i pos e. offered-turn t was x k true confirming key agents y below p i e)
 
-      abbrev Result : Bool → Agent → Type 0
+      abbrev Result : Insertion → Agent → Type 0
       Result b a = Receives t (systemOf was .E) (said (sentKind confirming)) (agentOf was y) b a
 
       other-linked : linked t was x k true y ≡ linkHolds t was k x y
@@ -122,35 +123,49 @@ module _ (t : Table) (limits : Limits (t .sizes)) (was : List ℕ) (narrow : Nar
       newer : Newer (agentOf was y .L k) (stampOf was x k) ↔ (stampOf was x k < timeIn (agentOf was y .L k))
       newer = newer-time (agentOf was y .L k) (stampOf was x k)
 
-      taking : (b : Bool) → stampOf was y k < stampOf was x k → linked t was x k true y ≡ true → Receives t (systemOf was .E) (said (sentKind b)) (agentOf was y) true (took k mine (agentOf was y))
+      -- the rule on words: an entry with stamp 0 is none
+      rule-taken : takes t was x k true y ≡ true → inserts t was x k true y ≡ takenBy (agentOf was y .L k)
+      unfolding takes inserts
+      rule-taken e =
+          rw (and-left (linked t was x k true y) _ e, and-right (linked t was x k true y) _ e, entry-read was y k key) (by (stampOf was y k))
+        where
+          by : (m : ℕ) → cond (eqb m 0) Add Update ≡ takenBy (stamped (wordOf was (Entries y) k) m (writerOf was y k))
+          by zero = refl
+          by (suc m) = rw (ne-eqb (suc m) 0 (omega arith))
+
+      taking : (b : Bool) → stampOf was y k < stampOf was x k → linked t was x k true y ≡ true →
+          Receives t (systemOf was .E) (said (sentKind b)) (agentOf was y) (takenBy (agentOf was y .L k)) (took k mine (agentOf was y))
       taking b l e = by b
         where
-          is-inserted : Inserted (agentOf was y .L) k mine (agentOf was y .L ⟦ k ≔ some mine ⟧)
+          is-inserted : Inserted (agentOf was y .L) k mine (takenBy (agentOf was y .L k)) (agentOf was y .L ⟦ k ≔ some mine ⟧)
           is-inserted = inserted (agentOf was y .L) k mine (λ f i. omega (arith, sym (ap timeIn i) ∙ held))
 
-          by : (b : Bool) → Receives t (systemOf was .E) (said (sentKind b)) (agentOf was y) true (took k mine (agentOf was y))
+          by : (b : Bool) → Receives t (systemOf was .E) (said (sentKind b)) (agentOf was y) (takenBy (agentOf was y .L k)) (took k mine (agentOf was y))
           by true = QRY₁ refl (is-linked e) (older .1 (omega (arith, held))) is-inserted
           by false = PUT refl (is-linked e) (older .1 (omega (arith, held))) is-inserted
 
+      told : {r q : Insertion} {a b : Agent} → r ≡ q → b ≡ a → Result q b → Result r a
+      told {r} {q} {a} {b} e f h = subst (λ (p : Insertion). Result p a) (sym e) (subst (Result q) f h)
+
       by-offer : (b : Bool) → takes t was x k true y ≡ b → (c : Bool) → (confirming && holdsNewer t was x k true y) ≡ c →
-          Result b (agentOf (responded k (entryOf was x k) y (cond b Takes (cond c Propagates Ignores)) now) y)
+          Result (inserts t was x k true y) (agentOf (responded k (entryOf was x k) y (cond b (Takes (inserts t was x k true y)) (cond c Propagates Ignores)) now) y)
       unfolding takes holdsNewer responded
       by-offer true e c f =
-          subst (Result true) (sym (took-agent k (entryOf was x k) y now key now-room (omega arith) entered ∙ ap (took k mine) before))
+          told (rule-taken e) (sym (took-agent k (entryOf was x k) y now key now-room (omega arith) entered ∙ ap (took k mine) before))
           (taking confirming (ltb-true (stampOf was y k) (stampOf was x k) (and-right (linked t was x k true y) _ e)) (and-left (linked t was x k true y) _ e))
       by-offer false e true f =
           let a = and-right confirming _ f in
-          subst (Result false) (sym (add-zp-agent y k now now-room (omega arith) ∙ ap (λ (a : Agent). with Zp a (a .Zp ∪｛ k ｝)) before))
+          told (not-taken t was x k true y e) (sym (add-zp-agent y k now now-room (omega arith) ∙ ap (λ (a : Agent). with Zp a (a .Zp ∪｛ k ｝)) before))
           (QRY₂ (ap sentKind (and-left confirming _ f)) (is-linked (and-left (linked t was x k true y) _ a))
           (newer .1 (omega (arith, held, ltb-true (stampOf was x k) (stampOf was y k) (and-right (linked t was x k true y) _ a)))))
-      by-offer false e false f = subst (Result false) (sym before) (STAY
+      by-offer false e false f = told (not-taken t was x k true y e) (sym before) (STAY
           (λ h o. not-both (and-both (linked t was x k true y) _ (of-linked h) (lt-ltb (stampOf was y k) (stampOf was x k) (omega (arith, held, older .0 o)))) e)
           (λ q h o. not-both (and-both confirming _ (asking confirming q) (and-both (linked t was x k true y) _ (of-linked h)
           (lt-ltb (stampOf was x k) (stampOf was y k) (omega (arith, held, newer .0 o))))) f))
 
-      received-by : (z : KeySet) → Result (takes t was x k true y) (agentOf (dropKey (placeAt (Waits z x)) k spread) y)
+      received-by : (z : KeySet) → Result (inserts t was x k true y) (agentOf (dropKey (placeAt (Waits z x)) k spread) y)
       unfolding offer response
-      received-by z = subst (λ (a : Agent). Result (takes t was x k true y) a) (sym (drop-away z ∙ turned)) (by-offer (takes t was x k true y) refl (confirming && holdsNewer t was x k true y) refl)
+      received-by z = subst (λ (a : Agent). Result (inserts t was x k true y) a) (sym (drop-away z ∙ turned)) (by-offer (takes t was x k true y) refl (confirming && holdsNewer t was x k true y) refl)
         where
           drop-away : (z : KeySet) → agentOf (dropKey (placeAt (Waits z x)) k spread) y ≡ agentOf spread y
           drop-away z = agent-same (dropKey (placeAt (Waits z x)) k spread) spread y (drop-length z x k spread)
@@ -166,32 +181,32 @@ module _ (t : Table) (limits : Limits (t .sizes)) (was : List ℕ) (narrow : Nar
     stays p i e = drop-other z x k (spread confirming) p i (same-not p (Waits z x) (λ (o : p ≡ Waits z x). omega (arith, ap placeKind o))) ∙ offered-other t was x k true confirming key agents p i (λ y l d o. e)
 
     received : Sends (agentOf was x) (said (sentKind confirming)) (with z (agentOf was x) (keysIn z (agentOf was x) ∖｛ k ｝)) →
-        Passed t agents x (sentKind confirming) k (takes t was x k true) (systemOf was) (systemOf after)
+        Passed t agents x (sentKind confirming) k (inserts t was x k true) (systemOf was) (systemOf after)
     received sends = record {
       there = there;
       entry = mine;
       sends = subst (λ (a : Agent). Sends (agentOf was x) (said (sentKind confirming)) a)
           (sym (drop-agent x k (spread confirming) (omega (arith, offered-length t was x k true confirming agents, room)) (omega arith) z
           ∙ ap (λ (a : Agent). with z a (keysIn z a ∖｛ k ｝)) (sender-same confirming))) sends;
-      itself = takes-self;
+      itself = inserts-self;
       receives = λ y l d. received-by confirming y l d z;
       environment-stays = fun-ext λ j. value-same after was Environment j (λ i. stays (Mark Environment j) i refl) (λ i. stays (Word Environment j) i refl);
       clock-stays = stays Clock tt refl;
     }
 
   pub sent-passed : (confirming : Bool) → has (wordAt was (Waits (setOf confirming) x)) k ≡ true →
-      Passed t agents x (sentKind confirming) k (takes t was x k true) (systemOf was) (systemOf (sent t was x k true confirming agents))
+      Passed t agents x (sentKind confirming) k (inserts t was x k true) (systemOf was) (systemOf (sent t was x k true confirming agents))
   sent-passed true h = received Zc true (CONFIRM h (entry-present was x k key entered))
   sent-passed false h = received Zp false (PROPAGATE h (entry-present was x k key entered))
 
--- THE THEOREM: the rules give the step on words and no other, and the same number of takers. `pending` is what a well-formed state has
-module _ (t : Table) (limits : Limits (t .sizes)) (was : List ℕ) (narrow : Narrow t was) (x k agents : ℕ) (room : HasBlocks was) (few : agents ≤ 32) (key : k < keyLimit) (confirming : Bool) {taking : ℕ → Bool} {S′ : System} where
-  pub passed-sent : (pending : has (wordAt was (Waits (setOf confirming) x)) k ≡ true → 0 < stampOf was x k) → Passed t agents x (sentKind confirming) k taking (systemOf was) S′ →
-      (has (wordAt was (Waits (setOf confirming) x)) k ≡ true) × (tally (howMany taking agents) ≡ offerTally t was x k true agents) × Same agents S′ (systemOf (sent t was x k true confirming agents))
+-- THE THEOREM: the rules give the step on words and no other, and the same counts. `pending` is what a well-formed state has
+module _ (t : Table) (limits : Limits (t .sizes)) (was : List ℕ) (narrow : Narrow t was) (x k agents : ℕ) (room : HasBlocks was) (few : agents ≤ 32) (key : k < keyLimit) (confirming : Bool) {rule : ℕ → Insertion} {S′ : System} where
+  pub passed-sent : (pending : has (wordAt was (Waits (setOf confirming) x)) k ≡ true → 0 < stampOf was x k) → Passed t agents x (sentKind confirming) k rule (systemOf was) S′ →
+      (has (wordAt was (Waits (setOf confirming) x)) k ≡ true) × (ruleTally rule agents ≡ offerTally t was x k true agents) × Same agents S′ (systemOf (sent t was x k true confirming agents))
   passed-sent pending p =
       let h = waiting confirming (p .sends) in
       let q = sent-passed t limits was narrow x k agents room few (p .there) key (pending h) confirming h in
-      (h, ap tally (passed-count p q), passed-unique p q)
+      (h, passed-count p q, passed-unique p q)
     where
       waiting : (b : Bool) {e : Entry} {a : Agent} → Sends (agentOf was x) (message (sentKind b) (agentOf was x) k e) a → has (wordAt was (Waits (setOf b) x)) k ≡ true
       waiting true h = sends-zc h refl

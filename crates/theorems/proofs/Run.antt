@@ -60,7 +60,8 @@ module _ (bytes s : List ℕ) (scratch : ℕ) (schedule answers : List ℕ) wher
     same-length = length-set (p .answers) n byte ∙ r .same-length;
     done = ap (λ (m : ℕ). m + cond (passed (at n .check)) 1 0) (r .done);
     refused = ap (λ (m : ℕ). p .refused + m) (refused-counted (at n .check)) ∙ ap (λ (m : ℕ). m + cond (not (passed (at n .check))) 1 0) (r .refused);
-    taken = ap (λ (m : ℕ). m + at n .tally .taken) (r .taken);
+    added = ap (λ (m : ℕ). m + at n .tally .added) (r .added);
+    replaced = ap (λ (m : ℕ). m + at n .tally .replaced) (r .replaced);
     total = omega (arith, r .total, one-counted (at n .check));
   }
     where
@@ -91,7 +92,8 @@ module _ (bytes s : List ℕ) (scratch : ℕ) (schedule answers : List ℕ) wher
       same-length = refl;
       done = refl;
       refused = refl;
-      taken = refl;
+      added = refl;
+      replaced = refl;
       total = refl;
     }
     runs (suc n) l =

@@ -9,6 +9,7 @@ use Rattle.table.specs.Tables.{Table}
 use Rattle.term.specs.declared.Label.{Label}
 use Rattle.term.specs.declared.Label.the-variants.{Ticking, Acting}
 use Rattle.term.specs.Processes.{Derivation}
+use Rattle.state.specs.declared.Insertion.{Insertion}
 use Rattle.labs.specs.Agents.{⟨_⸴_⸴_⸴_⸴_⟩, Agent, Interface, Stigmergy, System, _⟦_≔_⟧, _∪｛_｝, Inserted}
 use Rattle.labs.specs.Expressions.{Expr, E⟦_⟧_⇓_, K⟦_⟧}
 use Rattle.labs.specs.Processes.{attribute, stigmergy, environment, Action, assign, actionOf}
@@ -63,7 +64,7 @@ module _ (t : Table) (E : Interface) (T n : ℕ) (a : Agent) (d : Derivation) wh
   After (e ▹ attribute x) a′ E₁ T₁ b =
       (v : ℕ) × (E⟦ e ⟧ alone E a ⇓ v) × (E₁ ≡ E) × (T₁ ≡ T) × (b ≡ awaited t a (d .guards) ⟨ a′ .I ⟦ x ≔ Present v ⟧ ⸴ a′ .L ⸴ a′ .P ⸴ a′ .Zc ⸴ a′ .Zp ⟩)
   After (e ▹ stigmergy x) a′ E₁ T₁ b =
-      (v : ℕ) × (L′ : Stigmergy) × (E⟦ e ⟧ alone E a ⇓ v) × Inserted (a′ .L) x (record { value = v; time = suc T; writer = n }) L′ × (E₁ ≡ E) × (T₁ ≡ suc T)
+      (v : ℕ) × (rule : Insertion) × (L′ : Stigmergy) × (E⟦ e ⟧ alone E a ⇓ v) × Inserted (a′ .L) x (record { value = v; time = suc T; writer = n }) rule L′ × (E₁ ≡ E) × (T₁ ≡ suc T)
       × (b ≡ awaited t a (d .guards) ⟨ a′ .I ⸴ L′ ⸴ a′ .P ⸴ a′ .Zc ⸴ a′ .Zp ∪｛ x ｝ ⟩)
   After (e ▹ environment x) a′ E₁ T₁ b =
       (v : ℕ) × (E⟦ e ⟧ alone E a ⇓ v) × (E₁ ≡ (E ⟦ x ≔ Present v ⟧)) × (T₁ ≡ T) × (b ≡ awaited t a (d .guards) a′)
@@ -79,7 +80,7 @@ module _ (t : Table) (E : Interface) (T n : ℕ) (a : Agent) (d : Derivation) wh
   acts-end : {E₁ : Interface} {T₁ : ℕ} {b : Agent} → Acts t E T n a d E₁ T₁ b → Ends E₁ T₁ b
   acts-end (EPSILON m g) = ends m _ _ _ (refl, refl, refl)
   acts-end (EVAL-I v m g h) = ends m _ _ _ (v, h, refl, refl, refl)
-  acts-end (EVAL-L v m g h i) = ends m _ _ _ (v, _, h, i, refl, refl, refl)
+  acts-end (EVAL-L v m g h i) = ends m _ _ _ (v, _, _, h, i, refl, refl, refl)
   acts-end (EVAL-E v m g h) = ends m _ _ _ (v, h, refl, refl, refl)
 
   after-unique : (w : Will) (a′ : Agent) (E₁ E₂ : Interface) (T₁ T₂ : ℕ) (b c : Agent) → After w a′ E₁ T₁ b → After w a′ E₂ T₂ c → (E₁ ≡ E₂) × (T₁ ≡ T₂) × (b ≡ c)
@@ -91,11 +92,11 @@ module _ (t : Table) (E : Interface) (T n : ℕ) (a : Agent) (d : Derivation) wh
         p .4 ∙ ap (λ (v : ℕ). awaited t a (d .guards) ⟨ a′ .I ⟦ x ≔ Present v ⟧ ⸴ a′ .L ⸴ a′ .P ⸴ a′ .Zc ⸴ a′ .Zp ⟩) i ∙ sym (q .4),
       )
   after-unique (e ▹ stigmergy x) a′ E₁ E₂ T₁ T₂ b c p q =
-      let i : p .0 ≡ q .0 = one-value (alone E a) e (p .0) (q .0) (p .2) (q .2) in
-      let j : p .1 ≡ q .1 = inserted-unique (p .3) (subst (λ (v : ℕ). Inserted (a′ .L) x (record { value = v; time = suc T; writer = n }) (q .1)) (sym i) (q .3)) in (
-        p .4 ∙ sym (q .4),
+      let i : p .0 ≡ q .0 = one-value (alone E a) e (p .0) (q .0) (p .3) (q .3) in
+      let j : p .2 ≡ q .2 = inserted-unique (p .4) (subst (λ (v : ℕ). Inserted (a′ .L) x (record { value = v; time = suc T; writer = n }) (q .1) (q .2)) (sym i) (q .4)) .1 in (
         p .5 ∙ sym (q .5),
-        p .6 ∙ ap (λ (L : Stigmergy). awaited t a (d .guards) ⟨ a′ .I ⸴ L ⸴ a′ .P ⸴ a′ .Zc ⸴ a′ .Zp ∪｛ x ｝ ⟩) j ∙ sym (q .6),
+        p .6 ∙ sym (q .6),
+        p .7 ∙ ap (λ (L : Stigmergy). awaited t a (d .guards) ⟨ a′ .I ⸴ L ⸴ a′ .P ⸴ a′ .Zc ⸴ a′ .Zp ∪｛ x ｝ ⟩) j ∙ sym (q .7),
       )
   after-unique (e ▹ environment x) a′ E₁ E₂ T₁ T₂ b c p q =
       let i : p .0 ≡ q .0 = one-value (alone E a) e (p .0) (q .0) (p .1) (q .1) in (

@@ -1,6 +1,6 @@
 -- Demand 2: a step is done exactly when a rule of LAbS and the paper's limits allow it, and the state after it is the one that they give.
 use Prim.Native.Nat.{ℕ, _≤_, _<_}
-use mathlib.Core.Bool.{Bool, true}
+use mathlib.Core.Bool.{true}
 use mathlib.Core.Path.{_≡_}
 use mathlib.Core.Logic.{_↔_}
 use mathlib.Core.Option.{some}
@@ -11,6 +11,8 @@ use Rattle.table.specs.Checks.{passes, firstOf}
 use Rattle.table.specs.Tables.{Table, tableOf}
 use Rattle.term.specs.Terms.{Term, words}
 use Rattle.term.specs.Processes.{Derivation, derivations, process}
+use Rattle.state.specs.declared.Insertion.{Insertion}
+use Rattle.state.specs.Entries.{isAdd, isUpdate}
 use Rattle.state.specs.Evaluation.{linkHolds}
 use Rattle.state.specs.WellFormed.{Proper, Words}
 use Rattle.steps.specs.declared.Tally.{Tally}
@@ -22,16 +24,20 @@ use Rattle.labs.specs.Systems.{Acted, Passed, put, qry, between}
 use Rattle.labs.specs.Reading.{systemOf, initial}
 use Rattle.theorems.specs.Run.{Run}
 
+-- What a message counts: the agents that insert the entry by ADD, and by UPDATE
+abbrev pub ruleTally : (ℕ → Insertion) → ℕ → Tally
+ruleTally rule agents = record { added = howMany (λ (y : ℕ). isAdd (rule y)) agents; replaced = howMany (λ (y : ℕ). isUpdate (rule y)) agents }
+
 -- The step (kind, agent, number) may take S to S′, with this tally of the agents that take an entry: a rule gives it and the limits allow it:
 -- at most 65,535 derivations of every subterm of the residual, a clock of at most 65,535, at most 63 words left
 pub data Allowed (t : Table) (S S′ : System) : ℕ → ℕ → ℕ → Tally → Type 0 where
   act : {x c : ℕ} {d : Derivation} → Acted t (t .sizes .agents) x d S S′ → getElem? (derivations (process t (S .agent x .P))) c ≡ some d →
       ((P : Term) → Subterm P (S .agent x .P) → length (derivations (process t P)) ≤ 65535) →
-      S′ .clock ≤ 65535 → length (words (d .leaving)) ≤ 63 → Allowed t S S′ 0 x c (record { taken = 0 })
-  propagate : {x k : ℕ} {took : ℕ → Bool} → k < t .sizes .stigmergy → Passed t (t .sizes .agents) x put k took S S′ →
-      Allowed t S S′ 1 x k (record { taken = howMany took (t .sizes .agents) })
-  confirm : {x k : ℕ} {took : ℕ → Bool} → k < t .sizes .stigmergy → Passed t (t .sizes .agents) x qry k took S S′ →
-      Allowed t S S′ 2 x k (record { taken = howMany took (t .sizes .agents) })
+      S′ .clock ≤ 65535 → length (words (d .leaving)) ≤ 63 → Allowed t S S′ 0 x c (record { added = 0; replaced = 0 })
+  propagate : {x k : ℕ} {rule : ℕ → Insertion} → k < t .sizes .stigmergy → Passed t (t .sizes .agents) x put k rule S S′ →
+      Allowed t S S′ 1 x k (ruleTally rule (t .sizes .agents))
+  confirm : {x k : ℕ} {rule : ℕ → Insertion} → k < t .sizes .stigmergy → Passed t (t .sizes .agents) x qry k rule S S′ →
+      Allowed t S S′ 2 x k (ruleTally rule (t .sizes .agents))
 
 -- bytes, as slices hold them
 abbrev pub Bytes : List ℕ → Type 0

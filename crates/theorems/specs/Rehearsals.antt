@@ -17,11 +17,11 @@ unfoldable pub wordsFrom : ℕ → List ℕ → List ℕ
 wordsFrom i [] = []
 wordsFrom i (w ∷ ws) = cond (eqb w 0) (wordsFrom (suc i) ws) (i ∷ w ∷ wordsFrom (suc i) ws)
 
--- load's refusal and place, run's refusal and place, done, refused, taken, the answer bytes, and the state's words that are not 0
+-- load's refusal and place, run's refusal and place, done, refused, added, replaced, the answer bytes, and the state's words that are not 0
 abbrev pub summary : Outcome → Rehearsal → List ℕ
 summary l r =
     numberOf (l .check) ∷ placeOf (l .check) ∷ numberOf (r .check) ∷ placeOf (r .check)
-    ∷ r .progress .done ∷ r .progress .refused ∷ r .progress .tally .taken ∷ (r .progress .answers ++ wordsFrom 0 (r .progress .state))
+    ∷ r .progress .done ∷ r .progress .refused ∷ r .progress .tally .added ∷ r .progress .tally .replaced ∷ (r .progress .answers ++ wordsFrom 0 (r .progress .state))
 
 -- words with some of them replaced: a place and a word, and so on
 unfoldable pub patched : List ℕ → List ℕ → List ℕ

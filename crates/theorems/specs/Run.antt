@@ -44,7 +44,8 @@ module _ (bytes s : List ℕ) (scratch : ℕ) (schedule : List ℕ) where
     pub same-length : length (p .answers) ≡ length answers
     pub done : p .done ≡ howMany (λ (i : ℕ). passed (outcomeAt i .check)) n
     pub refused : p .refused ≡ howMany (λ (i : ℕ). not (passed (outcomeAt i .check))) n
-    pub taken : p .tally .taken ≡ forEach (λ (i sum : ℕ). sum + outcomeAt i .tally .taken) n 0
+    pub added : p .tally .added ≡ forEach (λ (i sum : ℕ). sum + outcomeAt i .tally .added) n 0
+    pub replaced : p .tally .replaced ≡ forEach (λ (i sum : ℕ). sum + outcomeAt i .tally .replaced) n 0
     pub total : p .done + p .refused ≡ n
 
   pub record Run (answers : List ℕ) : Type 0 where
@@ -56,4 +57,4 @@ module _ (bytes s : List ℕ) (scratch : ℕ) (schedule : List ℕ) where
         InTurn answers (size schedule) (runOf bytes s scratch schedule answers .progress)
     -- a refused run leaves state and answers as they came, and its totals are 0
     pub run-refused : (number place : ℕ) → runOf bytes s scratch schedule answers .check ≡ refuses number place →
-        runOf bytes s scratch schedule answers .progress ≡ record { state = s; answers = answers; done = 0; refused = 0; tally = record { taken = 0 } }
+        runOf bytes s scratch schedule answers .progress ≡ record { state = s; answers = answers; done = 0; refused = 0; tally = record { added = 0; replaced = 0 } }

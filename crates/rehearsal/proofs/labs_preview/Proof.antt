@@ -1,7 +1,7 @@
 -- `rehearsal::labs_preview` meets its contract.
 -- Assumes nothing.
 use Rattle.rehearsal.proofs.Places.{preview-near}
-use Rattle.rehearsal.proofs.Packed.{step-packs, step-place}
+use Rattle.rehearsal.proofs.Packed.{place-near, step-packs}
 use borrow.Author.Needs.{needs}
 use Rattle.rehearsal.proofs.labs_preview.Statement.{statement}
 use Rattle.rehearsal.proofs.labs_preview.Tie as tie
@@ -10,7 +10,7 @@ preview-requires : tie.Need-preview-requires
 preview-requires c κs = search needs
 
 pack-step-requires : tie.Need-pack-step-requires
-pack-step-requires c κs = step-place (c .before .before .before .before .preview .ensures) (preview-near _ _ _ _ _ _ _)
+pack-step-requires c κs = place-near (c .before .before .before .before .preview .ensures .check) (preview-near _ _ _ _ _ _ _)
 
 same-length : tie.Need-same-length
 same-length c = search needs

@@ -1,7 +1,7 @@
 -- `rehearsal::labs_step` meets its contract.
 -- Assumes nothing.
 use Rattle.rehearsal.proofs.Places.{step-near}
-use Rattle.rehearsal.proofs.Packed.{step-packs, step-place}
+use Rattle.rehearsal.proofs.Packed.{place-near, step-packs}
 use borrow.Author.Needs.{needs}
 use Rattle.rehearsal.proofs.labs_step.Statement.{statement}
 use Rattle.rehearsal.proofs.labs_step.Tie as tie
@@ -10,7 +10,7 @@ step-requires : tie.Need-step-requires
 step-requires c κs = search needs
 
 pack-step-requires : tie.Need-pack-step-requires
-pack-step-requires c κs = step-place (c .before .before .before .before .step .ensures) (step-near _ _ _ _ _ _)
+pack-step-requires c κs = place-near (c .before .before .before .before .step .ensures .check) (step-near _ _ _ _ _ _)
 
 same-length : tie.Need-same-length
 same-length c = search needs

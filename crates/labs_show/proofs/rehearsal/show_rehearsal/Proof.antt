@@ -21,7 +21,7 @@ printable c = c .before .before .before .before .before .before .before .before 
 fits : (c : tie.After-known-told) → length (totalsLine (c .before .ran .given .0 .0)) + length (stateLines (c .before .before .before .before .before .before .before .before .before .rehearse-input .last .1 .0)) ≤ shownBytes
 fits c =
     let k = c .known-told .given in
-    done-fits _ (λ i. c .before .before .before .before .before .before .before .slice-known5 .given i .fits) _ (record { done = omega (arith, k); refused = omega (arith, k); taken = omega (arith, k) }) (printable c .agents)
+    done-fits _ (λ i. c .before .before .before .before .before .before .before .slice-known5 .given i .fits) _ (record { done = omega (arith, k); refused = omega (arith, k); added = omega (arith, k); replaced = omega (arith, k) }) (printable c .agents)
 
 rehearse-input-requires : tie.Need-rehearse-input-requires
 rehearse-input-requires c κs = search needs

@@ -3,13 +3,16 @@
 use native.Mathlib.Omega.{arith}
 use Rattle.lines.specs.Text.{line, spaced}
 use Rattle.lines.specs.Lines.{totalsLine}
-use Rattle.lines.proofs.Writing.{wrote-then, line-size}
+use Rattle.lines.proofs.Writing.{wrote-then, spaced-size, line-size}
 use borrow.Author.Needs.{needs}
 use Rattle.lines.proofs.rows.totals_line.Statement.{statement}
 use Rattle.lines.proofs.rows.totals_line.Tie as tie
 
 slice-aggregate-put-named : tie.Need-slice-aggregate-put-named
 slice-aggregate-put-named c = search needs
+
+cast-put-named : tie.Need-cast-put-named
+cast-put-named c = search needs
 
 put-named-requires : tie.Need-put-named-requires
 unfolding totalsLine
@@ -18,38 +21,36 @@ put-named-requires c κs = let h = simp line-size at (c .before .before .before 
 slice-aggregate-put-named-2 : tie.Need-slice-aggregate-put-named-2
 slice-aggregate-put-named-2 c = search needs
 
+cast-put-named-2 : tie.Need-cast-put-named-2
+cast-put-named-2 c = search needs
+
 put-named-requires-2 : tie.Need-put-named-requires-2
 unfolding totalsLine
-put-named-requires-2 c κs = let h = simp line-size at (c .before .before .before .before .before .before .before .before .before .pre .fits) in omega arith
+put-named-requires-2 c κs = let h = simp line-size at (c .before .before .before .before .before .before .before .before .before .before .pre .fits) in omega arith
 
-slice-aggregate-put-named-3 : tie.Need-slice-aggregate-put-named-3
-slice-aggregate-put-named-3 c = search needs
-
-put-named-requires-3 : tie.Need-put-named-requires-3
+tally-end-requires : tie.Need-tally-end-requires
 unfolding totalsLine
-put-named-requires-3 c κs = let h = simp line-size at (c .before .before .before .before .before .before .before .before .before .before .before .before .before .before .pre .fits) in omega arith
-
-end-line-requires : tie.Need-end-line-requires
-unfolding totalsLine
-end-line-requires c κs = let h = simp line-size at (c .before .before .before .before .before .before .before .before .before .before .before .before .before .before .before .before .before .before .pre .fits) in omega arith
+tally-end-requires c κs = let h = simp line-size at (c .before .before .before .before .before .before .before .before .before .before .before .before .before .before .pre .fits) in record { fits = simp spaced-size (omega arith) }
 
 same-length : tie.Need-same-length
 same-length c = search needs
 
 returns : tie.Need-returns
 unfolding totalsLine line spaced
-returns c = wrote-then (c .before .before .before .before .before .before .before .before .before .before .before .before .before .before .before .before .put-named .ensures) (wrote-then (c .before .before .before .before .before .before .before .before .before .before .before .put-named2 .ensures) (wrote-then (c .before .before .before .before .before .before .put-named3 .ensures) (c .before .before .end-line .ensures)))
+returns c =
+    let refused = c .before .before .before .before .before .before in
+    wrote-then (refused .before .before .before .before .before .before .put-named .ensures) (wrote-then (refused .put-named2 .ensures) (c .before .before .tally-end .ensures))
 
 pub totals-line-spec : {M : Type 1} → statement M
 totals-line-spec =
     tie.close
     (tie.spec
     slice-aggregate-put-named
+    cast-put-named
     put-named-requires
     slice-aggregate-put-named-2
+    cast-put-named-2
     put-named-requires-2
-    slice-aggregate-put-named-3
-    put-named-requires-3
-    end-line-requires
+    tally-end-requires
     same-length
     returns)

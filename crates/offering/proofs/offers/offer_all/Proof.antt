@@ -1,28 +1,29 @@
 -- `offer_all` meets its contract: after the turns of the agents below `other` the words and the tally are those of these turns.
 -- Assumes nothing.
-use Prim.Native.Nat.{_-_, _≤_}
+use Prim.Native.Nat.{_-_, _<_, _≤_}
 use mathlib.Core.Path.{_≡_, refl, ap, _∙_}
 use native.Mathlib.Omega.{arith}
 use lib.ListN.{length}
 use borrow.Author.Needs.{needs}
 use Rattle.basis.specs.Numbers.{forEach, howMany}
-use Rattle.basis.proofs.KeySets.{has-either}
 use Rattle.table.specs.Tables.{table}
+use Rattle.state.specs.declared.Store.the-variants.{Entries}
+use Rattle.state.specs.Standing.{Pair, HasBlocks}
 use Rattle.steps.proofs.Offers.{offered-length}
-use Rattle.offering.proofs.Turns.{Turns, few-take, next-turn, judged, nobody, counts-once}
+use Rattle.offering.proofs.Turns.{Turns, few-take, next-turn, responds, nobody, counts-once}
 use Rattle.offering.proofs.offers.offer_all.Statement.{statement}
 use Rattle.offering.proofs.offers.offer_all.Tie as tie
 
 abbrev Inv-loop : tie.InvT-loop
-Inv-loop sizes kinds operands state₀ agent key counts confirming touched asked tally₀ linked entry other₀ state tally other =
+Inv-loop sizes kinds operands state₀ agent key counts confirming asked tally₀ linked entry other₀ state tally other =
     (other ≤ sizes .agents) × Turns (table sizes kinds operands) state₀ agent key counts confirming other tally state
 
 abbrev μ-loop : tie.MeasureT-loop
-μ-loop sizes kinds operands state₀ agent key counts confirming touched asked tally₀ linked entry other₀ state tally other = sizes .agents - other
+μ-loop sizes kinds operands state₀ agent key counts confirming asked tally₀ linked entry other₀ state tally other = sizes .agents - other
 
 -- where the loop begins, and where the function does
 abbrev found : tie.At-loop Inv-loop μ-loop → tie.After-receivers Inv-loop μ-loop
-found l = l .before .before .before .before .before .before .before .before
+found l = l .before .before .before .before .before .before .before
 
 abbrev start : tie.After-receivers Inv-loop μ-loop → tie.Start Inv-loop μ-loop
 start c = c .before .before .before .before .before
@@ -30,6 +31,12 @@ start c = c .before .before .before .before .before
 -- the words are still as many
 same : (l : tie.At-loop Inv-loop μ-loop) → length (l .loop .state) ≡ length (start (found l) .args .state .now)
 same l = ap length (l .loop .inv .1 .state) ∙ offered-length _ _ _ _ _ _ _
+
+-- an agent whose turn it is, and the key, are there
+there : (l : tie.At-loop Inv-loop μ-loop) → l .loop .other < start (found l) .args .sizes .agents → HasBlocks (l .loop .state) × Pair (Entries (l .loop .other)) (start (found l) .args .key)
+there l below =
+    let given = start (found l) .pre in
+    (omega (arith, same l, given .blocks), record { agent = omega (arith, given .shaped .limits .agents); key = omega (arith, given .key, given .shaped .limits .stigmergy) })
 
 receivers-requires : tie.Need-receivers-requires Inv-loop μ-loop
 receivers-requires c κs = search needs
@@ -42,8 +49,7 @@ same-length c = refl
 
 returns : tie.Need-returns Inv-loop μ-loop
 returns c =
-    let e = c .before .before .before in
-    rw (c .before .no-tally .ensures) (nobody _ _ _ _ _ _ _ _ (e .receivers .ensures) (has-either _ _) (c .if1 .taken) _ (omega arith))
+    rw (c .before .no-tally .ensures) (nobody _ _ _ _ _ _ _ _ (c .before .before .receivers .ensures) (c .if1 .taken) _ (omega arith))
 
 links-hold-requires : tie.Need-links-hold-requires Inv-loop μ-loop
 links-hold-requires c κs = search needs
@@ -56,13 +62,10 @@ unfolding forEach howMany
 loop-holds c = (omega arith, record { answer = c .before .before .before .before .before .no-tally .ensures; state = refl })
 
 respond-requires : tie.Need-respond-requires Inv-loop μ-loop
-respond-requires c κs = omega (arith, start (found (c .before .before)) .pre .shaped .limits .agents)
+respond-requires c κs = there (c .before .before .before) (c .before .if2 .taken)
 
 write-response-requires : tie.Need-write-response-requires Inv-loop μ-loop
-write-response-requires c κs =
-    let l = c .before .before .before .before in
-    let given = start (found l) .pre in
-    (omega (arith, same l, given .blocks), record { agent = omega (arith, given .shaped .limits .agents); key = omega (arith, given .key, given .shaped .limits .stigmergy) })
+write-response-requires c κs = there (c .before .before .before .before .before) (c .before .before .before .if2 .taken)
 
 tally-of-requires : tie.Need-tally-of-requires Inv-loop μ-loop
 tally-of-requires c κs = search needs
@@ -70,8 +73,10 @@ tally-of-requires c κs = search needs
 add-tally-requires : tie.Need-add-tally-requires Inv-loop μ-loop
 add-tally-requires c κs =
     let r = c .before .before .before .before .before in
-    let l = r .before .before .before in (
-      record { taken = omega (arith, start (found l) .pre .shaped .limits .agents, few-take _ _ _ _ _ _ _ (l .loop .inv .1)) },
+    let l = r .before .before .before .before in
+    let few-agents = start (found l) .pre .shaped .limits .agents in
+    let w = few-take _ _ _ _ _ _ _ (l .loop .inv .1) in (
+      record { added = omega (arith, few-agents, w .0); replaced = omega (arith, few-agents, w .1) },
       rw (c .tally-of .ensures) (counts-once (r .respond .result)),
     )
 
@@ -85,10 +90,12 @@ loop-again : tie.Need-loop-again Inv-loop μ-loop
 loop-again c =
     let w = c .before .before .before .before in
     let r = w .before .before in
-    let l = r .before .before .before in
-    let e = found l in
-    let is = judged _ _ _ _ _ _ _ _ (e .receivers .ensures) (has-either _ _) _ (l .before .before .before .links-hold .ensures) (l .loop .other) (omega arith) in
-    (omega arith, next-turn _ _ _ _ _ _ _ (l .loop .inv .1) (l .before .entry-of .ensures) (r .respond .ensures ∙ is) (w .write-response .ensures) (c .before .tally-of .ensures) (c .add-tally .ensures))
+    let l = r .before .before .before .before in
+    let turns = l .loop .inv .1 in
+    let mine = l .before .entry-of .ensures in
+    let key = there l (r .before .before .if2 .taken) .1 .key in
+    let is = responds _ _ _ _ _ _ _ _ (found l .receivers .ensures) key _ (l .before .before .before .links-hold .ensures) (l .loop .other) (omega arith) mine (turns .state) (r .respond .ensures) in
+    (omega arith, next-turn _ _ _ _ _ _ _ turns mine is (w .write-response .ensures) (c .before .tally-of .ensures) (c .add-tally .ensures))
 
 same-length-2 : tie.Need-same-length-2 Inv-loop μ-loop
 same-length-2 c = same (c .before .before)

@@ -1,26 +1,25 @@
--- `receivers` meets its contract: at `other` the sets hold the agents below it. Assumes nothing.
+-- `receivers` meets its contract: at `other` the set holds the agents below it. Assumes nothing.
 use Prim.Native.Nat.{_-_, _≤_}
 use mathlib.Core.Path.{_≡_, sym, _∙_}
 use native.Mathlib.Omega.{arith}
 use borrow.Author.Needs.{needs}
-use Rattle.basis.proofs.KeySets.{plusAll-zero}
-use Rattle.offering.specs.Passing.{Touched}
+use Rattle.basis.proofs.KeySets.{plusIf-twice, plusAll-zero}
+use Rattle.offering.specs.Passing.{touched}
 use Rattle.offering.proofs.Turns.{set-more}
 use Rattle.offering.proofs.offers.receivers.Statement.{statement}
 use Rattle.offering.proofs.offers.receivers.Tie as tie
 
 abbrev Inv-loop : tie.InvT-loop
-Inv-loop state agents agent key counts confirming mine takers₀ holders₀ other₀ takers holders other =
-    (other ≤ agents) × Touched state agent key counts confirming other (record { takers = takers; holders = holders })
+Inv-loop state agents agent key counts confirming mine touched₀ other₀ found other = (other ≤ agents) × (found ≡ touched state agent key counts confirming other)
 
 abbrev μ-loop : tie.MeasureT-loop
-μ-loop state agents agent key counts confirming mine takers₀ holders₀ other₀ takers holders other = agents - other
+μ-loop state agents agent key counts confirming mine touched₀ other₀ found other = agents - other
 
 entry-of-requires : tie.Need-entry-of-requires Inv-loop μ-loop
 entry-of-requires c κs = search needs
 
 loop-holds : tie.Need-loop-holds Inv-loop μ-loop
-loop-holds c = (omega arith, record { takers = sym (plusAll-zero _ 0); holders = sym (plusAll-zero _ 0) })
+loop-holds c = (omega arith, sym (plusAll-zero _ 0))
 
 entry-of-requires-2 : tie.Need-entry-of-requires-2 Inv-loop μ-loop
 entry-of-requires-2 c κs = search needs
@@ -47,14 +46,12 @@ loop-again : tie.Need-loop-again Inv-loop μ-loop
 loop-again c =
     let older = c .before .before in
     let theirs = older .before .before in
-    let l = theirs .before .before in
-    let had = l .loop .inv .1 in
-    let mine = l .before .entry-of .ensures in (
+    let l = theirs .before .before in (
       omega arith,
-      record {
-        takers = set-more _ _ (had .takers) (older .plus-if .ensures ∙ rw (older .before .newer .ensures, theirs .entry-of2 .ensures, mine));
-        holders = set-more _ _ (had .holders) (c .plus-if2 .ensures ∙ rw (c .before .newer2 .ensures, theirs .entry-of2 .ensures, mine));
-      },
+      set-more _ _ (l .loop .inv .1)
+          (c .plus-if2 .ensures
+          ∙ rw (older .plus-if .ensures, c .before .newer2 .ensures, older .before .newer .ensures, theirs .entry-of2 .ensures, l .before .entry-of .ensures)
+          (plusIf-twice (l .loop .touched) (l .loop .other) _ _)),
     )
 
 returns : tie.Need-returns Inv-loop μ-loop
