@@ -1,6 +1,6 @@
 /* Rehearses the fleet in a file, a table and after it a schedule, as labs_show does, and says what labs_show does not:
- * which steps were refused, and why, and how many agents would take an entry that waits to be sent. docs/FORMATS.md has
- * the formats.
+ * which steps were refused, and why, and how many agents would take an entry that waits to be sent, as their first one
+ * or over an older one. docs/FORMATS.md has the formats.
  * Status: 0 done, 1 load or run refused, 2 no such file. */
 #include "rehearsal.h"
 
@@ -9,7 +9,7 @@
 /* One byte more than the longest table and schedule. */
 static uint8_t input[LABS_TABLE_BYTES(LABS_MAX_NODES) + LABS_SCHEDULE_BYTES(LABS_MAX_STEPS) + 1];
 static uint8_t answers[LABS_MAX_STEPS];
-static uint32_t state[LABS_STATE_WORDS], next[LABS_STATE_WORDS], scratch[LABS_SCRATCH_WORDS];
+static uint32_t state[LABS_STATE_WORDS], next[LABS_STATE_WORDS], scratch[LABS_SCRATCH_WORDS], totals[LABS_TOTALS];
 
 static unsigned u16_at(const uint8_t *bytes)
 {
@@ -23,12 +23,12 @@ static int refused(const char *call, uint64_t answer)
     return LABS_IS_REFUSED(answer);
 }
 
-/* How many agents would take the entry, by a preview of the step that sends it; next is the state after that. */
-static unsigned takers(size_t table_len, uint8_t kind, unsigned agent, unsigned key)
+/* Says how many agents would take the entry, by a preview of the step that sends it; next is the state after that. */
+static void say_takers(size_t table_len, const char *what, uint8_t kind, unsigned agent, unsigned key)
 {
     uint64_t answer = labs_preview(input, table_len, state, LABS_STATE_WORDS, scratch, LABS_SCRATCH_WORDS,
                                    kind, (uint16_t)agent, (uint16_t)key, next, LABS_STATE_WORDS);
-    return LABS_STEP_TAKEN(answer);
+    printf(", to %s (would add %u replace %u)", what, LABS_STEP_ADDED(answer), LABS_STEP_REPLACED(answer));
 }
 
 int main(int argc, char **argv)
@@ -51,10 +51,12 @@ int main(int argc, char **argv)
     if (refused("load", labs_load(input, table_len, state, LABS_STATE_WORDS, scratch, LABS_SCRATCH_WORDS)))
         return 1;
     uint64_t answer = labs_run(input, table_len, state, LABS_STATE_WORDS, scratch, LABS_SCRATCH_WORDS,
-                               schedule, length - table_len, answers, sizeof answers);
+                               schedule, length - table_len, answers, sizeof answers, totals, LABS_TOTALS);
     if (refused("run", answer))
         return 1;
-    printf("done %u refused %u taken %u\n", LABS_RUN_DONE(answer), LABS_RUN_REFUSED(answer), LABS_RUN_TAKEN(answer));
+    unsigned added = totals[LABS_TOTAL_ADDED], replaced = totals[LABS_TOTAL_REPLACED];
+    printf("done %u refused %u taken %u added %u replaced %u\n", (unsigned)totals[LABS_TOTAL_DONE],
+           (unsigned)totals[LABS_TOTAL_REFUSED], added + replaced, added, replaced);
 
     unsigned steps = u16_at(schedule);
     for (unsigned i = 0; i < steps; i++) {
@@ -73,9 +75,9 @@ int main(int argc, char **argv)
                    (int)(int32_t)state[LABS_ENTRY_VALUE(agent, key)], stamp,
                    (unsigned)state[LABS_ENTRY_WRITER(agent, key)]);
             if (state[LABS_ZC(agent)] >> key & 1)
-                printf(", to confirm (%u would take it)", takers(table_len, LABS_CONFIRM, agent, key));
+                say_takers(table_len, "confirm", LABS_CONFIRM, agent, key);
             if (state[LABS_ZP(agent)] >> key & 1)
-                printf(", to propagate (%u would take it)", takers(table_len, LABS_PROPAGATE, agent, key));
+                say_takers(table_len, "propagate", LABS_PROPAGATE, agent, key);
             printf("\n");
         }
     }

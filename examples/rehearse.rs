@@ -1,6 +1,6 @@
 //! Rehearses the fleet in a file, a table and after it a schedule, as labs_show does, and says what labs_show does not:
-//! which steps were refused, and why, and how many agents would take an entry that waits to be sent. docs/FORMATS.md
-//! has the formats.
+//! which steps were refused, and why, and how many agents would take an entry that waits to be sent, as their first one
+//! or over an older one. docs/FORMATS.md has the formats.
 //! Status: 0 done, 1 load or run refused, 2 no such file.
 
 #[allow(dead_code)]
@@ -8,7 +8,8 @@
 mod rehearsal;
 
 use rehearsal::{
-    load, preview, run, taken_apart, word, Refused, Totals, MAX_KEYS, MAX_STEPS, SCRATCH_WORDS,
+    load, preview, run, taken_apart, word, Counts, Refused, Totals, MAX_KEYS, MAX_STEPS,
+    SCRATCH_WORDS, TOTALS,
 };
 use std::process::exit;
 
@@ -46,13 +47,25 @@ fn main() {
     let mut scratch = vec![0; SCRATCH_WORDS];
     let mut answers = vec![0; MAX_STEPS];
     report("load", load(table, &mut state, &mut scratch));
-    let answer = run(table, &mut state, &mut scratch, schedule, &mut answers);
+    let mut totals = [0; TOTALS];
+    report(
+        "run",
+        run(
+            table,
+            &mut state,
+            &mut scratch,
+            schedule,
+            &mut answers,
+            &mut totals,
+        ),
+    );
     let Totals {
         done,
         refused,
-        taken,
-    } = Totals::of(report("run", answer));
-    println!("done {done} refused {refused} taken {taken}");
+        counts,
+    } = Totals::of(totals);
+    let (taken, Counts { added, replaced }) = (counts.taken(), counts);
+    println!("done {done} refused {refused} taken {taken} added {added} replaced {replaced}");
 
     let steps = usize::from(u16_at(schedule, 0));
     for (i, &answer) in answers[..steps].iter().enumerate() {
@@ -81,8 +94,8 @@ fn main() {
                     // By a preview of the step that sends it; next is the state after that.
                     let (agent, key) = (agent as u16, key as u16);
                     let answer = preview(table, &state, &mut scratch, kind, agent, key, &mut next);
-                    let takers = report("preview", answer);
-                    print!(", to {what} ({takers} would take it)");
+                    let Counts { added, replaced } = Counts::of(report("preview", answer));
+                    print!(", to {what} (would add {added} replace {replaced})");
                 }
             }
             println!();

@@ -3,9 +3,9 @@
  * examples/rehearse.c is a whole program.
  *
  * Slices. A slice is a pointer and a count of elements. A caller owes for each that the pointer is aligned, not null
- * (also where the count is 0) and valid for so many elements, and that what is written (scratch, answers, next, and
- * state but in labs_preview) overlaps no other slice. Nothing else is asked: any bytes as table and schedule and any
- * words as state get an answer. No call keeps a pointer, allocates or prints.
+ * (also where the count is 0) and valid for so many elements, and that what is written (scratch, answers, totals, next,
+ * and state but in labs_preview) overlaps no other slice. Nothing else is asked: any bytes as table and schedule and
+ * any words as state get an answer. No call keeps a pointer, allocates or prints.
  *
  * Threads. The library has no data of its own. Calls may run in several threads at once, as long as no thread uses
  * what another one's call writes; a table, a schedule and a state that is previewed are only read, and may be shared.
@@ -15,7 +15,7 @@
  * residuals adds.
  *
  * Answers. An answer is one number, which the macros under "Answers" take apart. A refused call has its refusal and
- * its place in it, and leaves state, answer bytes and next as they came. */
+ * its place in it, and leaves state, answer bytes and next as they came; the totals of a refused run are 0. */
 #ifndef REHEARSAL_H
 #define REHEARSAL_H
 
@@ -150,14 +150,16 @@ enum labs_residual {
 #define LABS_REFUSAL(answer) ((unsigned)((answer) & 0xffff))
 #define LABS_PLACE(answer) (((answer) & ~LABS_REFUSED) >> 16)
 
-/* Of a step that is done, and of its preview: how many agents took the entry; of an act none. A load that is done
- * answers 0. */
-#define LABS_STEP_TAKEN(answer) ((unsigned)(answer))
+/* Of a step that is done, and of its preview: how many agents took the entry, those that had none for its key and those
+ * that had an older one, and both together; of an act none. A load or a run that is done answers 0. */
+#define LABS_STEP_ADDED(answer) ((unsigned)((answer) & 0xffff))
+#define LABS_STEP_REPLACED(answer) ((unsigned)((answer) >> 16 & 0xffff))
+#define LABS_STEP_TAKEN(answer) (LABS_STEP_ADDED(answer) + LABS_STEP_REPLACED(answer))
 
-/* Of a run that is not refused: how many steps were done, how many were refused, and how often an entry was taken. */
-#define LABS_RUN_DONE(answer) ((unsigned)((answer) & 0xffff))
-#define LABS_RUN_REFUSED(answer) ((unsigned)((answer) >> 16 & 0xffff))
-#define LABS_RUN_TAKEN(answer) ((unsigned)((answer) >> 32))
+/* The totals of a run, by their index in the words that are lent for them: how many steps were done, how many were
+ * refused, and how often an entry was taken by an agent that had none, and by one that had an older one. */
+enum labs_total { LABS_TOTAL_DONE = 0, LABS_TOTAL_REFUSED = 1, LABS_TOTAL_ADDED = 2, LABS_TOTAL_REPLACED = 3 };
+#define LABS_TOTALS 4
 
 /* Why a call was refused; of a step inside a run, its answer byte. */
 enum labs_refusal {
@@ -200,10 +202,11 @@ uint64_t labs_preview(const uint8_t *table, size_t table_len, const uint32_t *st
                       uint32_t *next, size_t next_len);
 
 /* Does each step of a schedule in turn, going on past refused ones, and writes a byte for each to answers: 0 if it is
- * done, or its refusal. Bytes of answers past the schedule's steps stay. */
+ * done, or its refusal. Bytes of answers past the schedule's steps stay. The totals go to the first LABS_TOTALS words
+ * of totals, or to all of them where there are fewer; words after them stay. */
 uint64_t labs_run(const uint8_t *table, size_t table_len, uint32_t *state, size_t state_len,
                   uint32_t *scratch, size_t scratch_len, const uint8_t *schedule, size_t schedule_len,
-                  uint8_t *answers, size_t answers_len);
+                  uint8_t *answers, size_t answers_len, uint32_t *totals, size_t totals_len);
 
 #ifdef __cplusplus
 }

@@ -87,21 +87,45 @@ pub fn taken_apart(answer: u64) -> Result<u64, Refused> {
     })
 }
 
+/// How many agents took an entry: those that had none for its key before the step, and those that had an older one.
+#[derive(Clone, Copy, Debug, PartialEq, Eq)]
+pub struct Counts {
+    pub added: u32,
+    pub replaced: u32,
+}
+
+impl Counts {
+    /// Of the report of a step, or of its preview.
+    pub fn of(report: u64) -> Counts {
+        Counts {
+            added: u32::from(report as u16),
+            replaced: u32::from((report >> 16) as u16),
+        }
+    }
+
+    pub fn taken(self) -> u32 {
+        self.added + self.replaced
+    }
+}
+
+/// How many totals a run has.
+pub const TOTALS: usize = 4;
+
 /// How many steps of a run were done, how many were refused, and how often an entry was taken.
 #[derive(Clone, Copy, Debug, PartialEq, Eq)]
 pub struct Totals {
-    pub done: u16,
-    pub refused: u16,
-    pub taken: u32,
+    pub done: u32,
+    pub refused: u32,
+    pub counts: Counts,
 }
 
 impl Totals {
-    /// Of the report of a run.
-    pub fn of(report: u64) -> Totals {
+    /// Of the words that a run has written.
+    pub fn of([done, refused, added, replaced]: [u32; TOTALS]) -> Totals {
         Totals {
-            done: report as u16,
-            refused: (report >> 16) as u16,
-            taken: (report >> 32) as u32,
+            done,
+            refused,
+            counts: Counts { added, replaced },
         }
     }
 }
@@ -178,6 +202,7 @@ pub fn run(
     scratch: &mut [u32],
     schedule: &[u8],
     answers: &mut [u8],
+    totals: &mut [u32],
 ) -> u64 {
     unsafe {
         labs_run(
@@ -191,6 +216,8 @@ pub fn run(
             schedule.len(),
             answers.as_mut_ptr(),
             answers.len(),
+            totals.as_mut_ptr(),
+            totals.len(),
         )
     }
 }
@@ -242,5 +269,7 @@ extern "C" {
         schedule_len: usize,
         answers: *mut u8,
         answers_len: usize,
+        totals: *mut u32,
+        totals_len: usize,
     ) -> u64;
 }

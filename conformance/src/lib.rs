@@ -16,12 +16,13 @@ use reference::cases::{Call, Case, ANSWER_FILL};
 pub const LISTS: [(u64, bool, u64); 3] =
     [(1, false, 40_000), (2, true, 40_000), (3, false, 20_000)];
 
-/// What a call gives back: the packed answer, the state and the answer bytes.
+/// What a call gives back: the packed answer, the state, the answer bytes, and the words that were lent for totals.
 #[derive(Clone, Debug, PartialEq, Eq)]
 pub struct Given {
     pub packed: u64,
     pub state: Vec<u32>,
     pub answers: Vec<u8>,
+    pub totals: Vec<u32>,
 }
 
 impl Given {
@@ -36,13 +37,23 @@ fn refusal(packed: u64) -> usize {
     usize::from(refused) * (packed & 0xffff) as usize
 }
 
+/// How many words are lent for totals, where nothing else is said: more than there are totals.
+const ROOM: usize = rehearsal::TOTALS + 2;
+
 /// What the second implementation gives back.
 pub fn expected(case: &Case) -> Given {
-    let outcome = case.outcome();
+    expected_with(case, ROOM)
+}
+
+/// The same, with so many words for totals.
+pub fn expected_with(case: &Case, room: usize) -> Given {
+    let mut totals = lent_totals(room);
+    let outcome = case.outcome_with(&mut totals);
     Given {
         packed: outcome.packed,
         state: outcome.state,
         answers: outcome.answers,
+        totals,
     }
 }
 
@@ -121,8 +132,18 @@ fn lent_scratch(case: &Case) -> Lent<u32> {
     Lent::new(&any_words(case.scratch, 0x5bd1_e995), 0xdead_beef)
 }
 
+/// What the words for totals hold before a call.
+pub fn lent_totals(room: usize) -> Vec<u32> {
+    any_words(room, 0x7ea1_5eed)
+}
+
 /// Makes a case's call on the proved library.
 pub fn call(case: &Case) -> Given {
+    call_with(case, ROOM)
+}
+
+/// The same, with so many words for totals.
+pub fn call_with(case: &Case, room: usize) -> Given {
     let table = case.table.clone();
     let mut state = Lent::new(&case.state, 0xdead_beef);
     let mut scratch = lent_scratch(case);
@@ -131,12 +152,14 @@ pub fn call(case: &Case) -> Given {
         _ => 0,
     };
     let mut answers = Lent::new(&vec![ANSWER_FILL; answers], 77);
+    let mut totals = Lent::new(&lent_totals(room), 0xdead_beef);
     let packed = call_on(
         &table,
         state.slice(),
         scratch.slice(),
         &case.call,
         answers.slice(),
+        totals.slice(),
     );
     assert!(table == case.table, "the table was written");
     scratch.content();
@@ -144,6 +167,7 @@ pub fn call(case: &Case) -> Given {
         packed,
         state: state.content(),
         answers: answers.content(),
+        totals: totals.content(),
     }
 }
 
@@ -181,12 +205,15 @@ pub fn call_on(
     scratch: &mut [u32],
     call: &Call,
     answers: &mut [u8],
+    totals: &mut [u32],
 ) -> u64 {
     match call {
         Call::Load => rehearsal::load(table, state, scratch),
         Call::Step(step) => {
             rehearsal::step(table, state, scratch, step.kind, step.agent, step.number)
         }
-        Call::Run { schedule, .. } => rehearsal::run(table, state, scratch, schedule, answers),
+        Call::Run { schedule, .. } => {
+            rehearsal::run(table, state, scratch, schedule, answers, totals)
+        }
     }
 }

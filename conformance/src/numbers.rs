@@ -7,7 +7,7 @@ use std::rc::Rc;
 use reference::count::OVER;
 use reference::draft::Draft;
 use reference::machine::open;
-use reference::refusal::{pack, Refusal, Totals};
+use reference::refusal::{pack, write_totals, Counts, Refusal, Totals};
 use reference::schedule::{self, MAX_STEPS};
 use reference::state::{Agent, Entry, World, MAX_CLOCK, STATE_WORDS};
 use reference::step::Step;
@@ -405,25 +405,51 @@ fn answers() -> Vec<Named> {
             all.push(named(&format!("{name}(UINT64_C({answer}))"), number));
         }
     }
-    for taken in [0, 31] {
-        let answer = pack(&Ok(taken));
+    for (added, replaced) in [(0, 0), (31, 0), (0, 31), (11, 20)] {
+        let counts = Counts { added, replaced };
+        let answer = pack(&Ok(counts));
         all.push(named(&format!("LABS_IS_REFUSED(UINT64_C({answer}))"), 0));
-        let name = format!("LABS_STEP_TAKEN(UINT64_C({answer}))");
-        all.push(named(&name, taken));
-    }
-    for (done, refused, taken) in [(0, 0, 0), (1, 8_191, 0), (8_192, 0, 253_952)] {
-        let answer = pack(&Ok(Totals {
-            done,
-            refused,
-            taken,
-        }));
-        all.push(named(&format!("LABS_IS_REFUSED(UINT64_C({answer}))"), 0));
-        for (name, number) in [("DONE", done), ("REFUSED", refused), ("TAKEN", taken)] {
-            let name = format!("LABS_RUN_{name}(UINT64_C({answer}))");
+        for (name, number) in [
+            ("ADDED", added),
+            ("REPLACED", replaced),
+            ("TAKEN", counts.taken()),
+        ] {
+            let name = format!("LABS_STEP_{name}(UINT64_C({answer}))");
             all.push(named(&name, number));
         }
     }
     all
+}
+
+/// A run's totals, all different, in words that were 0.
+const TOTALS: [u32; 4] = [10, 20, 30, 40];
+
+fn written_totals() -> [u32; 8] {
+    let [done, refused, added, replaced] = TOTALS;
+    let answer = Ok(Totals {
+        done,
+        refused,
+        counts: Counts { added, replaced },
+    });
+    let mut words = [0; 8];
+    write_totals(&answer, &mut words);
+    words
+}
+
+/// Where each total of a run stands.
+pub fn totals() -> Vec<Named> {
+    let words = written_totals();
+    let at = |(name, total): (&str, u32)| {
+        let place = words.iter().position(|&word| word == total);
+        named(&format!("LABS_TOTAL_{name}"), place.expect("it is written"))
+    };
+    let names = ["DONE", "REFUSED", "ADDED", "REPLACED"];
+    names.into_iter().zip(TOTALS).map(at).collect()
+}
+
+fn how_many_totals() -> Vec<Named> {
+    let count = written_totals().iter().filter(|&&word| word > 0).count();
+    vec![named("LABS_TOTALS", count)]
 }
 
 /// All of them.
@@ -439,6 +465,8 @@ pub fn all() -> Vec<Named> {
         residual_words(),
         scratch(),
         answers(),
+        totals(),
+        how_many_totals(),
         refusals(),
     ]
     .concat()

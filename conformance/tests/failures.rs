@@ -77,6 +77,7 @@ fn a_closed_output_cannot_be_written() {
 fn the_example_is_printed_otherwise() {
     let Some(program) = labs_show() else { return };
     let output = run(&program, r#"exec "$0""#);
-    assert!(output.stdout.starts_with(b"done 5 refused 2 taken 1\n"));
+    let first = b"done 5 refused 2 taken 1 added 1 replaced 0\n";
+    assert!(output.stdout.starts_with(first));
     assert_eq!(output.stderr, b"");
 }

@@ -7,6 +7,7 @@ use std::process::Command;
 
 use conformance::page::{block, bytes, commands, root, rows, text};
 use conformance::program::{labs_show, printed};
+use conformance::rehearsal::TOTALS;
 use conformance::{
     any_words, call, expected, expected_preview, numbers, preview, Given, Previewed,
 };
@@ -140,8 +141,11 @@ fn the_bytes_give_what_the_page_says() {
         let (_, rest) = flat.split_once(before).expect(before);
         rest.split(after).next().unwrap().to_string()
     };
-    let packed = between("`labs_run` answers ", ", which");
-    assert_eq!(packed.replace(',', ""), given.packed.to_string());
+    let packed = between("`labs_run` answers ", ",");
+    assert_eq!(packed, given.packed.to_string());
+    let totals = between("writes the totals ", " (");
+    let totals: Vec<u32> = totals.split(", ").map(|n| n.parse().unwrap()).collect();
+    assert_eq!(totals, given.totals[..TOTALS]);
     let answers = bytes(&between("writes the answer bytes `", "`"));
     assert_eq!(given.answers[..steps.len()], answers);
     let words = rows(&page, "| Word | Value | What it is |");
@@ -190,6 +194,7 @@ fn one_more_step_is_answered_as_the_page_says() {
     let (table, bytes) = split(&input);
     let steps = schedule::read(bytes).unwrap();
     let state = run(table, bytes).state;
+    let mut packed_seen = 0;
     for row in rows(&page, "| Step | Answer | Why |") {
         let fields: Vec<u16> = row[0].split(' ').map(|x| x.parse().unwrap()).collect();
         let step = Step {
@@ -203,7 +208,12 @@ fn one_more_step_is_answered_as_the_page_says() {
         let seen = previewed(table, &state, step, STATE_WORDS);
         assert_eq!(seen.refusal().to_string(), row[1], "{}", row[0]);
         assert_eq!(seen.next == given.state, row[1] == "0");
+        if let Some((_, packed)) = row[2].split_once("`labs_preview` answers ") {
+            assert_eq!(packed.replace(',', ""), seen.packed.to_string());
+            packed_seen += 1;
+        }
     }
+    assert_eq!(packed_seen, 1);
 }
 
 /// The bytes with the changes of a cell: `37: 02`, `..116`, `+ 0a`.
@@ -252,7 +262,7 @@ fn the_mistakes_give_what_the_page_says() {
     }
 }
 
-/// Kinds, refusals and steps, with their names and numbers.
+/// Kinds, refusals, steps and totals, with their names and numbers.
 #[test]
 fn the_tables_of_names_are_the_references() {
     let page = page();
@@ -269,6 +279,8 @@ fn the_tables_of_names_are_the_references() {
     assert_eq!(refusals, numbers::refusals());
     let steps = listed("| Kind | Name | Number | What is done |", "");
     assert_eq!(steps, numbers::step_kinds());
+    let totals = listed("| Total | Index by | What it is |", "");
+    assert_eq!(totals, numbers::totals());
 }
 
 /// A sum such as `34 + 146a + 2k`, for an agent, a key and a word of the residual.
@@ -456,9 +468,10 @@ fn buffers_are_refused_as_the_page_says() {
         schedule: vec![0, 0],
         answers: 0,
     };
+    let nothing = agreed(table, loaded(table).state, 2 * nodes, empty);
     assert_eq!(
-        agreed(table, loaded(table).state, 2 * nodes, empty).packed,
-        0
+        (nothing.packed, &nothing.totals[..TOTALS]),
+        (0, &[0; TOTALS][..])
     );
 }
 

@@ -9,10 +9,10 @@ use std::process::{Command, Stdio};
 
 use conformance::numbers::{self, Named};
 use conformance::rehearsal::{
-    self, taken_apart, word, Refused, Totals, MAX_AGENTS, MAX_KEYS, MAX_NODES, MAX_RESIDUAL,
-    MAX_STEPS, SCRATCH_WORDS,
+    self, taken_apart, word, Counts, Refused, Totals, MAX_AGENTS, MAX_KEYS, MAX_NODES,
+    MAX_RESIDUAL, MAX_STEPS, SCRATCH_WORDS, TOTALS,
 };
-use reference::refusal::{pack, Refusal};
+use reference::refusal::{pack, write_totals, Refusal};
 use reference::Reason;
 
 /// Compilers with the language that each is to take the header as.
@@ -39,7 +39,8 @@ fn program(all: &[Named]) -> String {
         writeln!(text, "(uint64_t)({name}),").unwrap();
     }
     text.push_str(
-        "0};\nstatic uint32_t state[LABS_STATE_WORDS], scratch[LABS_SCRATCH_WORDS], next[LABS_STATE_WORDS];\n\
+        "0};\nstatic uint32_t state[LABS_STATE_WORDS], scratch[LABS_SCRATCH_WORDS], next[LABS_STATE_WORDS],\n\
+         totals[LABS_TOTALS];\n\
          static const uint32_t *const seen = state;\n\
          int main(void)\n{\n\
          uint8_t none[1] = {0};\n\
@@ -49,7 +50,8 @@ fn program(all: &[Named]) -> String {
          answer |= labs_step(none, 0, state, LABS_STATE_WORDS, scratch, LABS_SCRATCH_WORDS, LABS_ACT, 0, 0);\n\
          answer |= labs_preview(none, 0, seen, LABS_STATE_WORDS, scratch, LABS_SCRATCH_WORDS, LABS_ACT, 0, 0,\n\
          next, LABS_STATE_WORDS);\n\
-         answer |= labs_run(none, 0, state, LABS_STATE_WORDS, scratch, LABS_SCRATCH_WORDS, none, 0, none, 0);\n\
+         answer |= labs_run(none, 0, state, LABS_STATE_WORDS, scratch, LABS_SCRATCH_WORDS, none, 0, none, 0,\n\
+         totals, LABS_TOTALS);\n\
          return LABS_REFUSAL(answer) == LABS_REFUSAL_TABLE_SHORT ? 0 : 1;\n}\n",
     );
     text
@@ -195,18 +197,25 @@ fn every_number_of_the_module_is_the_references() {
         };
         assert_eq!(taken_apart(answer), Err(refused));
     }
-    let (done, refused, taken) = (8_191, 1, 70_000);
-    let answer = pack(&Ok(reference::Totals {
-        done: u32::from(done),
-        refused: u32::from(refused),
-        taken,
-    }));
-    let totals = Totals {
-        done,
-        refused,
-        taken,
-    };
-    assert_eq!(taken_apart(answer).map(Totals::of), Ok(totals));
+    for (added, replaced) in [(0, 0), (31, 0), (0, 31), (11, 20)] {
+        let answer = pack(&Ok(reference::Counts { added, replaced }));
+        let counts = taken_apart(answer).map(Counts::of);
+        assert_eq!(counts, Ok(Counts { added, replaced }));
+        assert_eq!(Counts { added, replaced }.taken(), added + replaced);
+        let answer = Ok(reference::Totals {
+            done: 8_191,
+            refused: 1,
+            counts: reference::Counts { added, replaced },
+        });
+        let mut words = [99; TOTALS];
+        write_totals(&answer, &mut words);
+        let totals = Totals {
+            done: 8_191,
+            refused: 1,
+            counts: Counts { added, replaced },
+        };
+        assert_eq!(Totals::of(words), totals);
+    }
 }
 
 /// Threads that share a table and a state that they preview, each with other buffers of its own.

@@ -1,9 +1,11 @@
 //! labs_load, labs_step and labs_run answer as the second implementation does. (labs_preview is in another file.)
 
 use conformance::fleets::long_link;
-use conformance::rehearsal::word;
+use conformance::rehearsal::{word, Counts, TOTALS};
 use conformance::residuals::long_residuals;
-use conformance::{any_words, call, expected, preview, Given, LISTS};
+use conformance::{
+    any_words, call, call_with, expected, expected_with, lent_totals, preview, Given, LISTS,
+};
 use reference::cases::{Call, Case, ANSWER_FILL};
 use reference::describe::describe;
 use reference::draft::Draft;
@@ -11,8 +13,9 @@ use reference::faults::pairs;
 use reference::generate::case;
 use reference::generate::edges::{accept, deep_chain, with_writer};
 use reference::on_deep_stack;
+use reference::rng::Rng;
 use reference::schedule;
-use reference::state::{World, STATE_WORDS};
+use reference::state::{Entry, World, STATE_WORDS};
 use reference::stats::Tally;
 use reference::step::Step;
 use reference::table::MAX_NODES;
@@ -26,6 +29,23 @@ const SMALL_STACK: usize = 800 << 10;
 struct Seen {
     calls: [Tally; 3],
     inside: Tally,
+}
+
+/// How often some were added, some replaced, and both, with counts that differ.
+#[derive(Debug, Default)]
+struct Counted([u64; 3]);
+
+impl Counted {
+    fn add(&mut self, added: u32, replaced: u32) {
+        let both = added > 0 && replaced > 0 && added != replaced;
+        for (count, occurred) in self.0.iter_mut().zip([added > 0, replaced > 0, both]) {
+            *count += u64::from(occurred);
+        }
+    }
+
+    fn complete(&self) -> bool {
+        !self.0.contains(&0)
+    }
 }
 
 impl Seen {
@@ -65,9 +85,10 @@ fn agreed(case: &Case, which: &str) -> Given {
         let same = [
             proved.state == expected.state,
             proved.answers == expected.answers,
+            proved.totals == expected.totals,
         ];
         panic!(
-            "{which}: answer {} and not {}; state, answer bytes the same: {same:?}\n{}",
+            "{which}: answer {} and not {}; state, answer bytes, totals the same: {same:?}\n{}",
             proved.packed,
             expected.packed,
             describe(case)
@@ -79,6 +100,7 @@ fn agreed(case: &Case, which: &str) -> Given {
 #[test]
 fn every_call_answers_as_the_reference_does() {
     on_deep_stack(|| {
+        let (mut by_steps, mut by_runs) = (Counted::default(), Counted::default());
         for (seed, small, count) in LISTS {
             let mut seen = Seen::default();
             for index in 0..count {
@@ -89,13 +111,103 @@ fn every_call_answers_as_the_reference_does() {
                     assert!(given.answers.iter().all(|&byte| byte == ANSWER_FILL));
                 }
                 seen.add(&case, &given);
+                match case.call {
+                    Call::Step(_) if given.refusal() == 0 => {
+                        let Counts { added, replaced } = Counts::of(given.packed);
+                        by_steps.add(added, replaced);
+                    }
+                    Call::Run { .. } => by_runs.add(given.totals[2], given.totals[3]),
+                    _ => {}
+                }
             }
             assert!(
                 seen.complete(),
                 "an answer never occurred under seed {seed}"
             );
         }
+        assert!(by_steps.complete() && by_runs.complete());
     });
+}
+
+/// As many totals as there is room for, in the order of the header; 0 where the run is refused; no other word.
+#[test]
+fn runs_write_the_totals_that_there_is_room_for() {
+    let (mut counted, mut refused) = (Counted::default(), 0);
+    for index in 0..4_000 {
+        let case = case(4, index, true);
+        if !matches!(case.call, Call::Run { .. }) {
+            continue;
+        }
+        let whole = call_with(&case, TOTALS);
+        for room in 0..=TOTALS + 3 {
+            let given = call_with(&case, room);
+            assert!(given == expected_with(&case, room), "case {index}, {room}");
+            let mut wanted = lent_totals(room);
+            let first = room.min(TOTALS);
+            wanted[..first].copy_from_slice(&whole.totals[..first]);
+            assert_eq!(given.totals, wanted, "case {index}, {room}");
+        }
+        match whole.refusal() {
+            0 => counted.add(whole.totals[2], whole.totals[3]),
+            _ => {
+                assert_eq!(whole.totals, [0; TOTALS]);
+                refused += 1;
+            }
+        }
+    }
+    assert!(counted.complete() && refused > 100, "{counted:?} {refused}");
+}
+
+/// Agents of each sort: linked or not, and without an entry, with an older one, with one of the same stamp, with a
+/// newer one. The counts of the library are those of the agents that were there.
+#[test]
+fn steps_count_what_agents_had() {
+    let rng = &mut Rng::new(5);
+    let mut counted = Counted::default();
+    for others in 0..32usize {
+        let mut draft = Draft::new(1, 0);
+        let idle = draft.idle();
+        draft.link_where_set(0);
+        draft.agents = vec![idle; others + 1];
+        let (table, fleet) = accept(&draft);
+        let mut world = World::start(&fleet);
+        world.clock = 9;
+        world.agents[0].entries.insert(0, Entry::new(7, 5, 0));
+        world.agents[0].to_propagate.insert(0);
+        world.agents[0].to_confirm.insert(0);
+        let mut wanted = Counts {
+            added: 0,
+            replaced: 0,
+        };
+        for agent in 1..=others {
+            let (linked, stamp) = (rng.chance(70), *rng.pick(&[0, 4, 5, 6]));
+            if linked {
+                world.agents[agent].attributes.insert(0, 1);
+            }
+            if stamp > 0 {
+                let entry = Entry::new(agent as i32, stamp, 0);
+                world.agents[agent].entries.insert(0, entry);
+            }
+            match (linked, stamp) {
+                (true, 0) => wanted.added += 1,
+                (true, 4) => wanted.replaced += 1,
+                _ => {}
+            }
+        }
+        for step in [Step::propagate(0, 0), Step::confirm(0, 0)] {
+            let case = Case {
+                table: table.clone(),
+                state: world.words(),
+                fill: 0,
+                scratch: 2 * MAX_NODES,
+                call: Call::Step(step),
+            };
+            let given = agreed(&case, &format!("{others} others"));
+            assert_eq!(Counts::of(given.packed), wanted, "{others} others");
+            counted.add(wanted.added, wanted.replaced);
+        }
+    }
+    assert!(counted.complete(), "{counted:?}");
 }
 
 /// The order of the refusals: of two faults that a call holds, the library answers the one that the reference does.

@@ -1,7 +1,7 @@
 //! The stack that an act keeps, and each level of its walks, held to docs/DECISIONS.md.
 
 use conformance::page::{rows, text};
-use conformance::rehearsal::{self, SCRATCH_WORDS};
+use conformance::rehearsal::{self, SCRATCH_WORDS, TOTALS};
 use conformance::stack::touched;
 use reference::draft::Draft;
 use reference::generate::edges::accept;
@@ -44,7 +44,8 @@ impl Acting {
         let (before, mut scratch) = (world.words(), vec![0; SCRATCH_WORDS]);
         let mut after = [(); 3].map(|()| before.clone());
         let [step, preview, run] = &mut after;
-        let (schedule, mut answers) = (schedule::write(&[Step::act(0, 0)]), [1]);
+        let schedule = schedule::write(&[Step::act(0, 0)]);
+        let (mut answers, mut totals) = ([1], [u32::MAX; TOTALS]);
         let mut packed = [u64::MAX; 3];
         let bytes = [
             touched(STACK, || {
@@ -54,10 +55,11 @@ impl Acting {
                 packed[1] = rehearsal::preview(&table, &before, &mut scratch, 0, 0, 0, preview);
             }),
             touched(STACK, || {
-                packed[2] = rehearsal::run(&table, run, &mut scratch, &schedule, &mut answers);
+                let (answers, totals) = (&mut answers, &mut totals);
+                packed[2] = rehearsal::run(&table, run, &mut scratch, &schedule, answers, totals);
             }),
         ];
-        assert_eq!(packed, [0, 0, 1], "the act is done");
+        assert_eq!((packed, totals), ([0; 3], [1, 0, 0, 0]), "the act is done");
         assert!(after
             .iter()
             .all(|state| *state == after[0] && *state != before));

@@ -20,7 +20,7 @@ use reference::show::show;
 use reference::state::{World, STATE_WORDS};
 use reference::step::Step;
 use reference::table::{Sizes, MAX_NODES};
-use reference::{load, machine, run};
+use reference::{load, machine, run, Counts};
 
 /// The example that README rehearses.
 const STORED: &str = "crates/labs_show/stdin";
@@ -49,8 +49,10 @@ fn told(input: &[u8]) -> (String, i32) {
     }
     let totals = totals.unwrap();
     let mut lines = String::new();
-    let (done, refused, taken) = (totals.done, totals.refused, totals.taken);
-    writeln!(lines, "done {done} refused {refused} taken {taken}").unwrap();
+    let [done, refused, added, replaced] = totals.numbers();
+    let taken = totals.counts.taken();
+    write!(lines, "done {done} refused {refused} taken {taken} ").unwrap();
+    writeln!(lines, "added {added} replaced {replaced}").unwrap();
     for (i, step) in schedule::read(schedule).unwrap().iter().enumerate() {
         let kind = match step.kind {
             0 => "act",
@@ -71,14 +73,17 @@ fn told(input: &[u8]) -> (String, i32) {
             let (value, stamp, writer) = (entry.value, entry.stamp, entry.writer);
             write!(lines, "agent {i} key {key}: value {value} ").unwrap();
             write!(lines, "stamp {stamp} writer {writer}").unwrap();
-            let takers = |step| world.clone().step(&fleet, step).unwrap();
+            let sends = |step| {
+                let Counts { added, replaced } = world.clone().step(&fleet, step).unwrap();
+                format!("(would add {added} replace {replaced})")
+            };
             if agent.to_confirm.contains(key) {
-                let takers = takers(Step::confirm(i as u16, *key));
-                write!(lines, ", to confirm ({takers} would take it)").unwrap();
+                let sends = sends(Step::confirm(i as u16, *key));
+                write!(lines, ", to confirm {sends}").unwrap();
             }
             if agent.to_propagate.contains(key) {
-                let takers = takers(Step::propagate(i as u16, *key));
-                write!(lines, ", to propagate ({takers} would take it)").unwrap();
+                let sends = sends(Step::propagate(i as u16, *key));
+                write!(lines, ", to propagate {sends}").unwrap();
             }
             lines.push('\n');
         }

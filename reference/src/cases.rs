@@ -29,7 +29,7 @@
 use std::io::{self, Write};
 
 use crate::machine;
-use crate::refusal::{pack, say, Answer, Report};
+use crate::refusal::{pack, say, write_totals, Answer, Report};
 use crate::step::Step;
 
 /// The word that fills a state that is not zero.
@@ -106,6 +106,11 @@ fn told<T: Report>(answer: &Answer<T>) -> (u64, String) {
 impl Case {
     /// Makes the call.
     pub fn outcome(&self) -> Outcome {
+        self.outcome_with(&mut [])
+    }
+
+    /// Makes the call, with words that are lent for the totals of a run.
+    pub fn outcome_with(&self, totals: &mut [u32]) -> Outcome {
         let mut state = self.state.clone();
         let mut answers = Vec::new();
         let (packed, said) = match &self.call {
@@ -127,13 +132,15 @@ impl Case {
                 answers: length,
             } => {
                 answers = vec![ANSWER_FILL; *length];
-                told(&machine::run(
+                let answer = machine::run(
                     &self.table,
                     &mut state,
                     self.scratch,
                     schedule,
                     &mut answers,
-                ))
+                );
+                write_totals(&answer, totals);
+                told(&answer)
             }
         };
         Outcome {

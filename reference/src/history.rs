@@ -4,7 +4,7 @@
 use std::collections::{BTreeMap, BTreeSet};
 
 use crate::machine::open;
-use crate::refusal::{Answer, Reason};
+use crate::refusal::{Answer, Counts, Reason};
 use crate::state::{World, STATE_WORDS};
 use crate::step::Step;
 use crate::syntax::{Key, Store};
@@ -43,7 +43,7 @@ impl History {
     }
 
     /// The next step with the length of its scratch; says what it answers.
-    pub fn note(&mut self, scratch_words: usize, step: Step) -> Answer<u32> {
+    pub fn note(&mut self, scratch_words: usize, step: Step) -> Answer<Counts> {
         if scratch_words < 2 * self.fleet.sizes.nodes {
             return Err(Reason::BufferLength.into());
         }

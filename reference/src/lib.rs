@@ -27,7 +27,7 @@ pub mod term;
 pub mod value;
 
 pub use machine::{load, preview, run, step};
-pub use refusal::{pack, Answer, Reason, Refusal, Totals};
+pub use refusal::{pack, Answer, Counts, Reason, Refusal, Totals};
 
 /// Runs on a stack that is deep enough for the deepest trees that a table can
 /// hold: 4,096 nodes under one another.

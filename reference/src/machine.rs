@@ -2,7 +2,7 @@
 //! changes nothing that is lent. Scratch is lent by its length alone: this
 //! implementation has no use for the words.
 
-use crate::refusal::{Answer, Reason, Totals};
+use crate::refusal::{Answer, Counts, Reason, Totals};
 use crate::schedule;
 use crate::state::{World, STATE_WORDS};
 use crate::step::Step;
@@ -49,10 +49,10 @@ fn stepped(
     written_words: usize,
     scratch_words: usize,
     step: Step,
-) -> Answer<(World, u32)> {
+) -> Answer<(World, Counts)> {
     let (fleet, mut world) = open_at(table, state, written_words, scratch_words)?;
-    let taken = world.step(&fleet, step)?;
-    Ok((world, taken))
+    let counts = world.step(&fleet, step)?;
+    Ok((world, counts))
 }
 
 /// Does one step; reports how many agents took the entry.
@@ -63,15 +63,15 @@ pub fn step(
     kind: u8,
     agent: u16,
     number: u16,
-) -> Answer<u32> {
+) -> Answer<Counts> {
     let step = Step {
         kind,
         agent,
         number,
     };
-    let (world, taken) = stepped(table, state, state.len(), scratch_words, step)?;
+    let (world, counts) = stepped(table, state, state.len(), scratch_words, step)?;
     world.encode(state);
-    Ok(taken)
+    Ok(counts)
 }
 
 /// Says what a step would do: it is done on a copy, which is written to `next`,
@@ -84,15 +84,15 @@ pub fn preview(
     agent: u16,
     number: u16,
     next: &mut [u32],
-) -> Answer<u32> {
+) -> Answer<Counts> {
     let step = Step {
         kind,
         agent,
         number,
     };
-    let (world, taken) = stepped(table, state, next.len(), scratch_words, step)?;
+    let (world, counts) = stepped(table, state, next.len(), scratch_words, step)?;
     world.encode(next);
-    Ok(taken)
+    Ok(counts)
 }
 
 /// Does each step of a schedule in turn, past refused ones, and writes 0 or
@@ -112,9 +112,9 @@ pub fn run(
     let mut totals = Totals::default();
     for (step, answer) in steps.into_iter().zip(answers) {
         match world.step(&fleet, step) {
-            Ok(taken) => {
+            Ok(counts) => {
                 totals.done += 1;
-                totals.taken += taken;
+                totals.counts += counts;
                 *answer = 0;
             }
             Err(refusal) => {

@@ -1,5 +1,7 @@
 //! Answers: what a call returns, and how it is packed into one number.
 
+use std::ops::AddAssign;
+
 /// Why a call was refused. The numbers are those of the paper's table.
 #[derive(Clone, Copy, Debug, PartialEq, Eq, PartialOrd, Ord, Hash)]
 #[repr(u8)]
@@ -80,12 +82,41 @@ impl From<Reason> for Refusal {
 
 pub type Answer<T> = Result<T, Refusal>;
 
+/// How many agents took an entry: those that had none for its key, and those
+/// that had an older one.
+#[derive(Clone, Copy, Debug, Default, PartialEq, Eq)]
+pub struct Counts {
+    pub added: u32,
+    pub replaced: u32,
+}
+
+impl Counts {
+    pub fn taken(self) -> u32 {
+        self.added + self.replaced
+    }
+}
+
+impl AddAssign for Counts {
+    fn add_assign(&mut self, more: Counts) {
+        self.added += more.added;
+        self.replaced += more.replaced;
+    }
+}
+
 /// What a run that is not refused returns.
 #[derive(Clone, Copy, Debug, Default, PartialEq, Eq)]
 pub struct Totals {
     pub done: u32,
     pub refused: u32,
-    pub taken: u32,
+    pub counts: Counts,
+}
+
+impl Totals {
+    /// As they stand in a buffer that is lent for them.
+    pub fn numbers(&self) -> [u32; 4] {
+        let Counts { added, replaced } = self.counts;
+        [self.done, self.refused, added, replaced]
+    }
 }
 
 /// What a done call reports: as one number, and as totals.
@@ -106,22 +137,23 @@ impl Report for () {
 }
 
 /// A step reports how many agents took the entry.
-impl Report for u32 {
+impl Report for Counts {
     fn number(&self) -> u64 {
-        u64::from(*self)
+        u64::from(self.added) + (u64::from(self.replaced) << 16)
     }
 
     fn totals(&self) -> Totals {
         Totals {
-            taken: *self,
+            counts: *self,
             ..Totals::default()
         }
     }
 }
 
+/// A run's totals are not in its number.
 impl Report for Totals {
     fn number(&self) -> u64 {
-        u64::from(self.done) + (u64::from(self.refused) << 16) + (u64::from(self.taken) << 32)
+        0
     }
 
     fn totals(&self) -> Totals {
@@ -144,13 +176,20 @@ pub fn pack<T: Report>(answer: &Answer<T>) -> u64 {
 pub fn say<T: Report>(answer: &Answer<T>) -> String {
     match answer {
         Ok(report) => {
-            let Totals {
-                done,
-                refused,
-                taken,
-            } = report.totals();
-            format!("done {done} {refused} {taken}")
+            let totals = report.totals();
+            let [done, refused, added, replaced] = totals.numbers();
+            let taken = totals.counts.taken();
+            format!("done {done} {refused} {taken} {added} {replaced}")
         }
         Err(refusal) => format!("refused {} {}", refusal.reason.number(), refusal.place),
+    }
+}
+
+/// What a run leaves in the buffer that is lent for its totals: the first ones,
+/// as many as there is room for, each 0 where the run is refused.
+pub fn write_totals(answer: &Answer<Totals>, lent: &mut [u32]) {
+    let totals = answer.unwrap_or_default();
+    for (word, number) in lent.iter_mut().zip(totals.numbers()) {
+        *word = number;
     }
 }

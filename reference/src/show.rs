@@ -33,13 +33,10 @@ fn rehearse(input: &[u8]) -> Answer<String> {
 }
 
 fn lines(totals: Totals, world: &World) -> String {
-    let Totals {
-        done,
-        refused,
-        taken,
-    } = totals;
+    let [done, refused, added, replaced] = totals.numbers();
+    let taken = totals.counts.taken();
     let mut lines = vec![
-        format!("done {done} refused {refused} taken {taken}"),
+        format!("done {done} refused {refused} taken {taken} added {added} replaced {replaced}"),
         format!("clock {}", world.clock),
     ];
     for (key, value) in &world.environment {

@@ -3,7 +3,7 @@
 use std::collections::BTreeSet;
 
 use crate::derive::{any_over, select, Derivation};
-use crate::refusal::{Answer, Reason};
+use crate::refusal::{Answer, Counts, Reason};
 use crate::state::{Entry, World, MAX_CLOCK};
 use crate::syntax::{Key, Store};
 use crate::table::Fleet;
@@ -47,7 +47,7 @@ impl Step {
 impl World {
     /// Does a step, or refuses it and changes nothing. Reports how many agents
     /// took the entry.
-    pub fn step(&mut self, fleet: &Fleet, step: Step) -> Answer<u32> {
+    pub fn step(&mut self, fleet: &Fleet, step: Step) -> Answer<Counts> {
         let who = usize::from(step.agent);
         if who >= fleet.sizes.agents {
             return Err(Reason::StepOutOfRange.into());
@@ -73,7 +73,7 @@ impl World {
         select(&agent.residual, u32::from(choice), fleet).ok_or(Reason::NoSuchChoice.into())
     }
 
-    fn act(&mut self, fleet: &Fleet, who: usize, choice: u16) -> Answer<u32> {
+    fn act(&mut self, fleet: &Fleet, who: usize, choice: u16) -> Answer<Counts> {
         let derivation = self.chosen(fleet, who, choice)?;
         let scene = Scene::Agent(&self.agents[who], &self.environment);
         if !derivation.guards.values().all(|guard| guard.holds(scene)) {
@@ -119,7 +119,7 @@ impl World {
                 agent.to_propagate.insert(key);
             }
         }
-        Ok(0)
+        Ok(Counts::default())
     }
 
     /// Whether the key's link holds from one agent to another.
@@ -137,48 +137,49 @@ impl World {
             .collect()
     }
 
-    /// The agent takes a newer entry, which keeps its writer.
-    fn take(&mut self, who: usize, key: Key, entry: Entry) {
+    /// The agent takes a newer entry, which keeps its writer, and is counted.
+    fn take(&mut self, who: usize, key: Key, entry: Entry, counts: &mut Counts) {
         let agent = &mut self.agents[who];
-        agent.entries.insert(key, entry);
+        match agent.entries.insert(key, entry) {
+            None => counts.added += 1,
+            Some(_) => counts.replaced += 1,
+        }
         agent.to_propagate.insert(key);
         agent.to_confirm.remove(&key);
     }
 
-    fn propagate(&mut self, fleet: &Fleet, who: usize, key: Key) -> Answer<u32> {
+    fn propagate(&mut self, fleet: &Fleet, who: usize, key: Key) -> Answer<Counts> {
         if !self.agents[who].to_propagate.contains(&key) {
             return Err(Reason::KeyNotInSet.into());
         }
         let offered = self.agents[who].entries[&key];
         let neighbours = self.neighbours(fleet, key, who);
         self.agents[who].to_propagate.remove(&key);
-        let mut taken = 0;
+        let mut counts = Counts::default();
         for other in neighbours {
             if self.agents[other].stamp(key) < offered.stamp {
-                self.take(other, key, offered);
-                taken += 1;
+                self.take(other, key, offered, &mut counts);
             }
         }
-        Ok(taken)
+        Ok(counts)
     }
 
-    fn confirm(&mut self, fleet: &Fleet, who: usize, key: Key) -> Answer<u32> {
+    fn confirm(&mut self, fleet: &Fleet, who: usize, key: Key) -> Answer<Counts> {
         if !self.agents[who].to_confirm.contains(&key) {
             return Err(Reason::KeyNotInSet.into());
         }
         let asked = self.agents[who].entries[&key];
         let neighbours = self.neighbours(fleet, key, who);
         self.agents[who].to_confirm.remove(&key);
-        let mut taken = 0;
+        let mut counts = Counts::default();
         for other in neighbours {
             let stamp = self.agents[other].stamp(key);
             if stamp < asked.stamp {
-                self.take(other, key, asked);
-                taken += 1;
+                self.take(other, key, asked, &mut counts);
             } else if stamp > asked.stamp {
                 self.agents[other].to_propagate.insert(key);
             }
         }
-        Ok(taken)
+        Ok(counts)
     }
 }

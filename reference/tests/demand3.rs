@@ -73,9 +73,9 @@ fn watch(rng: &mut Rng, table: &[u8], length: usize, seen: &mut Seen) {
         assert_eq!(after.clock as usize, watch.history.writes.len());
         seen.others += others(&after);
         match answer {
-            Ok(taken) => {
+            Ok(counts) => {
                 seen.done += 1;
-                seen.taken += taken as usize;
+                seen.taken += counts.taken() as usize;
             }
             Err(_) => {
                 seen.refused += 1;

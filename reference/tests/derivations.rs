@@ -317,7 +317,8 @@ fn doubling_definitions_end_quickly() {
         }
         let mut input = edges::doubling(64, true).bytes();
         input.extend(schedule::write(&[Step::act(0, 0)]));
-        assert_eq!(show(&input), "done 1 refused 0 taken 0\nclock 0\n");
+        let done = "done 1 refused 0 taken 0 added 0 replaced 0\nclock 0\n";
+        assert_eq!(show(&input), done);
     });
 }
 

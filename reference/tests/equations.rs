@@ -25,6 +25,8 @@ fn together_they_show_all_that_is_required() {
     let kinds = (0..=255).filter(|kind| required().contains(&Feature::Kind(*kind)));
     assert!(kinds.eq((0..=9).chain(16..=22).chain(32..=40).chain([64])));
     assert!((10..=18).all(|refusal| required().contains(&Feature::Step(refusal))));
+    let taken = [Feature::Added, Feature::Replaced].map(|of| [false, true].map(of));
+    assert!(required().is_superset(&taken.concat().into_iter().collect()));
     let writers = [
         Feature::OtherWriter(false),
         Feature::OtherWriter(true),
@@ -55,7 +57,7 @@ fn what_the_example_shows() {
     wanted.extend([
         Feature::Step(11),
         Feature::Step(15),
-        Feature::Propagated,
+        Feature::Added(false),
         Feature::RefusedAmongDone,
     ]);
     assert_eq!(shown(&all()[0]), wanted);

@@ -14,7 +14,7 @@ use reference::step::Step;
 use reference::syntax::Operator;
 use reference::table::Fleet;
 use reference::term::{PARALLEL, TICK};
-use reference::Totals;
+use reference::{Counts, Totals};
 
 /// Two agents that do nothing, one key with a true link.
 fn pair() -> (Vec<u8>, Fleet) {
@@ -29,9 +29,9 @@ fn pair() -> (Vec<u8>, Fleet) {
     (table, fleet)
 }
 
-/// Agent 0 propagates or confirms its entry to agent 1; says what is taken,
+/// Agent 0 propagates or confirms its entry to agent 1; says what is counted,
 /// and agents 0 and 1 afterwards.
-fn exchange(kind: u8, own: Entry, other: Option<Entry>) -> (u32, World) {
+fn exchange(kind: u8, own: Entry, other: Option<Entry>) -> (Counts, World) {
     let (table, fleet) = pair();
     let mut before = World::start(&fleet);
     before.clock = 9;
@@ -50,18 +50,18 @@ fn exchange(kind: u8, own: Entry, other: Option<Entry>) -> (u32, World) {
         agent: 0,
         number: 0,
     };
-    let taken = do_step(&table, &mut state, step).expect("the step is done");
+    let told = do_step(&table, &mut state, step).expect("the step is done");
     let after = world(&table, &state);
     assert_eq!(after.agents[0].entries[&0], own);
     assert!(after.agents[0].to_propagate.is_empty() && after.agents[0].to_confirm.is_empty());
-    (taken, after)
+    (told, after)
 }
 
 #[test]
 fn a_equal_stamp_stays() {
     for kind in [1, 2] {
-        let (taken, after) = exchange(kind, Entry::new(9, 3, 1), Some(Entry::new(5, 3, 0)));
-        assert_eq!(taken, 0);
+        let (told, after) = exchange(kind, Entry::new(9, 3, 1), Some(Entry::new(5, 3, 0)));
+        assert_eq!(told, counts(0, 0));
         assert_eq!(after.agents[1].entries[&0], Entry::new(5, 3, 0));
         assert!(after.agents[1].to_propagate.is_empty());
         assert!(after.agents[1].to_confirm.contains(&0));
@@ -69,10 +69,10 @@ fn a_equal_stamp_stays() {
 }
 
 #[test]
-fn b_higher_stamp_is_taken() {
+fn b_higher_stamp_replaces() {
     for kind in [1, 2] {
-        let (taken, after) = exchange(kind, Entry::new(9, 4, 1), Some(Entry::new(5, 3, 0)));
-        assert_eq!(taken, 1);
+        let (told, after) = exchange(kind, Entry::new(9, 4, 1), Some(Entry::new(5, 3, 0)));
+        assert_eq!(told, counts(0, 1));
         assert_eq!(after.agents[1].entries[&0], Entry::new(9, 4, 1));
         assert!(after.agents[1].to_propagate.contains(&0));
         assert!(after.agents[1].to_confirm.is_empty());
@@ -80,10 +80,10 @@ fn b_higher_stamp_is_taken() {
 }
 
 #[test]
-fn c_taken_where_none_is_stored() {
+fn c_added_where_none_is_stored() {
     for kind in [1, 2] {
-        let (taken, after) = exchange(kind, Entry::new(5, 3, 0), None);
-        assert_eq!(taken, 1);
+        let (told, after) = exchange(kind, Entry::new(5, 3, 0), None);
+        assert_eq!(told, counts(1, 0));
         assert_eq!(after.agents[1].entries[&0], Entry::new(5, 3, 0));
         assert!(after.agents[1].to_propagate.contains(&0));
     }
@@ -259,14 +259,14 @@ fn small_remainders_by_searching_the_floor() {
 
 #[test]
 fn j_a_confirm_leaves_newer_entries_alone() {
-    let (taken, after) = exchange(2, Entry::new(5, 3, 1), Some(Entry::new(9, 4, 0)));
-    assert_eq!(taken, 0);
+    let (told, after) = exchange(2, Entry::new(5, 3, 1), Some(Entry::new(9, 4, 0)));
+    assert_eq!(told, counts(0, 0));
     assert_eq!(after.agents[1].entries[&0], Entry::new(9, 4, 0));
     assert!(after.agents[1].to_propagate.contains(&0));
     assert!(after.agents[1].to_confirm.contains(&0));
     // A propagate does nothing at all to a newer entry.
-    let (taken, after) = exchange(1, Entry::new(5, 3, 1), Some(Entry::new(9, 4, 0)));
-    assert_eq!(taken, 0);
+    let (told, after) = exchange(1, Entry::new(5, 3, 1), Some(Entry::new(9, 4, 0)));
+    assert_eq!(told, counts(0, 0));
     assert!(after.agents[1].to_propagate.is_empty());
 }
 
@@ -295,7 +295,7 @@ fn a_load_writes_every_word() {
 }
 
 const EXAMPLE_LINES: &str = "\
-done 5 refused 2 taken 1
+done 5 refused 2 taken 1 added 1 replaced 0
 clock 1
 s 0 0 7 1 0
 a 1 0 7
@@ -340,7 +340,7 @@ fn the_example_is_printed_as_in_the_paper_with_writers() {
         Ok(Totals {
             done: 5,
             refused: 2,
-            taken: 1
+            counts: counts(1, 0)
         })
     );
     assert_eq!(answers, [15, 0, 11, 0, 0, 0, 0]);
@@ -387,7 +387,7 @@ fn show_prints_every_kind_of_line_in_order() {
     ];
     input.extend(schedule::write(&list));
     let expected = "\
-done 8 refused 1 taken 1
+done 8 refused 1 taken 1 added 1 replaced 0
 clock 3
 e 1 -3
 s 0 0 5 2 0
@@ -412,7 +412,8 @@ fn show_splits_its_input() {
     assert_eq!(show(&table[..table.len() - 1]), "refused 3 0\n");
     assert_eq!(show(&table), "refused 19 0\n");
     assert_eq!(show(&with(&[0])), "refused 19 0\n");
-    assert_eq!(show(&with(&[0, 0])), "done 0 refused 0 taken 0\nclock 0\n");
+    let nothing = "done 0 refused 0 taken 0 added 0 replaced 0\nclock 0\n";
+    assert_eq!(show(&with(&[0, 0])), nothing);
     assert_eq!(show(&with(&[0, 0, 0])), "refused 19 0\n");
     let mut bad = with(&[0, 0]);
     bad[12 + 4] = 23;
@@ -426,7 +427,8 @@ fn thirty_two_agents_pass() {
     let table = edges::crowd(32).bytes();
     let mut state = start(&table);
     assert_eq!(steps(&table, &mut state, Step::act(31, 0)), 0);
-    assert_eq!(do_step(&table, &mut state, Step::propagate(31, 0)), Ok(31));
+    let told = do_step(&table, &mut state, Step::propagate(31, 0));
+    assert_eq!(told, Ok(counts(31, 0)));
     let agents = world(&table, &state).agents;
     assert!(agents.iter().all(|a| a.entries[&0] == Entry::new(1, 1, 31)));
 }
@@ -450,7 +452,7 @@ fn show_prints_the_writer() {
     ];
     let shown = |list: &[Step]| show(&[draft.bytes(), schedule::write(list)].concat());
     let expected = "\
-done 4 refused 0 taken 2
+done 4 refused 0 taken 2 added 2 replaced 0
 clock 2
 s 0 0 8 2 0
 p 0 0

@@ -17,7 +17,7 @@ use reference::stats::{Stats, Tally};
 use reference::step::Step;
 use reference::syntax::{ExprForm, GuardForm, Party, ProcessForm};
 use reference::table::Node;
-use reference::{on_deep_stack, schedule};
+use reference::{on_deep_stack, schedule, Totals};
 
 const CASES: u64 = 3_000;
 
@@ -115,8 +115,8 @@ fn lines_say_answer_and_digests() {
     assert_eq!(outcome.answers, [15, 0, 11, 0, 0, 0, 0, ANSWER_FILL]);
     let line = outcome.line();
     let words: Vec<&str> = line.trim_end().split(' ').collect();
-    assert_eq!(words[..4], ["done", "5", "2", "1"]);
-    assert_eq!(words.len(), 6);
+    assert_eq!(words[..6], ["done", "5", "2", "1", "1", "0"]);
+    assert_eq!(words.len(), 8);
     let load = Case {
         state: vec![FILL; 2],
         fill: FILL,
@@ -177,23 +177,25 @@ fn a_run_is_its_steps_in_turn() {
         }
         let list = schedule::read(schedule).unwrap();
         let mut state = case.state.clone();
-        let (mut done, mut refused, mut taken) = (0u64, 0u64, 0u64);
+        let mut totals = Totals::default();
         for (i, step) in list.iter().enumerate() {
             match do_step(&case.table, &mut state, *step) {
-                Ok(count) => {
-                    done += 1;
-                    taken += u64::from(count);
+                Ok(counts) => {
+                    totals.done += 1;
+                    totals.counts += counts;
                     assert_eq!(outcome.answers[i], 0);
                 }
                 Err(refusal) => {
-                    refused += 1;
+                    totals.refused += 1;
                     assert_eq!(outcome.answers[i], refusal.reason.number());
                 }
             }
         }
         assert_eq!(state, outcome.state);
-        assert_eq!(done + refused, list.len() as u64);
-        assert_eq!(outcome.packed, done + (refused << 16) + (taken << 32));
+        assert_eq!((totals.done + totals.refused) as usize, list.len());
+        let mut written = [0; 4];
+        assert_eq!(case.outcome_with(&mut written), outcome);
+        assert_eq!((outcome.packed, written), (0, totals.numbers()));
         assert_eq!(outcome.answers.len(), *answers);
         assert!(outcome.answers[list.len()..]
             .iter()

@@ -6,7 +6,7 @@ use common::*;
 use reference::cases::Call;
 use reference::generate::{case, edges};
 use reference::on_deep_stack;
-use reference::refusal::Answer;
+use reference::refusal::{Answer, Counts};
 use reference::state::{entry_at, STATE_WORDS};
 use reference::stats::Tally;
 use reference::step::Step;
@@ -14,7 +14,7 @@ use reference::step::Step;
 /// What the second buffer holds before a call; no state is like it.
 const FILL: u32 = 0x1234_5678;
 
-fn previews(table: &[u8], state: &[u32], s: Step, next: &mut [u32]) -> Answer<u32> {
+fn previews(table: &[u8], state: &[u32], s: Step, next: &mut [u32]) -> Answer<Counts> {
     reference::preview(table, state, SCRATCH, s.kind, s.agent, s.number, next)
 }
 
@@ -62,22 +62,22 @@ fn the_example() {
             Err(_) => assert!(next.iter().all(|&word| word == FILL)),
         }
         answers.push(match seen {
-            Ok(taken) => (0, taken),
-            Err(refusal) => (refusal.reason.number(), 0),
+            Ok(counts) => (0, counts),
+            Err(refusal) => (refusal.reason.number(), counts(0, 0)),
         });
     }
-    let refused = |number| (number, 0);
-    let taken = |count| (0, count);
+    let refused = |number| (number, counts(0, 0));
+    let added = |count| (0, counts(count, 0));
     assert_eq!(
         answers,
         [
             refused(15),
-            taken(0),
+            added(0),
             refused(11),
-            taken(1),
-            taken(0),
-            taken(0),
-            taken(0)
+            added(1),
+            added(0),
+            added(0),
+            added(0)
         ]
     );
 }
@@ -89,7 +89,7 @@ fn a_write_is_seen_before_it_is_done() {
     let state = start(&table);
     let mut next = vec![FILL; STATE_WORDS];
     let seen = previews(&table, &state, Step::act(0, 0), &mut next);
-    assert_eq!(seen, Ok(0));
+    assert_eq!(seen, Ok(counts(0, 0)));
     let at = entry_at(0, 0);
     assert_eq!((state[0], &state[at..at + 3]), (0, &[0, 0, 0][..]));
     assert_eq!((next[0], &next[at..at + 3]), (1, &[7, 1, 0][..]));
@@ -100,7 +100,7 @@ fn a_write_is_seen_before_it_is_done() {
     assert_eq!(brief(first), (18, 0));
     assert!(after.iter().all(|&word| word == FILL));
     let second = previews(&table, &next, propagate, &mut after);
-    assert_eq!(second, Ok(1));
+    assert_eq!(second, Ok(counts(1, 0)));
 }
 
 /// Whatever the second buffer holds: no state, this one, or another one.
@@ -109,7 +109,8 @@ fn what_the_second_buffer_holds_is_free() {
     let table = edges::example().bytes();
     let state = start(&table);
     let mut written = state.clone();
-    assert_eq!(do_step(&table, &mut written, Step::act(0, 0)), Ok(0));
+    let done = do_step(&table, &mut written, Step::act(0, 0));
+    assert_eq!(done, Ok(counts(0, 0)));
     let mut ill_formed = state.clone();
     ill_formed[1] += 1;
     for before in [
@@ -121,7 +122,7 @@ fn what_the_second_buffer_holds_is_free() {
     ] {
         let mut next = before.clone();
         let done = previews(&table, &state, Step::act(0, 0), &mut next);
-        assert_eq!(done, Ok(0));
+        assert_eq!(done, Ok(counts(0, 0)));
         assert_eq!(next, written);
         for (first, step, want) in [
             (&state, Step::act(1, 0), 15),

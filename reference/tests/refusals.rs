@@ -5,12 +5,12 @@ mod common;
 use common::*;
 use reference::draft::Draft;
 use reference::generate::edges;
-use reference::refusal::{Reason, Refusal};
+use reference::refusal::{write_totals, Reason, Refusal};
 use reference::schedule::{self, MAX_STEPS};
 use reference::state::{Entry, World, STATE_WORDS};
 use reference::step::Step;
 use reference::term::Term;
-use reference::{load, on_deep_stack, pack, run, step, Totals};
+use reference::{load, on_deep_stack, pack, run, step, Counts, Totals};
 
 /// The header of a table: N, D, A, I, S, V.
 fn with_header(table: &[u8], fields: [u16; 6]) -> Vec<u8> {
@@ -972,20 +972,48 @@ fn r20_answers() {
 
 #[test]
 fn answers_are_packed() {
-    let refused = |reason, place| Err::<u32, _>(Refusal::at(reason, place));
+    let refused = |reason, place| Err::<Counts, _>(Refusal::at(reason, place));
     assert_eq!(pack(&refused(Reason::TableShort, 0)), (1 << 63) + 1);
     assert_eq!(
         pack(&refused(Reason::BadNode, 4_095)),
         (1 << 63) + 65_536 * 4_095 + 4
     );
     assert_eq!(pack(&Ok(())), 0);
-    assert_eq!(pack(&Ok(31u32)), 31);
+    assert_eq!(pack(&Ok(counts(31, 0))), 31);
+    assert_eq!(pack(&Ok(counts(0, 31))), 31 * 65_536);
+    assert_eq!(pack(&Ok(counts(12, 19))), 12 + 19 * 65_536);
+    // A run's totals go to a buffer.
     let totals = Totals {
         done: 5,
         refused: 2,
-        taken: 1,
+        counts: counts(3, 1),
     };
-    assert_eq!(pack(&Ok(totals)), 5 + 2 * 65_536 + (1 << 32));
+    assert_eq!(pack(&Ok(totals)), 0);
+    let written = |answer| {
+        [0, 1, 2, 3, 4, 6].map(|room| {
+            let mut lent = vec![99; room];
+            write_totals(&answer, &mut lent);
+            lent
+        })
+    };
+    let rooms = [
+        vec![],
+        vec![5],
+        vec![5, 2],
+        vec![5, 2, 3],
+        vec![5, 2, 3, 1],
+        vec![5, 2, 3, 1, 99, 99],
+    ];
+    assert_eq!(written(Ok(totals)), rooms);
+    let nothing = [
+        vec![],
+        vec![0],
+        vec![0, 0],
+        vec![0, 0, 0],
+        vec![0, 0, 0, 0],
+        vec![0, 0, 0, 0, 99, 99],
+    ];
+    assert_eq!(written(Err(Reason::TableShort.into())), nothing);
 }
 
 #[test]

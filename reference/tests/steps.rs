@@ -7,6 +7,7 @@ use reference::draft::Draft;
 use reference::state::{Entry, World};
 use reference::step::Step;
 use reference::table::Fleet;
+use reference::Counts;
 
 /// A fleet of one agent with this process, 2 attributes, 4 stigmergy keys and
 /// 1 environment key; the agent has entries for keys 1, 2, 3 but not for 0.
@@ -33,7 +34,8 @@ fn alone(process: impl Fn(&mut Draft) -> u16) -> (Vec<u8>, Fleet, World) {
 fn acted(process: impl Fn(&mut Draft) -> u16) -> (World, World) {
     let (table, fleet, before) = alone(process);
     let mut state = before.words();
-    assert_eq!(do_step(&table, &mut state, Step::act(0, 0)), Ok(0));
+    let done = do_step(&table, &mut state, Step::act(0, 0));
+    assert_eq!(done, Ok(counts(0, 0)));
     let after = World::decode(&state, &fleet).unwrap();
     (before, after)
 }
@@ -179,11 +181,11 @@ fn linked(attributes: &[i32]) -> (Vec<u8>, World) {
     (table, world)
 }
 
-/// Does a step and says what was taken and the world after.
-fn after(table: &[u8], world: &World, step: Step) -> (u32, World) {
+/// Does a step and says what it counts and the world after.
+fn after(table: &[u8], world: &World, step: Step) -> (Counts, World) {
     let mut state = world.words();
-    let taken = do_step(table, &mut state, step).expect("the step is done");
-    (taken, common::world(table, &state))
+    let counts = do_step(table, &mut state, step).expect("the step is done");
+    (counts, common::world(table, &state))
 }
 
 #[test]
@@ -195,7 +197,7 @@ fn links_have_a_direction() {
     before.agents[4].entries.insert(0, Entry::new(1, 5, 4));
     before.agents[4].to_confirm.insert(0);
     for kind in [1, 2] {
-        let (taken, after) = after(
+        let (told, after) = after(
             &table,
             &before,
             Step {
@@ -216,7 +218,7 @@ fn links_have_a_direction() {
             same.agents[i].to_propagate.insert(0);
             same.agents[i].to_confirm.remove(&0);
         }
-        assert_eq!(taken, 2);
+        assert_eq!(told, counts(1, 1));
         assert_eq!(after, same);
     }
 }
@@ -233,17 +235,17 @@ fn a_link_may_read_what_is_sent() {
     }
     before.agents[0].to_propagate.insert(1);
     // The link is judged on what agent 1 held before.
-    let (taken, got) = after(&table, &before, Step::propagate(0, 1));
-    assert_eq!(taken, 1);
+    let (told, got) = after(&table, &before, Step::propagate(0, 1));
+    assert_eq!(told, counts(0, 1));
     assert_eq!(got.agents[1].entries[&1], Entry::new(7, 8, 2));
     assert_eq!(got.agents[2].entries[&1], Entry::new(6, 2, 1));
     // An absent entry is not below 5; the other part of the or decides.
     before.agents[1].entries.clear();
-    let (taken, _) = after(&table, &before, Step::propagate(0, 1));
-    assert_eq!(taken, 0);
+    let (told, _) = after(&table, &before, Step::propagate(0, 1));
+    assert_eq!(told, counts(0, 0));
     before.agents[0].attributes.insert(0, 9);
-    let (taken, _) = after(&table, &before, Step::propagate(0, 1));
-    assert_eq!(taken, 2);
+    let (told, _) = after(&table, &before, Step::propagate(0, 1));
+    assert_eq!(told, counts(1, 1));
 }
 
 #[test]
@@ -260,7 +262,7 @@ fn a_confirm_asks_linked_agents_only() {
         agent.entries.insert(0, own);
         agent.to_confirm.insert(0);
     }
-    let (taken, got) = after(&table, &before, Step::confirm(0, 0));
+    let (told, got) = after(&table, &before, Step::confirm(0, 0));
     let mut same = before.clone();
     same.agents[0].to_confirm.clear();
     // 1 is newer but not linked; 2 is newer; 3 is as new; 4 is older.
@@ -268,8 +270,39 @@ fn a_confirm_asks_linked_agents_only() {
     same.agents[4].entries.insert(0, Entry::new(0, 5, 2));
     same.agents[4].to_propagate.insert(0);
     same.agents[4].to_confirm.clear();
-    assert_eq!(taken, 1);
+    assert_eq!(told, counts(0, 1));
     assert_eq!(got, same);
+}
+
+/// Eight others, of whom four are linked: without an entry, with an older one,
+/// with one of the same stamp, with a newer one.
+#[test]
+fn linked_agents_count_by_what_they_had() {
+    let (table, mut before) = linked(&[3, 2, 4, 2, 4, 2, 4, 2, 4]);
+    let sent = Entry::new(7, 5, 0);
+    before.agents[0].entries.insert(0, sent);
+    before.agents[0].to_propagate.insert(0);
+    before.agents[0].to_confirm.insert(0);
+    for stamp in [0, 4, 5, 6] {
+        for (i, agent) in before.agents.iter_mut().enumerate().skip(1) {
+            agent.entries.clear();
+            if stamp > 0 {
+                agent.entries.insert(0, Entry::new(i as i32, stamp, 1));
+            }
+        }
+        let wanted = match stamp {
+            0 => counts(4, 0),
+            4 => counts(0, 4),
+            _ => counts(0, 0),
+        };
+        for step in [Step::propagate(0, 0), Step::confirm(0, 0)] {
+            let (told, got) = after(&table, &before, step);
+            assert_eq!(told, wanted, "stamp {stamp}");
+            let takers = got.agents[1..].iter();
+            let takers = takers.filter(|agent| agent.entries.get(&0) == Some(&sent));
+            assert_eq!(takers.count() as u32, told.taken());
+        }
+    }
 }
 
 /// Three agents that can enter, write 7 or read what they hold, under a link

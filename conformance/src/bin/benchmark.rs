@@ -4,6 +4,7 @@ use std::time::{Duration, Instant};
 
 use conformance::call_on;
 use conformance::fleets::{fleet, joined_ticks, long_link, many_guards, nested_ands, table, Fleet};
+use conformance::rehearsal::TOTALS;
 use reference::cases::Call;
 use reference::on_deep_stack;
 use reference::state::STATE_WORDS;
@@ -38,7 +39,14 @@ fn timed(mut round: impl FnMut() -> Duration) -> Times {
 fn measure(table: &[u8], call: &Call) -> [Times; 2] {
     let mut scratch = vec![0; 2 * MAX_NODES];
     let mut loaded = vec![0; STATE_WORDS];
-    let packed = call_on(table, &mut loaded, &mut scratch, &Call::Load, &mut []);
+    let packed = call_on(
+        table,
+        &mut loaded,
+        &mut scratch,
+        &Call::Load,
+        &mut [],
+        &mut [],
+    );
     assert_eq!(packed, 0, "the table is accepted");
     let room = match call {
         Call::Run { answers, .. } => *answers,
@@ -46,8 +54,16 @@ fn measure(table: &[u8], call: &Call) -> [Times; 2] {
     };
     let library = timed(|| {
         let (mut state, mut answers) = (loaded.clone(), vec![0; room]);
+        let mut totals = [0; TOTALS];
         let begin = Instant::now();
-        let packed = call_on(table, &mut state, &mut scratch, call, &mut answers);
+        let packed = call_on(
+            table,
+            &mut state,
+            &mut scratch,
+            call,
+            &mut answers,
+            &mut totals,
+        );
         let time = begin.elapsed();
         assert_eq!(packed >> 63, 0, "the call is done");
         time

@@ -75,10 +75,11 @@ pub enum Feature {
     KeyWithoutEntry,
     /// A node with as many derivations as it may have.
     FullNode,
-    /// An agent takes what is propagated.
-    Propagated,
-    /// An agent with an older entry takes what is confirmed (QRY1).
-    Confirmed,
+    /// An agent without an entry takes what is propagated, or confirmed (true),
+    /// in a run that does not add as often as it replaces.
+    Added(bool),
+    /// The same of an agent with an older entry.
+    Replaced(bool),
     /// An agent with a newer entry gains the key in Zp (QRY2).
     Answered,
     /// An agent that takes an entry had its key to confirm.
@@ -124,8 +125,10 @@ impl fmt::Display for Feature {
             Feature::KeyWithoutEntry => write!(out, "key without entry read"),
             Feature::Unconfirmed => write!(out, "key to confirm taken"),
             Feature::FullNode => write!(out, "node with 65,535 derivations"),
-            Feature::Propagated => write!(out, "propagate taken"),
-            Feature::Confirmed => write!(out, "confirm taken"),
+            Feature::Added(false) => write!(out, "propagate adds"),
+            Feature::Added(true) => write!(out, "confirm adds"),
+            Feature::Replaced(false) => write!(out, "propagate replaces"),
+            Feature::Replaced(true) => write!(out, "confirm replaces"),
             Feature::Answered => write!(out, "confirm answered"),
             Feature::LinksDiffer => write!(out, "links of keys differ"),
             Feature::OneWay => write!(out, "link one way"),
@@ -152,7 +155,9 @@ pub fn required() -> BTreeSet<Feature> {
     for divisor in [false, true] {
         all.extend([39, 40].map(|kind| Feature::Inexact(kind, divisor)));
     }
-    all.extend([false, true].map(Feature::OtherWriter));
+    for of in [Feature::Added, Feature::Replaced, Feature::OtherWriter] {
+        all.extend([false, true].map(of));
+    }
     all.extend([
         Feature::UndefinedNegated,
         Feature::LaterChoice,
@@ -161,8 +166,6 @@ pub fn required() -> BTreeSet<Feature> {
         Feature::KeyWithoutEntry,
         Feature::FullNode,
         Feature::Unconfirmed,
-        Feature::Propagated,
-        Feature::Confirmed,
         Feature::Answered,
         Feature::LinksDiffer,
         Feature::OneWay,
@@ -206,9 +209,11 @@ pub fn shown(equation: &Equation) -> BTreeSet<Feature> {
     }
     let fleet = open(&equation.table, STATE_WORDS, usize::MAX).expect("load accepts it");
     let world = World::decode(&equation.before(), &fleet).expect("run accepts it");
+    let [added, replaced] = equation.counts();
     let mut observer = Observer {
         table: &equation.table,
         fleet: &fleet,
+        tells_counts: added != replaced,
         called: [false; 2],
         writers: BTreeMap::new(),
         seen,
@@ -232,6 +237,8 @@ fn writer_feature(equation: &Equation) -> Option<Feature> {
 struct Observer<'a> {
     table: &'a [u8],
     fleet: &'a Fleet,
+    /// Whether its two counts differ.
+    tells_counts: bool,
     /// Whether done acts have called definition 0, and another one.
     called: [bool; 2],
     /// Who wrote the stamps of the run.
@@ -459,11 +466,12 @@ impl Observer<'_> {
                 self.see(Feature::Unconfirmed);
             }
             if linked && older {
-                self.see(if confirms {
-                    Feature::Confirmed
-                } else {
-                    Feature::Propagated
-                });
+                if self.tells_counts {
+                    self.see(match stamp {
+                        0 => Feature::Added(confirms),
+                        _ => Feature::Replaced(confirms),
+                    });
+                }
                 if ![0, sender, receiver].contains(&usize::from(sent.writer)) {
                     self.see(Feature::OtherWriter(confirms));
                 }

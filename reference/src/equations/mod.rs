@@ -22,13 +22,13 @@ pub struct Equation {
     pub table: Vec<u8>,
     pub patches: Vec<(usize, u32)>,
     pub schedule: Vec<u8>,
-    /// Load's refusal and place, run's refusal and place, done, refused, taken,
-    /// the answers, and place and word of each word that is not 0.
+    /// Load's refusal and place, run's refusal and place, the run's totals, the
+    /// answers, and place and word of each word that is not 0.
     pub given: Vec<u32>,
 }
 
 /// Where the answers begin.
-const ANSWERS: usize = 7;
+const ANSWERS: usize = 8;
 
 impl Equation {
     fn after_load(table: Vec<u8>, schedule: Vec<u8>) -> Equation {
@@ -50,7 +50,7 @@ impl Equation {
         given.extend(refused(&loaded));
         given.extend(refused(&ran));
         let totals = ran.unwrap_or_default();
-        given.extend([totals.done, totals.refused, totals.taken]);
+        given.extend(totals.numbers());
         given.extend(answers.iter().map(|&answer| u32::from(answer)));
         for (place, word) in state.into_iter().enumerate().filter(|&(_, word)| word != 0) {
             given.extend([place as u32, word]);
@@ -70,6 +70,11 @@ impl Equation {
             state[place] = word;
         }
         state
+    }
+
+    /// How often an entry was added, and how often one was replaced.
+    fn counts(&self) -> [u32; 2] {
+        [self.given[ANSWERS - 2], self.given[ANSWERS - 1]]
     }
 
     /// The answer of each step.

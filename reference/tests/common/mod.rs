@@ -3,7 +3,7 @@
 
 use reference::draft::Draft;
 use reference::machine::open;
-use reference::refusal::{Answer, Refusal};
+use reference::refusal::{Answer, Counts, Refusal};
 use reference::state::{World, STATE_WORDS};
 use reference::step::Step;
 use reference::table::Fleet;
@@ -62,8 +62,13 @@ pub fn steps(table: &[u8], state: &mut Vec<u32>, step: Step) -> u8 {
     number
 }
 
-pub fn do_step(table: &[u8], state: &mut [u32], s: Step) -> Answer<u32> {
+pub fn do_step(table: &[u8], state: &mut [u32], s: Step) -> Answer<Counts> {
     step(table, state, SCRATCH, s.kind, s.agent, s.number)
+}
+
+/// What a step counts.
+pub fn counts(added: u32, replaced: u32) -> Counts {
+    Counts { added, replaced }
 }
 
 /// Runs a schedule given as steps, with a buffer that is just long enough.
