@@ -10,7 +10,7 @@ use native.Mathlib.Nat.{suc-sub-suc, sub-zero, le-of-suc-le-suc, not-suc-le-zero
 use native.Mathlib.Omega.{arith}
 use lib.Dec.{eqb}
 use lib.ListN.{length, getD, getElem?, set, take, drop, replicate, length-drop, length-append, length-replicate, getD-replicate, List·getD-append, List·getD-eq-default}
-use lib.Seq.{getD-set-same, getD-set-other, getD-take, getD-drop, getD-append-add, take-all, take-nil, paste, paste-zero, paste-suc}
+use lib.Seq.{getD-set-same, getD-set-other, getD-take, getD-drop, getD-append-add, length-take-le, take-all, take-nil, take-at, drop-at, take-take, drop-drop, take-append-le, drop-append-le, drop-append-add, paste, paste-zero, paste-suc}
 use borrow.Author.Tests.{eq-eqb, ne-eqb}
 use Rattle.basis.specs.Numbers.{forEach}
 use Rattle.basis.proofs.Tests.{same-or-other, lt-or-le}
@@ -67,6 +67,40 @@ module _ {A : Type 0} where
   nth-is xs n o a e =
       ⊎-elim (λ (l : n < length xs). let f : some (getD xs n o) ≡ some a = sym (nth-in xs n o l) ∙ e in (l, cc))
       (λ (l : length xs ≤ n). let f : none ≡ some a = sym (nth-past xs n l) ∙ e in let z : _≡_ {A = ℕ} 0 1 = cc in absurd (omega arith)) (lt-or-le n (length xs))
+
+-- a list in which other elements stand in the m places from a on
+module _ {A : Type 0} (l new : List A) (a m : ℕ) (fits : length new ≡ m) (within : a + m ≤ length l) where
+  abbrev replaced : List A
+  replaced = take a l ++ (new ++ drop (a + m) l)
+
+  front : length (take a l) ≡ a
+  front = length-take-le a l (omega arith)
+
+  pub length-replaced : length replaced ≡ length l
+  length-replaced =
+      omega (arith, length-append (take a l) (new ++ drop (a + m) l), length-append new (drop (a + m) l), length-drop (a + m) l, front)
+
+  -- they stand there; what stood before them and after them does still
+  pub part-replaced : take m (drop a replaced) ≡ new
+  part-replaced = ap (take m) (drop-at (take a l) (new ++ drop (a + m) l) a front) ∙ take-at new (drop (a + m) l) m fits
+
+  pub getD-replaced : (i : ℕ) (d : A) → i < a → getD replaced i d ≡ getD l i d
+  getD-replaced i d h = List·getD-append (take a l) (new ++ drop (a + m) l) d i (omega (arith, front)) ∙ getD-take a l i d h
+
+  pub part-before : (b n : ℕ) → b + n ≤ a → take n (drop b replaced) ≡ take n (drop b l)
+  part-before b n h =
+      let e = drop-take b a l (omega arith) in
+      ap (take n) (drop-append-le b (take a l) (new ++ drop (a + m) l) (omega (arith, front)))
+      ∙ take-append-le n (drop b (take a l)) (new ++ drop (a + m) l) (omega (arith, length-drop b (take a l), front))
+      ∙ ap (take n) e ∙ take-take n (a - b) (drop b l) (omega arith)
+
+  pub drop-after : (b : ℕ) → a + m ≤ b → drop b replaced ≡ drop b l
+  drop-after b h =
+      let k : ℕ = b - (a + m) in
+      let e : b ≡ length (take a l) + (length new + k) = omega (arith, front) in
+      let f : a + m + k ≡ b = omega arith in
+      ap (λ (j : ℕ). drop j replaced) e ∙ drop-append-add (take a l) (new ++ drop (a + m) l) (length new + k)
+      ∙ drop-append-add new (drop (a + m) l) k ∙ drop-drop k (a + m) l ∙ ap (λ (j : ℕ). drop j l) f
 
 -- words and 0 after them, n places in all
 module _ (ws : List ℕ) (n : ℕ) (short : length ws ≤ n) where

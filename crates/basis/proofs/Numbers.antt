@@ -96,6 +96,11 @@ module _ (test : ℕ → Bool) where
   lowest-before n k h =
       ⊎-elim (λ f. f k (omega (arith, lowest-none n f))) (λ (w : Lowest n). w .3 k (omega (arith, lowest-at n (w .0) (w .1) (w .2) (w .3)))) (found n)
 
+  pub lowest-below : (n : ℕ) → someBelow test n ≡ true → lowest test n < n
+  lowest-below n e =
+      let s = some-witness n e in
+      ⊎-elim (λ f. absurd (not-both (s .2) (f (s .0) (s .1)))) (λ (w : Lowest n). omega (arith, lowest-at n (w .0) (w .1) (w .2) (w .3), w .1)) (found n)
+
   pub lowest-passes : (n : ℕ) → lowest test n < n → test (lowest test n) ≡ true
   lowest-passes n h =
       ⊎-elim (λ f. absurd (omega (arith, lowest-none n f))) (λ (w : Lowest n). rw (lowest-at n (w .0) (w .1) (w .2) (w .3)) (w .2)) (found n)

@@ -9,8 +9,8 @@ use Rattle.table.specs.Checks.{Check, passes, refuses}
 use Rattle.steps.specs.Tallies.{noTally}
 use Rattle.steps.specs.Steps.{Outcome, outcome, loadOf, stepOf}
 use Rattle.steps.specs.Runs.{runOf}
-use Rattle.machine.specs.declared.Loaded.{Loaded}
-use Rattle.machine.specs.declared.Loaded.the-variants.{Done as LoadDone, Refused as LoadRefused}
+use Rattle.opening.specs.declared.Answer.{Answer}
+use Rattle.opening.specs.declared.Answer.the-variants.{Done as LoadDone, Refused as LoadRefused}
 use Rattle.machine.specs.declared.Stepped.{Stepped}
 use Rattle.machine.specs.declared.Stepped.the-variants.{Done as StepDone, Refused as StepRefused}
 use Rattle.machine.specs.declared.Ran.{Ran}
@@ -28,9 +28,9 @@ module _ (o : Outcome) (after answers : List ℕ) where
   step-alone (StepDone tally) s = record { check = s .check; reports = record { totals = ap (totals 0 0) (s .tally); state = s .state; answers = refl } }
   step-alone (StepRefused number place) s = record { check = s .check; reports = record { totals = ap (totals 0 0) (s .tally); state = s .state; answers = refl } }
 
-  load-alone : (r : Loaded) → Loads o r after → o .tally ≡ noTally → Runs (alone o answers) (ofLoad r) after answers
-  load-alone LoadDone s e = record { check = s .check; reports = record { totals = ap (totals 0 0) (sym e); state = s .state; answers = refl } }
-  load-alone (LoadRefused number place) s e = record { check = s .check; reports = record { totals = ap (totals 0 0) (sym e); state = s .state; answers = refl } }
+  load-alone : (r : Answer) → Loads o r after → o .tally ≡ noTally → Runs (alone o answers) (ofLoad r) after answers
+  load-alone LoadDone s e = record { check = s .check; reports = record { totals = ap (totals 0 0) (sym e); state = s .words; answers = refl } }
+  load-alone (LoadRefused number place) s e = record { check = s .check; reports = record { totals = ap (totals 0 0) (sym e); state = s .words; answers = refl } }
 
 -- a call of a case, by the number of its call
 module _ (header table was : List ℕ) (scratch : ℕ) (schedule answers : List ℕ) where
@@ -43,7 +43,7 @@ module _ (header table was : List ℕ) (scratch : ℕ) (schedule answers : List 
   run-as (suc zero) f g r h = absurd (g refl)
   run-as (suc (suc call)) f g r h = h
 
-  pub called-load : {q : Ran} {after : List ℕ} → getD header 0 0 ≡ 0 → (r : Loaded) → Loads (loadOf table was scratch) r after → q ≡ ofLoad r
+  pub called-load : {q : Ran} {after : List ℕ} → getD header 0 0 ≡ 0 → (r : Answer) → Loads (loadOf table was scratch) r after → q ≡ ofLoad r
       → Runs (callOf header table was scratch schedule answers) q after answers
   called-load {q} {after} e r h f =
       subst (λ (a : Ran). Called (getD header 0 0) a after answers) (sym f)

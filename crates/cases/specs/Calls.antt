@@ -6,8 +6,8 @@ use Rattle.basis.specs.Bytes.{u16At}
 use Rattle.steps.specs.Tallies.{noTally}
 use Rattle.steps.specs.Steps.{Outcome, loadOf, stepOf}
 use Rattle.steps.specs.Runs.{Rehearsal, runOf}
-use Rattle.machine.specs.declared.Loaded.{Loaded}
-use Rattle.machine.specs.declared.Loaded.the-variants.{Done as LoadDone, Refused as LoadRefused}
+use Rattle.opening.specs.declared.Answer.{Answer}
+use Rattle.opening.specs.declared.Answer.the-variants.{Done as LoadDone, Refused as LoadRefused}
 use Rattle.machine.specs.declared.Stepped.{Stepped}
 use Rattle.machine.specs.declared.Stepped.the-variants.{Done as StepDone, Refused as StepRefused}
 use Rattle.machine.specs.declared.Ran.{Ran}
@@ -15,7 +15,7 @@ use Rattle.machine.specs.declared.Ran.the-variants.{Done as RunDone, Refused as
 use Rattle.machine.specs.Answers.{totals}
 
 -- the answer of load, and of a step, with the totals that they have
-abbrev pub ofLoad : Loaded → Ran
+abbrev pub ofLoad : Answer → Ran
 ofLoad LoadDone = RunDone (totals 0 0 noTally)
 ofLoad (LoadRefused number place) = RunRefused number place
 

@@ -1,21 +1,21 @@
 // A case's call.
 use basis::u16_at;
-use machine::Loaded;
 use machine::Ran;
 use machine::Stepped;
 use machine::Totals;
 use offering::no_tally;
+use opening::Answer;
 ghost use mathlib.Core.Path.{_≡_};
 ghost use Prim.Native.Nat.{_<_};
 ghost use lib.ListN.{length};
 ghost use Rattle.machine.specs.Answers.{Runs};
 ghost use Rattle.cases.specs.Calls.{ofLoad, ofStep, callOf};
 
-fn of_load(answer: Loaded) -> Ran
+fn of_load(answer: Answer) -> Ran
     ensures { λ r. ⌜ r ≡ ofLoad answer ⌝ }
 {
     match answer {
-        Loaded::Done => {
+        Answer::Done => {
             let tally = no_tally();
             Ran::Done(Totals {
                 done: 0,
@@ -23,7 +23,7 @@ fn of_load(answer: Loaded) -> Ran
                 tally,
             })
         }
-        Loaded::Refused(number, place) => Ran::Refused(number, place),
+        Answer::Refused(number, place) => Ran::Refused(number, place),
     }
 }
 

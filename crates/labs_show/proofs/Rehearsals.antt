@@ -19,11 +19,12 @@ use Rattle.steps.specs.Runs.{stepsOf, begun, ran, Progress, Rehearsal, runOf}
 use Rattle.steps.proofs.Steps.{outcome-check, outcome-refused, load-accepted, accepted-load}
 use Rattle.steps.proofs.Proper.{ran-proper, load-proper}
 use Rattle.term.proofs.Acceptance.{accepted-passes}
-use Rattle.machine.specs.declared.Loaded.{Loaded}
-use Rattle.machine.specs.declared.Loaded.the-variants.{Done as LoadDone, Refused as LoadRefused}
+use Rattle.opening.specs.declared.Answer.{Answer}
+use Rattle.opening.specs.declared.Answer.the-variants.{Done as LoadDone, Refused as LoadRefused}
 use Rattle.machine.specs.declared.Ran.{Ran}
 use Rattle.machine.specs.declared.Ran.the-variants.{Refused as RunRefused}
-use Rattle.machine.specs.Answers.{loadCheck, runCheck, Loads, Runs}
+use Rattle.opening.specs.Answers.{answerCheck}
+use Rattle.machine.specs.Answers.{runCheck, Loads, Runs}
 use Rattle.lines.specs.Writing.{Fleet}
 use Rattle.labs_show.specs.Rehearsal.{rehearsed, Rehearses}
 
@@ -35,9 +36,9 @@ run-passes table was scratch schedule answers e = rw (runOf, e)
 proper-fleet : (t : Table) (s : List ℕ) → Limits (t .sizes) → ProperFacts t s → Fleet s
 proper-fleet t s l p = let f = p .formed .formed .agents in record { blocks = omega (arith, p .whole); agents = omega (arith, l .agents) }
 
-module _ (table schedule was : List ℕ) (scratch : ℕ) (answers : List ℕ) {r : Loaded} {mid : List ℕ} (l : Loads (loadOf table was scratch) r mid) where
-  load-is : (x : Loaded) → r ≡ x → loadOf table was scratch .check ≡ loadCheck x
-  load-is x e = sym (l .check) ∙ ap (λ (y : Loaded). loadCheck y) e
+module _ (table schedule was : List ℕ) (scratch : ℕ) (answers : List ℕ) {r : Answer} {mid : List ℕ} (l : Loads (loadOf table was scratch) r mid) where
+  load-is : (x : Answer) → r ≡ x → loadOf table was scratch .check ≡ answerCheck x
+  load-is x e = sym (l .check) ∙ ap (λ (y : Answer). answerCheck y) e
 
   module _ (e : r ≡ LoadDone) (narrow : (i : ℕ) → getD table i 0 < 256) where
     passed : loadOf table was scratch .check ≡ passes
@@ -45,13 +46,13 @@ module _ (table schedule was : List ℕ) (scratch : ℕ) (answers : List ℕ) {r
 
     rehearsed-is : rehearsed table schedule was scratch answers ≡ runOf table mid scratch schedule answers
     unfolding rehearsed
-    rehearsed-is = rw (rehearsed, passed) (ap (λ (s : List ℕ). runOf table s scratch schedule answers) (sym (l .state)))
+    rehearsed-is = rw (rehearsed, passed) (ap (λ (s : List ℕ). runOf table s scratch schedule answers) (sym (l .words)))
 
     -- the state after a done run
     ran-fleet : runOf table mid scratch schedule answers .check ≡ passes → Fleet (runOf table mid scratch schedule answers .progress .state)
     ran-fleet f =
         let a = load-accepted table was scratch passed in
-        let start : mid ≡ loaded (tableOf table) = l .state ∙ ap (λ (o : Outcome). o .state) (accepted-load table was scratch a) in
+        let start : mid ≡ loaded (tableOf table) = l .words ∙ ap (λ (o : Outcome). o .state) (accepted-load table was scratch a) in
         subst (λ (p : Progress). Fleet (p .state)) (sym (run-passes table mid scratch schedule answers f))
         (proper-fleet (tableOf table) _ (a .table .sound .shaped .limits)
         (ran-proper (tableOf table) (a .table .sound) (λ i. rw (getD-drop (12 + sizesOf table .nodes) table i 0) (narrow (12 + sizesOf table .nodes + i))) schedule (stepsOf schedule) (begun mid answers)
@@ -72,7 +73,7 @@ module _ (table schedule was : List ℕ) (scratch : ℕ) (answers : List ℕ) {r
 
     kept : mid ≡ was
     kept =
-        l .state
+        l .words
         ∙ ap (λ (o : Outcome). o .state) (outcome-refused was noTally (loaded (tableOf table)) (firstOf (tableChecks table (isWhole was) scratch))
         (sym (outcome-check was noTally (loaded (tableOf table)) (firstOf (tableChecks table (isWhole was) scratch))) ∙ refuses-load))
 

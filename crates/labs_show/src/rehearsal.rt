@@ -2,8 +2,8 @@
 use lines::refused_line;
 use lines::state_lines;
 use lines::totals_line;
-use machine::Loaded;
 use machine::Ran;
+use opening::Answer;
 ghost use Prim.Native.Nat.{_≤_};
 ghost use lib.ListN.{length};
 ghost use Rattle.lines.specs.Lines.{shown};
@@ -39,8 +39,8 @@ fn rehearse(
 {
     let loaded = machine::load(table, state, scratch);
     match loaded {
-        Loaded::Done => machine::run(table, state, scratch, schedule, answers),
-        Loaded::Refused(number, place) => Ran::Refused(number, place),
+        Answer::Done => machine::run(table, state, scratch, schedule, answers),
+        Answer::Refused(number, place) => Ran::Refused(number, place),
     }
 }
 

@@ -7,9 +7,9 @@ use fleets::nested;
 use fleets::ticking;
 use fleets::write_often;
 use fleets::writing;
-use machine::Loaded;
 use machine::Ran;
 use machine::Stepped;
+use opening::Answer;
 use state::Store;
 use state::clock_of;
 use state::length_at;
@@ -44,12 +44,12 @@ fn print_refused(number: u8) {
     print_number(number as usize);
 }
 
-fn print_loaded(answer: Loaded) {
+fn print_loaded(answer: Answer) {
     match answer {
-        Loaded::Done => {
+        Answer::Done => {
             io::write_all(OUTPUT, b" done");
         }
-        Loaded::Refused(number, _) => print_refused(number),
+        Answer::Refused(number, _) => print_refused(number),
     }
 }
 

@@ -1,58 +1,30 @@
 -- A step, a preview and a run of what checks 1 to 9 leave.
 -- Assumes nothing.
-use Prim.Native.Nat.{ℕ, _+_, _-_, _≤_}
-use mathlib.Core.Bool.{Bool, true}
+use Prim.Native.Nat.{ℕ}
+use mathlib.Core.Bool.{true}
 use mathlib.Core.Path.{_≡_, refl, sym, ap, subst, _∙_}
 use mathlib.Core.List.{List, _++_}
-use lib.ListN.{length, take, drop}
-use Rattle.basis.proofs.Tests.{and-left}
+use lib.ListN.{length}
 use Rattle.table.specs.declared.Sizes.{Sizes}
 use Rattle.table.specs.Checks.{Check, passes, refuses, firstOf}
-use Rattle.table.specs.Tables.{Table, table, tableOf}
+use Rattle.table.specs.Tables.{Table, tableOf}
 use Rattle.table.proofs.Checks.{append-refuses, append-later}
 use Rattle.accept.specs.declared.Acceptance.{Acceptance}
 use Rattle.accept.specs.declared.Acceptance.the-variants.{Accepted, Refused}
-use Rattle.accept.specs.Answers.{acceptanceCheck}
-use Rattle.accept.proofs.Answering.{lent-table}
-use Rattle.choice.specs.Turns.{Prepared}
 use Rattle.state.specs.Layout.{isWhole}
-use Rattle.state.specs.WellFormed.{Proper}
-use Rattle.steps.specs.Steps.{stateChecksWith, stateChecks, stepIn, stepOf}
+use Rattle.steps.specs.Steps.{stateChecks, stepIn, stepOf}
 use Rattle.steps.specs.Previews.{into, previewOf}
 use Rattle.steps.specs.Runs.{stepsOf, scheduleChecks, begun, ran, Progress, runOf}
-use Rattle.steps.proofs.Steps.{checks-with, step-in, step-stopped}
+use Rattle.steps.proofs.Steps.{step-in, step-stopped}
 use Rattle.steps.proofs.Previews.{preview-in, preview-stopped}
+use Rattle.opening.specs.Opening.{Opens}
+use Rattle.opening.proofs.Opened.{parts, parts-table, opens-is}
 use Rattle.machine.specs.declared.Stepped.{Stepped}
 use Rattle.machine.specs.declared.Stepped.the-variants.{Refused as StepRefused}
 use Rattle.machine.specs.declared.Totals.{Totals}
 use Rattle.machine.specs.declared.Ran.the-variants.{Done as RunDone, Refused as RunRefused}
 use Rattle.machine.specs.Answers.{totals, Steps, Reports, Runs}
-use Rattle.machine.specs.Opening.{Open, Opens}
 use Rattle.machine.proofs.Outcomes.{steps-as, steps-refused}
-
--- the parts of a table as code lends them
-abbrev pub parts : List ℕ → Sizes → Table
-parts bytes n = table n (take (12 + n .nodes - 12) (drop 12 bytes)) (take (length bytes - (12 + n .nodes)) (drop (12 + n .nodes) bytes))
-
-module _ {bytes was scratch : List ℕ} {n : Sizes} (o : Open bytes was scratch n) where
-  parts-table : parts bytes n ≡ tableOf bytes
-  parts-table = lent-table bytes n (o .sizes)
-
-  pub opened-nodes : n .nodes ≤ 4096
-  opened-nodes = subst (λ (t : Table). t .sizes .nodes ≤ 4096) (sym parts-table) (o .ready .checked .sound .shaped .limits .nodes)
-
-  pub opened-ready : Prepared (parts bytes n) scratch
-  opened-ready = subst (λ (t : Table). Prepared t scratch) (sym parts-table) (o .ready)
-
-  pub opened-proper : Proper (parts bytes n) was
-  opened-proper = subst (λ (t : Table). Proper t was) (sym parts-table) (o .proper)
-
-module _ {othersFit : Bool} {bytes was before after : List ℕ} {r : Acceptance} (a : Opens othersFit bytes was before after r) where
-  opens-is : (x : Acceptance) → r ≡ x → firstOf (stateChecksWith othersFit bytes was (length before)) ≡ acceptanceCheck x
-  opens-is x e = sym (a .check) ∙ ap (λ (y : Acceptance). acceptanceCheck y) e
-
-  pub opened-fit : {n : Sizes} → r ≡ Accepted n → othersFit ≡ true
-  opened-fit {n} e = and-left othersFit (isWhole was) (checks-with othersFit bytes was (length before) .0 (opens-is (Accepted n) e) .0 .fit)
 
 -- STEP
 module _ {bytes was before after : List ℕ} {r : Acceptance} (a : Opens true bytes was before after r) (kind x number : ℕ) where

@@ -7,18 +7,13 @@ use Rattle.steps.specs.declared.Tally.{Tally}
 use Rattle.steps.specs.Tallies.{noTally}
 use Rattle.steps.specs.Steps.{Outcome}
 use Rattle.steps.specs.Runs.{Progress, Rehearsal}
-use Rattle.machine.specs.declared.Loaded.{Loaded}
-use Rattle.machine.specs.declared.Loaded.the-variants.{Done as LoadDone, Refused as LoadRefused}
+use Rattle.opening.specs.declared.Answer.{Answer}
+use Rattle.opening.specs.Answers.{Answers}
 use Rattle.machine.specs.declared.Stepped.{Stepped}
 use Rattle.machine.specs.declared.Stepped.the-variants.{Done as StepDone, Refused as StepRefused}
 use Rattle.machine.specs.declared.Totals.{Totals}
 use Rattle.machine.specs.declared.Ran.{Ran}
 use Rattle.machine.specs.declared.Ran.the-variants.{Done as RunDone, Refused as RunRefused}
-
--- load
-abbrev pub loadCheck : Loaded → Check
-loadCheck LoadDone = passes
-loadCheck (LoadRefused number place) = refuses number place
 
 -- step, preview: what it counts
 abbrev pub stepCheck : Stepped → Check
@@ -45,9 +40,8 @@ runTotals (RunDone counts) = counts
 runTotals (RunRefused number place) = totals 0 0 noTally
 
 -- the answer r and the state after are those of an outcome, of load, and of a step or its preview
-pub record Loads (o : Outcome) (r : Loaded) (after : List ℕ) : Type 0 where
-  pub check : loadCheck r ≡ o .check
-  pub state : after ≡ o .state
+abbrev pub Loads : Outcome → Answer → List ℕ → Type 0
+Loads o r after = Answers (o .check) (o .state) r after
 
 pub record Steps (o : Outcome) (r : Stepped) (after : List ℕ) : Type 0 where
   pub check : stepCheck r ≡ o .check

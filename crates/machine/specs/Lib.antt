@@ -1,4 +1,3 @@
 pub mod Answers
-pub mod Opening
 pub mod Stepping
 pub mod Running

@@ -1,10 +1,10 @@
 // Load, step, preview and run, for any bytes as table, state and schedule.
-mod opening; // opening.rt: refusals 1 to 9
 mod checking; // checking.rt: refusals 10 to 18
 mod stepping; // stepping.rt: a step, or its preview, of an accepted table and a well-formed state
 mod running; // running.rt: the steps of a schedule
 
 use accept::Acceptance;
+use opening::Answer;
 use opening::open;
 use running::judge_schedule;
 use running::run_steps;
@@ -20,12 +20,6 @@ ghost use Rattle.steps.specs.Steps.{loadOf, stepOf};
 ghost use Rattle.steps.specs.Previews.{previewOf};
 ghost use Rattle.steps.specs.Runs.{runOf};
 ghost use Rattle.machine.specs.Answers.{Loads, Steps, Runs};
-
-// What load answers.
-pub enum Loaded {
-    Done,
-    Refused(u8, usize),
-}
 
 // What a step or its preview answers: what it counts, or the refusal and its place.
 pub enum Stepped {
@@ -68,7 +62,7 @@ pub enum Ran {
 }
 
 // The state becomes that of a fleet which has not stepped yet. Scratch of under two words for each node is refused (8).
-pub fn load(table: &[u8], state: &mut [u32], scratch: &mut [u32]) -> Loaded
+pub fn load(table: &[u8], state: &mut [u32], scratch: &mut [u32]) -> Answer
     ensures { λ r. ⌜ Loads (loadOf (now (table .entry)) (now (state .entry)) (length (now (scratch .entry)))) r (now (state .exit)) ⌝ }
 {
     let answer = accept::accept(table, state.len() == state::STATE_WORDS, scratch);
@@ -76,9 +70,9 @@ pub fn load(table: &[u8], state: &mut [u32], scratch: &mut [u32]) -> Loaded
         Acceptance::Accepted(sizes) => {
             let operands = table::HEADER_BYTES + sizes.nodes;
             write_loaded(sizes, &table[operands..], state);
-            Loaded::Done
+            Answer::Done
         }
-        Acceptance::Refused(number, place) => Loaded::Refused(number, place),
+        Acceptance::Refused(number, place) => Answer::Refused(number, place),
     }
 }
 

@@ -7,21 +7,23 @@ use native.Mathlib.Omega.{arith}
 use Rattle.table.specs.Checks.{Check, placeOf}
 use Rattle.steps.specs.Steps.{Outcome}
 use Rattle.steps.specs.Runs.{Rehearsal}
-use Rattle.machine.specs.declared.Loaded.{Loaded}
+use Rattle.opening.specs.declared.Answer.{Answer}
+use Rattle.opening.specs.Answers.{answerCheck, Answers}
 use Rattle.machine.specs.declared.Stepped.{Stepped}
 use Rattle.machine.specs.declared.Totals.{Totals}
 use Rattle.machine.specs.declared.Ran.{Ran}
-use Rattle.machine.specs.Answers.{loadCheck, stepCheck, stepTally, runCheck, runTotals, Loads, Steps, Runs}
+use Rattle.machine.specs.Answers.{stepCheck, stepTally, runCheck, runTotals, Steps, Runs}
 use Rattle.rehearsal.specs.Results.{written, totalNumbers}
-use Rattle.rehearsal.specs.Packing.{packed, packedTally, LoadPacked, StepPacked, RunPacked}
+use Rattle.rehearsal.specs.Packing.{packed, packedTally, AnswerPacked, StepPacked, RunPacked}
 use Rattle.rehearsal.proofs.Places.{Near}
 
 -- the place of what is answered
 pub place-near : {answered check : Check} → answered ≡ check → Near check → placeOf answered ≤ 4096
 place-near e l = omega (arith, ap placeOf e, l .place)
 
-pub load-packs : {o : Outcome} {x : Loaded} {after : List ℕ} {r : ℕ} → Loads o x after → r ≡ packed (loadCheck x) 0 → LoadPacked o r after
-load-packs a e = record { answer = e ∙ ap (λ (c : Check). packed c 0) (a .check); state = a .state }
+-- a call that reports 0
+pub answer-packs : {check : Check} {words : List ℕ} {x : Answer} {after : List ℕ} {r : ℕ} → Answers check words x after → r ≡ packed (answerCheck x) 0 → AnswerPacked check words r after
+answer-packs a e = record { answer = e ∙ ap (λ (c : Check). packed c 0) (a .check); words = a .words }
 
 -- a step, or its preview
 pub step-packs : {o : Outcome} {x : Stepped} {after : List ℕ} {r : ℕ} → Steps o x after → r ≡ packed (stepCheck x) (packedTally (stepTally x)) → StepPacked o r after

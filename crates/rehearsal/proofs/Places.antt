@@ -1,4 +1,4 @@
--- A refusal's number is at most 20, and its place at most 4,096: a node, a definition or 0.
+-- A refusal's number is at most 22, and its place at most 4,096: a node, a definition or 0.
 -- Assumes nothing.
 use Prim.Native.Nat.{ℕ, zero, suc, _≤_}
 use mathlib.Core.Bool.{Bool, true, false, cond, _&&_}
@@ -18,18 +18,21 @@ use Rattle.steps.specs.Tallies.{noTally}
 use Rattle.steps.specs.Steps.{stateChecksWith, stateChecks, ownChecks, stepChecks, tallyOf, after, stepIn, stepWith, loadOf, stepOf}
 use Rattle.steps.specs.Previews.{previewOf}
 use Rattle.steps.specs.Runs.{scheduleChecks, runOf}
+use Rattle.steps.specs.Shelves.{isWholeShelf}
+use Rattle.steps.specs.Points.{shelfCheck, saveChecks, heldChecks, saveOf, restoreOf, dropOf}
+use Rattle.steps.proofs.Orders.{in-order}
 use Rattle.steps.proofs.Steps.{outcome-check, with-in, with-stopped}
 use Rattle.steps.proofs.Previews.{preview-check}
 
 pub record Near (c : Check) : Type 0 where
-  pub number : numberOf c ≤ 20
+  pub number : numberOf c ≤ 22
   pub place : placeOf c ≤ 4096
 
 passes-near : Near passes
 passes-near = record { number = omega arith; place = omega arith }
 
 -- a line in front of others that are near, where it does not refuse
-module _ (number : ℕ) (h : number ≤ 20) (rs : List Refusal) where
+module _ (number : ℕ) (h : number ≤ 22) (rs : List Refusal) where
   if-near : (test : Bool) → (test ≡ false → Near (firstOf rs)) → Near (firstOf (refuseIf number test ∷ rs))
   unfolding firstOf
   if-near true p = record { number = h; place = omega arith }
@@ -118,3 +121,27 @@ module _ (bytes was : List ℕ) (scratch kind x number : ℕ) where
 
   pub preview-near : (next : List ℕ) → Near (previewOf bytes was scratch kind x number next .check)
   preview-near next = subst Near (sym (preview-check bytes was scratch kind x number next)) (with-near (isWhole next) bytes was scratch kind x number)
+
+-- WITH A SHELF
+module _ (t : Table) (shelf : List ℕ) (name : ℕ) where
+  held-near : Near (firstOf (shelfCheck t shelf ∷ heldChecks shelf name))
+  held-near = if-near 9 (omega arith) _ _ (λ _. if-near 21 (omega arith) _ _ (λ _. none-near))
+
+  new-near : Near (firstOf (shelfCheck t shelf ∷ saveChecks shelf name))
+  new-near = if-near 9 (omega arith) _ _ (λ _. if-near 21 (omega arith) _ _ (λ _. if-near 22 (omega arith) _ _ (λ _. none-near)))
+
+module _ (bytes : List ℕ) (scratch : ℕ) (shelf : List ℕ) (name : ℕ) where
+  pub save-near : (state : List ℕ) → Near (saveOf bytes state scratch shelf name .check)
+  save-near state =
+      subst Near (sym (in-order .of-save bytes state scratch shelf name))
+      (append-near (stateChecksWith (isWholeShelf shelf) bytes state scratch) _ (state-near (isWholeShelf shelf) bytes state scratch) (λ _. new-near (tableOf bytes) shelf name))
+
+  pub restore-near : (state : List ℕ) → Near (restoreOf bytes state scratch shelf name .check)
+  restore-near state =
+      subst Near (sym (in-order .of-restore bytes state scratch shelf name))
+      (append-near (stateChecksWith (isWholeShelf shelf) bytes state scratch) _ (state-near (isWholeShelf shelf) bytes state scratch) (λ _. held-near (tableOf bytes) shelf name))
+
+  pub drop-near : Near (dropOf bytes scratch shelf name .check)
+  drop-near =
+      subst Near (sym (in-order .of-drop bytes scratch shelf name))
+      (append-near (tableChecks bytes (isWholeShelf shelf) scratch) _ (table-near bytes (isWholeShelf shelf) scratch) (λ _. held-near (tableOf bytes) shelf name))

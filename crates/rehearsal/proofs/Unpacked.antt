@@ -15,7 +15,7 @@ use Rattle.machine.specs.declared.Totals.{Totals}
 use Rattle.rehearsal.specs.Results.{written, totalNumbers}
 use Rattle.rehearsal.specs.Packing.{packed, packedTally}
 use Rattle.rehearsal.specs.Unpacking.{checkIn, tallyIn, totalsIn, Told, Nothing-lost}
-use Rattle.rehearsal.proofs.Places.{Near, load-near, step-near, preview-near, run-near}
+use Rattle.rehearsal.proofs.Places.{Near, load-near, step-near, preview-near, run-near, save-near, restore-near, drop-near}
 use Rattle.rehearsal.proofs.Totals.{step-within, preview-within}
 
 -- a check, with a report below 2^63
@@ -61,4 +61,7 @@ nothing-lost =
           step-told _ (preview-near bytes was scratch kind x number next) (preview-within bytes was scratch kind x number next);
       of-run = λ bytes was scratch schedule answers. check-told _ (run-near bytes was scratch schedule answers) 0 (omega arith);
       of-totals = totals-told;
+      of-save = λ bytes state scratch shelf name. check-told _ (save-near bytes scratch shelf name state) 0 (omega arith);
+      of-restore = λ bytes state scratch shelf name. check-told _ (restore-near bytes scratch shelf name state) 0 (omega arith);
+      of-drop = λ bytes scratch shelf name. check-told _ (drop-near bytes scratch shelf name) 0 (omega arith);
     }

@@ -11,6 +11,7 @@ use Rattle.steps.specs.Tallies.{tally}
 use Rattle.steps.specs.Steps.{Outcome, loadOf, stepOf}
 use Rattle.steps.specs.Previews.{previewOf}
 use Rattle.steps.specs.Runs.{runOf}
+use Rattle.steps.specs.Points.{Change, saveOf, restoreOf, dropOf}
 use Rattle.machine.specs.declared.Totals.{Totals}
 use Rattle.rehearsal.specs.Results.{written, totalNumbers}
 use Rattle.rehearsal.specs.Packing.{packed, packedTally}
@@ -32,6 +33,10 @@ pub record Told (o : Outcome) : Type 0 where
   pub check : checkIn (packed (o .check) (packedTally (o .tally))) ≡ o .check
   pub counts : o .check ≡ passes → tallyIn (packed (o .check) (packedTally (o .tally))) ≡ o .tally
 
+-- the number that a save, restore or drop answers tells its check
+abbrev pub ChangeTold : Change → Type 0
+ChangeTold c = checkIn (packed (c .check) 0) ≡ c .check
+
 -- NOTHING IS LOST in packing
 pub record Nothing-lost : Type 0 where
   pub of-load : (bytes was : List ℕ) (scratch : ℕ) → checkIn (packed (loadOf bytes was scratch .check) 0) ≡ loadOf bytes was scratch .check
@@ -41,3 +46,6 @@ pub record Nothing-lost : Type 0 where
       checkIn (packed (runOf bytes was scratch schedule answers .check) 0) ≡ runOf bytes was scratch schedule answers .check
   -- of its totals, where there is room for all four
   pub of-totals : (c : Totals) (lent : List ℕ) → 4 ≤ length lent → totalsIn (written (totalNumbers c) lent) ≡ c
+  pub of-save : (bytes state : List ℕ) (scratch : ℕ) (shelf : List ℕ) (name : ℕ) → ChangeTold (saveOf bytes state scratch shelf name)
+  pub of-restore : (bytes state : List ℕ) (scratch : ℕ) (shelf : List ℕ) (name : ℕ) → ChangeTold (restoreOf bytes state scratch shelf name)
+  pub of-drop : (bytes : List ℕ) (scratch : ℕ) (shelf : List ℕ) (name : ℕ) → ChangeTold (dropOf bytes scratch shelf name)

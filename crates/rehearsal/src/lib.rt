@@ -1,9 +1,9 @@
-// The machine for C and Rust: each function calls the machine's and packs its answer into one number; a run's totals go
-// to a lent buffer. A slice is a pointer and a count.
+// The machine and the shelf for C and Rust: each function calls theirs and packs its answer into one number; a run's
+// totals go to a lent buffer. A slice is a pointer and a count.
 mod packing; // packing.rt: answers as one number
 mod results; // results.rt: result numbers in a lent buffer
 
-use packing::pack_load;
+use packing::pack_answer;
 use packing::pack_run;
 use packing::pack_step;
 use results::totals_of;
@@ -12,14 +12,15 @@ ghost use lib.ListN.{length};
 ghost use Rattle.steps.specs.Steps.{loadOf, stepOf};
 ghost use Rattle.steps.specs.Previews.{previewOf};
 ghost use Rattle.steps.specs.Runs.{runOf};
-ghost use Rattle.rehearsal.specs.Packing.{LoadPacked, StepPacked, RunPacked};
+ghost use Rattle.steps.specs.Points.{saveOf, restoreOf, dropOf};
+ghost use Rattle.rehearsal.specs.Packing.{LoadPacked, StepPacked, RunPacked, ChangePacked};
 
 // The state becomes that of a fleet which has not stepped yet. Reports 0.
 #[no_mangle]
 pub extern "C" fn labs_load(table: &[u8], state: &mut [u32], scratch: &mut [u32]) -> u64
     ensures { λ r. ⌜ LoadPacked (loadOf (now (table .entry)) (now (state .entry)) (length (now (scratch .entry)))) r (now (state .exit)) ⌝ }
 {
-    pack_load(machine::load(table, state, scratch))
+    pack_answer(machine::load(table, state, scratch))
 }
 
 // One step: act (kind 0; number is a choice), propagate (1) or confirm (2; number is a key). Reports how many agents
@@ -71,4 +72,41 @@ pub extern "C" fn labs_run(
     let answer = machine::run(table, state, scratch, schedule, answers);
     write_totals(totals, totals_of(answer));
     pack_run(answer)
+}
+
+// The state goes to the shelf under a name, 1 to 255: to the place that the name holds, or else to the lowest free one.
+// Reports 0.
+#[no_mangle]
+pub extern "C" fn labs_save(
+    table: &[u8],
+    state: &[u32],
+    scratch: &mut [u32],
+    shelf: &mut [u32],
+    name: u32,
+) -> u64
+    ensures { λ r. ⌜ ChangePacked (saveOf (now (table .entry)) (now (state .entry)) (length (now (scratch .entry))) (now (shelf .entry)) name) r (now (shelf .exit)) ⌝ }
+{
+    pack_answer(shelf::save(table, state, scratch, shelf, name))
+}
+
+// The state becomes the one that the shelf holds under a name. Reports 0.
+#[no_mangle]
+pub extern "C" fn labs_restore(
+    table: &[u8],
+    state: &mut [u32],
+    scratch: &mut [u32],
+    shelf: &[u32],
+    name: u32,
+) -> u64
+    ensures { λ r. ⌜ ChangePacked (restoreOf (now (table .entry)) (now (state .entry)) (length (now (scratch .entry))) (now (shelf .entry)) name) r (now (state .exit)) ⌝ }
+{
+    pack_answer(shelf::restore(table, state, scratch, shelf, name))
+}
+
+// The place that a name holds becomes free: its name word becomes 0, and no other word changes. Reports 0.
+#[no_mangle]
+pub extern "C" fn labs_drop(table: &[u8], scratch: &mut [u32], shelf: &mut [u32], name: u32) -> u64
+    ensures { λ r. ⌜ ChangePacked (dropOf (now (table .entry)) (length (now (scratch .entry))) (now (shelf .entry)) name) r (now (shelf .exit)) ⌝ }
+{
+    pack_answer(shelf::drop(table, scratch, shelf, name))
 }

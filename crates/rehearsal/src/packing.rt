@@ -1,11 +1,12 @@
 // Answers as one number.
-use machine::Loaded;
 use machine::Ran;
 use machine::Stepped;
+use opening::Answer;
 ghost use mathlib.Core.Path.{_≡_};
 ghost use Prim.Native.Nat.{_≤_};
 ghost use Rattle.table.specs.Checks.{refuses, placeOf};
-ghost use Rattle.machine.specs.Answers.{loadCheck, stepCheck, stepTally, runCheck};
+ghost use Rattle.opening.specs.Answers.{answerCheck};
+ghost use Rattle.machine.specs.Answers.{stepCheck, stepTally, runCheck};
 ghost use Rattle.rehearsal.specs.Packing.{packed, packedTally};
 
 // 2^63, which marks a refusal.
@@ -19,14 +20,14 @@ fn pack_refusal(number: u8, place: usize) -> u64
     REFUSED + 65536 * place as u64 + number as u64
 }
 
-// What a load answers.
-pub fn pack_load(answer: Loaded) -> u64
-    requires { ⌜ placeOf (loadCheck answer) ≤ 4096 ⌝ }
-    ensures { λ r. ⌜ r ≡ packed (loadCheck answer) 0 ⌝ }
+// What a call answers that reports nothing.
+pub fn pack_answer(answer: Answer) -> u64
+    requires { ⌜ placeOf (answerCheck answer) ≤ 4096 ⌝ }
+    ensures { λ r. ⌜ r ≡ packed (answerCheck answer) 0 ⌝ }
 {
     match answer {
-        Loaded::Done => 0,
-        Loaded::Refused(number, place) => pack_refusal(number, place),
+        Answer::Done => 0,
+        Answer::Refused(number, place) => pack_refusal(number, place),
     }
 }
 

@@ -12,4 +12,6 @@ numbered =
       propagate = λ t was x k. refl;
       confirm = λ t was x k. refl;
       run = λ schedule answers. refl;
+      save = λ t shelf name. refl;
+      restore-drop = λ t shelf name. refl;
     }

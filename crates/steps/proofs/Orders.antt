@@ -14,9 +14,11 @@ use Rattle.steps.specs.Tallies.{noTally}
 use Rattle.steps.specs.Steps.{Outcome, stateChecksWith, stepChecks, stepWith, stepOf}
 use Rattle.steps.specs.Orders.{InOrder}
 use Rattle.steps.specs.Runs.{runOf}
+use Rattle.steps.specs.Points.{saved, restored, dropped, saveOf, restoreOf, dropOf}
 use Rattle.steps.proofs.Checks.{numbered}
 use Rattle.steps.proofs.Steps.{outcome-check, with-in, in-check, with-stopped}
 use Rattle.steps.proofs.Previews.{preview-check}
+use Rattle.steps.proofs.Points.{change-check}
 
 with-first : (othersFit : Bool) (bytes was : List ℕ) (scratch kind x number : ℕ)
     → stepWith othersFit bytes was scratch kind x number .check ≡ firstOf (stateChecksWith othersFit bytes was scratch ++ stepChecks (tableOf bytes) was kind x number)
@@ -35,7 +37,7 @@ with-first othersFit bytes was scratch kind x number = by (firstOf opening) refl
     by (refuses n place) e = ap (λ (o : Outcome). o .check) (with-stopped othersFit bytes was scratch kind x number e) ∙ sym (append-refuses opening own e)
 
 pub in-order : InOrder
-unfolding stepOf runOf
+unfolding stepOf runOf saveOf restoreOf dropOf
 in-order =
     record {
       numbered = numbered;
@@ -44,4 +46,7 @@ in-order =
       of-preview = λ bytes was scratch kind x number next.
           preview-check bytes was scratch kind x number next ∙ with-first (isWhole next) bytes was scratch kind x number;
       of-run = λ bytes was scratch schedule answers. refl;
+      of-save = λ bytes state scratch shelf name. change-check shelf (saved state shelf name) _;
+      of-restore = λ bytes state scratch shelf name. change-check state (restored shelf name) _;
+      of-drop = λ bytes scratch shelf name. change-check shelf (dropped shelf name) _;
     }

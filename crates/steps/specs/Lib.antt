@@ -4,5 +4,8 @@ pub mod Offers
 pub mod Steps
 pub mod Previews
 pub mod Runs
+pub mod Shelves
+pub mod Points
+pub mod Kept
 pub mod Orders
 pub mod Examples

@@ -10,6 +10,8 @@ use Rattle.state.specs.Layout.{isWhole}
 use Rattle.steps.specs.Steps.{stepChecks, stateChecksWith, stateChecks, loadOf, stepOf}
 use Rattle.steps.specs.Previews.{previewOf}
 use Rattle.steps.specs.Runs.{scheduleChecks, runOf}
+use Rattle.steps.specs.Shelves.{isWholeShelf}
+use Rattle.steps.specs.Points.{shelfCheck, saveChecks, heldChecks, saveOf, restoreOf, dropOf}
 
 abbrev pub numbers : List Refusal → List ℕ
 numbers rs = map (λ (r : Refusal). r .number) rs
@@ -21,10 +23,12 @@ pub record Numbered : Type 0 where
   pub propagate : (t : Table) (was : List ℕ) (x k : ℕ) → numbers (stepChecks t was 1 x k) ≡ 10 ∷ 18 ∷ []
   pub confirm : (t : Table) (was : List ℕ) (x k : ℕ) → numbers (stepChecks t was 2 x k) ≡ 10 ∷ 18 ∷ []
   pub run : (schedule answers : List ℕ) → numbers (scheduleChecks schedule answers) ≡ 19 ∷ 20 ∷ []
+  pub save : (t : Table) (shelf : List ℕ) (name : ℕ) → numbers (shelfCheck t shelf ∷ saveChecks shelf name) ≡ 9 ∷ 21 ∷ 22 ∷ []
+  pub restore-drop : (t : Table) (shelf : List ℕ) (name : ℕ) → numbers (shelfCheck t shelf ∷ heldChecks shelf name) ≡ 9 ∷ 21 ∷ []
 
 pub record InOrder : Type 0 where
   pub numbered : Numbered
-  -- each call's checks are one list, and the first that refuses decides: load's, a step's, a preview's and run's
+  -- each call's checks are one list, and the first that refuses decides: load's, a step's, a preview's, run's, and those with a shelf
   pub of-load : (bytes was : List ℕ) (scratch : ℕ) → loadOf bytes was scratch .check ≡ firstOf (tableChecks bytes (isWhole was) scratch)
   pub of-step : (bytes was : List ℕ) (scratch kind x number : ℕ) →
       stepOf bytes was scratch kind x number .check ≡ firstOf (stateChecks bytes was scratch ++ stepChecks (tableOf bytes) was kind x number)
@@ -33,3 +37,12 @@ pub record InOrder : Type 0 where
       ≡ firstOf (stateChecksWith (isWhole next) bytes was scratch ++ stepChecks (tableOf bytes) was kind x number)
   pub of-run : (bytes was : List ℕ) (scratch : ℕ) (schedule answers : List ℕ) →
       runOf bytes was scratch schedule answers .check ≡ firstOf (stateChecks bytes was scratch ++ scheduleChecks schedule answers)
+  pub of-save : (bytes state : List ℕ) (scratch : ℕ) (shelf : List ℕ) (name : ℕ) →
+      saveOf bytes state scratch shelf name .check
+      ≡ firstOf (stateChecksWith (isWholeShelf shelf) bytes state scratch ++ (shelfCheck (tableOf bytes) shelf ∷ saveChecks shelf name))
+  pub of-restore : (bytes state : List ℕ) (scratch : ℕ) (shelf : List ℕ) (name : ℕ) →
+      restoreOf bytes state scratch shelf name .check
+      ≡ firstOf (stateChecksWith (isWholeShelf shelf) bytes state scratch ++ (shelfCheck (tableOf bytes) shelf ∷ heldChecks shelf name))
+  pub of-drop : (bytes : List ℕ) (scratch : ℕ) (shelf : List ℕ) (name : ℕ) →
+      dropOf bytes scratch shelf name .check
+      ≡ firstOf (tableChecks bytes (isWholeShelf shelf) scratch ++ (shelfCheck (tableOf bytes) shelf ∷ heldChecks shelf name))

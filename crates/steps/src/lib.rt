@@ -1,5 +1,5 @@
-// Load, act, propagate, confirm, step, preview and run: definitions in specs/, laws in proofs/. The crate has no
-// functions.
+// Load, act, propagate, confirm, step, preview, run, save, restore and drop: definitions in specs/, laws in proofs/. The
+// crate has no functions.
 
 use state::Insertion;
 

@@ -24,4 +24,6 @@ pub mod Lists
 pub mod Contact
 pub mod Demand3
 pub mod Instance3
+pub mod Surviving
+pub mod InstanceSurviving
 pub mod Ranged

@@ -1,7 +1,6 @@
 -- `machine::load` meets its contract.
 -- Assumes nothing.
 use Prim.Native.Nat.{ℕ, _+_, _-_}
-use mathlib.Core.Bool.{true}
 use mathlib.Core.Path.{ap, _∙_}
 use mathlib.Core.List.{List}
 use native.Mathlib.Omega.{arith}
@@ -11,7 +10,8 @@ use borrow.Author.Needs.{needs}
 use Rattle.table.specs.Tables.{Table}
 use Rattle.accept.proofs.Answering.{lent-table}
 use Rattle.state.specs.WellFormed.{loaded}
-use Rattle.machine.proofs.Accepting.{accepted-limits, accepted-size, load-given, load-done, load-refused}
+use Rattle.opening.proofs.Accepting.{accepted-limits, accepted-size}
+use Rattle.machine.proofs.Loading.{load-given, load-done, load-refused}
 use Rattle.machine.proofs.load.Statement.{statement}
 use Rattle.machine.proofs.load.Tie as tie
 
@@ -43,7 +43,7 @@ part-write-loaded-end : tie.Need-part-write-loaded-end
 part-write-loaded-end c = search needs
 
 write-loaded-requires : tie.Need-write-loaded-requires
-write-loaded-requires c κs = load-given true (was (c .before .before .before .before .before .before .before .before .before .before .before .before .before)) (c .before .before .before .before .before .before .before .before .accept .ensures) (c .before .before .before .before .answer .given .1)
+write-loaded-requires c κs = load-given (was (c .before .before .before .before .before .before .before .before .before .before .before .before .before)) (c .before .before .before .before .before .before .before .before .accept .ensures) (c .before .before .before .before .answer .given .1)
 
 enum-known-answer-2 : tie.Need-enum-known-answer-2
 enum-known-answer-2 c = search needs

@@ -6,7 +6,8 @@ use denote.Ref.{now}
 use lib.ListN.{length}
 use borrow.Author.Tests.{eqb-true}
 use Rattle.state.specs.Layout.{stateWords}
-use Rattle.machine.proofs.Opened.{opened-nodes, opened-ready, opened-proper, opened-fit, preview-refused, preview-opened}
+use Rattle.opening.proofs.Opened.{opened-nodes, opened-ready, opened-proper, opened-fit}
+use Rattle.machine.proofs.Opened.{preview-refused, preview-opened}
 use borrow.Author.Needs.{needs}
 use Rattle.machine.proofs.preview.Statement.{statement}
 use Rattle.machine.proofs.preview.Tie as tie

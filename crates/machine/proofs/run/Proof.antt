@@ -2,7 +2,8 @@
 -- Assumes nothing.
 use native.Mathlib.Omega.{arith}
 use denote.Ref.{now}
-use Rattle.machine.proofs.Opened.{opened-nodes, opened-ready, opened-proper, run-refused, run-unscheduled, run-opened}
+use Rattle.opening.proofs.Opened.{opened-nodes, opened-ready, opened-proper}
+use Rattle.machine.proofs.Opened.{run-refused, run-unscheduled, run-opened}
 use borrow.Author.Needs.{needs}
 use Rattle.machine.proofs.run.Statement.{statement}
 use Rattle.machine.proofs.run.Tie as tie

@@ -1,7 +1,8 @@
 -- `machine::step` meets its contract.
 -- Assumes nothing.
 use native.Mathlib.Omega.{arith}
-use Rattle.machine.proofs.Opened.{opened-nodes, opened-ready, opened-proper, step-refused, step-opened}
+use Rattle.opening.proofs.Opened.{opened-nodes, opened-ready, opened-proper}
+use Rattle.machine.proofs.Opened.{step-refused, step-opened}
 use borrow.Author.Needs.{needs}
 use Rattle.machine.proofs.step.Statement.{statement}
 use Rattle.machine.proofs.step.Tie as tie

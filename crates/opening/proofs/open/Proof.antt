@@ -1,4 +1,4 @@
--- `machine::opening::open` meets its contract.
+-- `opening::open` meets its contract.
 -- Assumes nothing.
 use Prim.Native.Nat.{ℕ}
 use mathlib.Core.Bool.{Bool}
@@ -7,9 +7,11 @@ use mathlib.Core.List.{List}
 use native.Mathlib.Omega.{arith}
 use denote.Ref.{now}
 use borrow.Author.Needs.{needs}
-use Rattle.machine.proofs.Accepting.{accepted-limits, accepted-size, check-given, formed-is, open-broken, open-formed, open-refused}
-use Rattle.machine.proofs.opening.open.Statement.{statement}
-use Rattle.machine.proofs.opening.open.Tie as tie
+use Rattle.table.specs.Tables.{Table}
+use Rattle.state.specs.WellFormed.{wellFormed}
+use Rattle.opening.proofs.Accepting.{accepted-limits, accepted-size, told-parts, check-given, open-broken, open-formed, open-refused}
+use Rattle.opening.proofs.open.Statement.{statement}
+use Rattle.opening.proofs.open.Tie as tie
 
 abbrev othersFit : tie.Start → Bool
 othersFit a = a .args .others-fit
@@ -51,7 +53,7 @@ returns c =
     let a = c .before .before .before .before .before .before .before .before .before .before .before .before .before .before in
     let f = c .before .before .before .before .before .before .before .before .before .accept .ensures in
     let e = c .before .before .before .before .before .answer .given .1 in
-    open-formed (othersFit a) (was a) f e (λ i. c .before .before .before .before .before .before .before .before .before .before .before .before .shared-slice-known2 .given i .fits) (formed-is f e (was a) (c .before .well-formed .ensures) ∙ c .if1 .taken)
+    open-formed (othersFit a) (was a) f e (λ i. c .before .before .before .before .before .before .before .before .before .before .before .before .shared-slice-known2 .given i .fits) (told-parts (now (a .args .table)) _ (f .sizes _ e) (λ (t : Table). wellFormed t (was a)) (c .before .well-formed .ensures) ∙ c .if1 .taken)
 
 same-length-2 : tie.Need-same-length-2
 same-length-2 c = search needs
@@ -61,7 +63,7 @@ returns-2 c =
     let a = c .before .before .before .before .before .before .before .before .before .before .before .before .before .before in
     let f = c .before .before .before .before .before .before .before .before .before .accept .ensures in
     let e = c .before .before .before .before .before .answer .given .1 in
-    open-broken (othersFit a) (was a) f e (formed-is f e (was a) (c .before .well-formed .ensures) ∙ c .if1 .left)
+    open-broken (othersFit a) (was a) f e (told-parts (now (a .args .table)) _ (f .sizes _ e) (λ (t : Table). wellFormed t (was a)) (c .before .well-formed .ensures) ∙ c .if1 .left)
 
 same-length-3 : tie.Need-same-length-3
 same-length-3 c = search needs

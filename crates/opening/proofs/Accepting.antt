@@ -1,4 +1,4 @@
--- What refusals 1 to 9 leave, and what load answers.
+-- What refusals 1 to 9 leave.
 -- Assumes nothing.
 use Prim.Native.Nat.{ℕ, _+_, _-_, _*_}
 use mathlib.Core.Bool.{Bool, true, false, not, _&&_}
@@ -7,13 +7,12 @@ use mathlib.Core.List.{List, [], _∷_}
 use native.Mathlib.Omega.{arith}
 use lib.ListN.{length, take, drop}
 use borrow.Author.Tests.{eqb-true}
-use Rattle.basis.proofs.Lists.{take-rest}
 use Rattle.basis.proofs.Tests.{and-right}
 use Rattle.table.specs.declared.Sizes.{Sizes}
 use Rattle.table.specs.Checks.{Refusal, refuseIf, firstOf}
 use Rattle.table.specs.Tables.{Table, table, sizesOf, tableOf}
 use Rattle.table.specs.Sound.{Limits}
-use Rattle.table.proofs.Limits.{kinds-part, length-kinds, length-operands}
+use Rattle.table.proofs.Limits.{kinds-part, length-kinds}
 use Rattle.table.proofs.Checks.{append-refuses, append-later, first-refuses}
 use Rattle.term.specs.Accepted.{Acceptable}
 use Rattle.term.specs.Acceptance.{tableChecks}
@@ -22,27 +21,26 @@ use Rattle.accept.specs.declared.Acceptance.{Acceptance}
 use Rattle.accept.specs.declared.Acceptance.the-variants.{Accepted, Refused}
 use Rattle.accept.specs.Answers.{acceptanceCheck, Accepts}
 use Rattle.accept.proofs.Answering.{accepted-table, lent-table}
-use Rattle.state.specs.WellFormed.{wellFormed, loaded, Words}
-use Rattle.wellformed.specs.Given.{CheckGiven, LoadGiven}
-use Rattle.steps.specs.Tallies.{noTally}
-use Rattle.steps.specs.Steps.{Outcome, loadOf}
-use Rattle.steps.proofs.Steps.{outcome-refused, accepted-load}
-use Rattle.machine.specs.declared.Loaded.the-variants.{Done as LoadDone, Refused as LoadRefused}
-use Rattle.machine.specs.Answers.{Loads}
-use Rattle.machine.specs.Opening.{Opens}
+use Rattle.state.specs.WellFormed.{wellFormed, Words}
+use Rattle.wellformed.specs.Given.{CheckGiven}
+use Rattle.opening.specs.Opening.{Opens}
 
 -- the sizes of a table, read or answered
 module _ (bytes : List ℕ) (n : Sizes) (e : n ≡ sizesOf bytes) where
   pub same-nodes : n .nodes ≡ sizesOf bytes .nodes
   same-nodes = ap (λ (m : Sizes). m .nodes) e
 
+  -- a test of a table that was told of its kinds, whatever its operands
+  pub told-parts : (P : Table → Bool) {b : Bool} → ((operands : List ℕ) → b ≡ P (table n (take (12 + n .nodes - 12) (drop 12 bytes)) operands)) → P (tableOf bytes) ≡ b
+  told-parts P f = sym (f (take (length bytes - (12 + n .nodes)) (drop (12 + n .nodes) bytes)) ∙ ap P (lent-table bytes n e))
+
 -- a table that is accepted, whatever was told of the call's buffers
 module _ {bytes : List ℕ} {fits : Bool} {before after : List ℕ} {r : Acceptance} (a : Accepts bytes fits before after r) where
-  accepts-is : (x : Acceptance) → r ≡ x → firstOf (tableChecks bytes fits (length before)) ≡ acceptanceCheck x
+  pub accepts-is : (x : Acceptance) → r ≡ x → firstOf (tableChecks bytes fits (length before)) ≡ acceptanceCheck x
   accepts-is x e = sym (a .check) ∙ ap (λ (y : Acceptance). acceptanceCheck y) e
 
   module _ {n : Sizes} (e : r ≡ Accepted n) where
-    accepted-is : Acceptable bytes fits (length before)
+    pub accepted-is : Acceptable bytes fits (length before)
     accepted-is = accepted-table a e
 
     pub accepted-limits : Limits n
@@ -50,11 +48,6 @@ module _ {bytes : List ℕ} {fits : Bool} {before after : List ℕ} {r : Accepta
 
     pub accepted-size : length bytes ≡ 12 + 5 * n .nodes
     accepted-size = let f = same-nodes bytes n (a .sizes n e) in let g = accepted-is .size in omega arith
-
-    -- 9, as it is asked of the table's parts
-    pub formed-is : (was : List ℕ) {t : Bool} → ((operands : List ℕ) → t ≡ wellFormed (table n (take (12 + n .nodes - 12) (drop 12 bytes)) operands) was) → wellFormed (tableOf bytes) was ≡ t
-    formed-is was f =
-        sym (f (take (length bytes - (12 + n .nodes)) (drop (12 + n .nodes) bytes)) ∙ ap (λ (t : Table). wellFormed t was) (lent-table bytes n (a .sizes n e)))
 
 -- told whether the state, and what the call lends besides, have their lengths
 module _ (othersFit : Bool) (was : List ℕ) {bytes before after : List ℕ} {r : Acceptance} (a : Accepts bytes (othersFit && isWhole was) before after r) where
@@ -75,15 +68,6 @@ module _ (othersFit : Bool) (was : List ℕ) {bytes before after : List ℕ} {r 
           limits = accepted-limits a e;
           nodes = omega (arith, ap (λ (ks : List ℕ). length ks) (kinds-part bytes (n .nodes)), length-kinds bytes (n .nodes) f);
           blocks = omega (arith, whole);
-        }
-
-    pub load-given : LoadGiven n (take (length bytes - (12 + n .nodes)) (drop (12 + n .nodes) bytes)) was
-    load-given =
-        let f = accepted-size a e in
-        record {
-          limits = accepted-limits a e;
-          nodes = omega (arith, ap (λ (os : List ℕ). length os) (take-rest bytes (12 + n .nodes)), length-operands bytes (n .nodes) f);
-          whole = whole;
         }
 
     pub open-broken : formed ≡ false → Opens othersFit bytes was before after (Refused 9 0)
@@ -112,15 +96,3 @@ module _ (othersFit : Bool) (was : List ℕ) {bytes before after : List ℕ} {r 
         check = sym (append-refuses checks (refuseIf 9 (not formed) ∷ []) (accepts-is a (Refused number place) e));
         opened = λ m g. absurd (let z : _≡_ {A = ℕ} 0 1 = cc in omega arith);
       }
-
--- LOAD
-module _ (was : List ℕ) {bytes before after : List ℕ} {r : Acceptance} (a : Accepts bytes (isWhole was) before after r) where
-  pub load-done : {n : Sizes} → r ≡ Accepted n → {left : List ℕ} → left ≡ loaded (tableOf bytes) → Loads (loadOf bytes was (length before)) LoadDone left
-  load-done e f =
-      let d = accepted-load bytes was (length before) (accepted-is a e) in
-      record { check = sym (ap (λ (o : Outcome). o .check) d); state = f ∙ sym (ap (λ (o : Outcome). o .state) d) }
-
-  pub load-refused : {number place : ℕ} → r ≡ Refused number place → Loads (loadOf bytes was (length before)) (LoadRefused number place) was
-  load-refused {number} {place} e =
-      let d = outcome-refused was noTally (loaded (tableOf bytes)) (firstOf (tableChecks bytes (isWhole was) (length before))) (accepts-is a (Refused number place) e) in
-      record { check = sym (ap (λ (o : Outcome). o .check) d); state = sym (ap (λ (o : Outcome). o .state) d) }

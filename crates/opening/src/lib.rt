@@ -1,7 +1,13 @@
-// Refusals 1 to 9: a table that is accepted, and a state of it that is well formed.
+// What calls on a state begin with, refusals 1 to 9: a table that is accepted, and a state of it that is well formed.
 use accept::Acceptance;
 use wellformed::well_formed;
-ghost use Rattle.machine.specs.Opening.{Opens};
+ghost use Rattle.opening.specs.Opening.{Opens};
+
+// What a call answers that reports nothing: load, save, restore, drop.
+pub enum Answer {
+    Done,
+    Refused(u8, usize),
+}
 
 // `others_fit`: whether what the call lends beside state and scratch has the lengths that 8 asks.
 pub fn open(table: &[u8], state: &[u32], others_fit: bool, scratch: &mut [u32]) -> Acceptance
