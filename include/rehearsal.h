@@ -1,21 +1,21 @@
 /* The proved LAbS rehearsal machine, for C and C++ on x86-64 Linux: target/staticlib/librehearsal.a, which
- * `rt staticlib rehearsal` writes. docs/FORMATS.md says what tables, schedules, states and steps are;
+ * `rt staticlib rehearsal` writes. docs/FORMATS.md says what tables, schedules, states, shelves and steps are;
  * examples/rehearse.c is a whole program.
  *
  * Slices. A slice is a pointer and a count of elements. A caller owes for each that the pointer is aligned, not null
- * (also where the count is 0) and valid for so many elements, and that what is written (scratch, answers, totals, next,
- * and state but in labs_preview) overlaps no other slice. Nothing else is asked: any bytes as table and schedule and
- * any words as state get an answer. No call keeps a pointer, allocates or prints.
+ * (also where the count is 0) and valid for so many elements, and that what is written (all that is not const below)
+ * overlaps no other slice. Nothing else is asked: any bytes as table and schedule and any words as state and shelf get
+ * an answer. No call keeps a pointer, allocates or prints.
  *
  * Threads. The library has no data of its own. Calls may run in several threads at once, as long as no thread uses
- * what another one's call writes; a table, a schedule and a state that is previewed are only read, and may be shared.
+ * what another one's call writes; what is const below is only read, and may be shared.
  *
  * Stack. As measured, a call on the deepest tables fits 800 KB of stack; an act whose guard compares two constants,
  * with a residual of one word, fits 2 KB. docs/DECISIONS.md has what each level of guards, expressions, processes and
  * residuals adds.
  *
  * Answers. An answer is one number, which the macros under "Answers" take apart. A refused call has its refusal and
- * its place in it, and leaves state, answer bytes and next as they came; the totals of a refused run are 0. */
+ * its place in it, and leaves state, shelf, answer bytes and next as they came; the totals of a refused run are 0. */
 #ifndef REHEARSAL_H
 #define REHEARSAL_H
 
@@ -134,6 +134,20 @@ enum labs_residual {
     LABS_RESIDUAL_SEQUENCE = 65535
 };
 
+/* ---- Words of a shelf: names, and then the states that are saved under them, in the same order ---- */
+
+#define LABS_SHELF_PLACES 8
+/* Names are 1 to 255. */
+#define LABS_NAME_LIMIT 255
+
+/* The name that a place holds, or 0 where the place is free; and where its state begins, of LABS_STATE_WORDS words.
+ * What the state words of a free place hold is free. */
+#define LABS_SHELF_NAME(place) (place)
+#define LABS_SHELF_STATE(place) (LABS_SHELF_PLACES + LABS_STATE_WORDS * (place))
+
+/* How many words a shelf has: 37,656. */
+#define LABS_SHELF_WORDS (LABS_SHELF_STATE(LABS_SHELF_PLACES))
+
 /* ---- Scratch: what its words hold, before and after a call, is free ---- */
 
 /* Words that suffice for a table of so many nodes, and for every table. */
@@ -151,7 +165,7 @@ enum labs_residual {
 #define LABS_PLACE(answer) (((answer) & ~LABS_REFUSED) >> 16)
 
 /* Of a step that is done, and of its preview: how many agents took the entry, those that had none for its key and those
- * that had an older one, and both together; of an act none. A load or a run that is done answers 0. */
+ * that had an older one, and both together; of an act none. Any other call that is done answers 0. */
 #define LABS_STEP_ADDED(answer) ((unsigned)((answer) & 0xffff))
 #define LABS_STEP_REPLACED(answer) ((unsigned)((answer) >> 16 & 0xffff))
 #define LABS_STEP_TAKEN(answer) (LABS_STEP_ADDED(answer) + LABS_STEP_REPLACED(answer))
@@ -182,7 +196,9 @@ enum labs_refusal {
     LABS_REFUSAL_RESIDUAL_TOO_LONG = 17,
     LABS_REFUSAL_KEY_NOT_IN_SET = 18,
     LABS_REFUSAL_SCHEDULE_LENGTH = 19,
-    LABS_REFUSAL_ANSWERS_SHORT = 20
+    LABS_REFUSAL_ANSWERS_SHORT = 20,
+    LABS_REFUSAL_NO_SUCH_NAME = 21,
+    LABS_REFUSAL_SHELF_FULL = 22
 };
 
 /* ---- Calls ---- */
@@ -207,6 +223,20 @@ uint64_t labs_preview(const uint8_t *table, size_t table_len, const uint32_t *st
 uint64_t labs_run(const uint8_t *table, size_t table_len, uint32_t *state, size_t state_len,
                   uint32_t *scratch, size_t scratch_len, const uint8_t *schedule, size_t schedule_len,
                   uint8_t *answers, size_t answers_len, uint32_t *totals, size_t totals_len);
+
+/* Saves state, which is only read, under a name: in place of what is saved under it, or, where it is a new one, at the
+ * lowest free place. shelf is of LABS_SHELF_WORDS words; one whose names are all 0 holds nothing. */
+uint64_t labs_save(const uint8_t *table, size_t table_len, const uint32_t *state, size_t state_len,
+                   uint32_t *scratch, size_t scratch_len, uint32_t *shelf, size_t shelf_len, uint32_t name);
+
+/* Makes state the one that is saved under a name, word for word. state is judged before, as by every call but
+ * labs_load: a buffer that no load has written is refused. */
+uint64_t labs_restore(const uint8_t *table, size_t table_len, uint32_t *state, size_t state_len,
+                      uint32_t *scratch, size_t scratch_len, const uint32_t *shelf, size_t shelf_len, uint32_t name);
+
+/* Makes the place of a name free: its name becomes 0, and its state words stay. */
+uint64_t labs_drop(const uint8_t *table, size_t table_len, uint32_t *scratch, size_t scratch_len,
+                   uint32_t *shelf, size_t shelf_len, uint32_t name);
 
 #ifdef __cplusplus
 }

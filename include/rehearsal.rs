@@ -12,6 +12,9 @@ pub const MAX_RESIDUAL: usize = 63;
 /// Words of scratch that suffice for every table.
 pub const SCRATCH_WORDS: usize = 2 * MAX_NODES;
 
+/// The highest name of a saved state; the lowest is 1.
+pub const NAME_LIMIT: u32 = 255;
+
 /// The words of a state, by their index.
 pub mod word {
     use super::{MAX_AGENTS, MAX_KEYS, MAX_RESIDUAL};
@@ -67,6 +70,26 @@ pub mod word {
 
     /// How many words a state has.
     pub const STATE_WORDS: usize = block(MAX_AGENTS);
+}
+
+/// The words of a shelf, by their index.
+pub mod shelf {
+    use super::word::STATE_WORDS;
+
+    pub const PLACES: usize = 8;
+
+    /// The name that a place holds, or 0 where the place is free.
+    pub const fn name(place: usize) -> usize {
+        place
+    }
+
+    /// Where the state of a place begins.
+    pub const fn state(place: usize) -> usize {
+        PLACES + STATE_WORDS * place
+    }
+
+    /// How many words a shelf has.
+    pub const SHELF_WORDS: usize = state(PLACES);
 }
 
 /// A refused call: why, and where (a node, a definition, or 0).
@@ -222,6 +245,61 @@ pub fn run(
     }
 }
 
+/// labs_save.
+pub fn save(table: &[u8], state: &[u32], scratch: &mut [u32], shelf: &mut [u32], name: u32) -> u64 {
+    unsafe {
+        labs_save(
+            table.as_ptr(),
+            table.len(),
+            state.as_ptr(),
+            state.len(),
+            scratch.as_mut_ptr(),
+            scratch.len(),
+            shelf.as_mut_ptr(),
+            shelf.len(),
+            name,
+        )
+    }
+}
+
+/// labs_restore.
+pub fn restore(
+    table: &[u8],
+    state: &mut [u32],
+    scratch: &mut [u32],
+    shelf: &[u32],
+    name: u32,
+) -> u64 {
+    unsafe {
+        labs_restore(
+            table.as_ptr(),
+            table.len(),
+            state.as_mut_ptr(),
+            state.len(),
+            scratch.as_mut_ptr(),
+            scratch.len(),
+            shelf.as_ptr(),
+            shelf.len(),
+            name,
+        )
+    }
+}
+
+/// labs_drop.
+pub fn drop(table: &[u8], scratch: &mut [u32], shelf: &mut [u32], name: u32) -> u64 {
+    unsafe {
+        labs_drop(
+            table.as_ptr(),
+            table.len(),
+            scratch.as_mut_ptr(),
+            scratch.len(),
+            shelf.as_mut_ptr(),
+            shelf.len(),
+            name,
+        )
+    }
+}
+
 extern "C" {
     fn labs_load(
         table: *const u8,
@@ -271,5 +349,39 @@ extern "C" {
         answers_len: usize,
         totals: *mut u32,
         totals_len: usize,
+    ) -> u64;
+
+    fn labs_save(
+        table: *const u8,
+        table_len: usize,
+        state: *const u32,
+        state_len: usize,
+        scratch: *mut u32,
+        scratch_len: usize,
+        shelf: *mut u32,
+        shelf_len: usize,
+        name: u32,
+    ) -> u64;
+
+    fn labs_restore(
+        table: *const u8,
+        table_len: usize,
+        state: *mut u32,
+        state_len: usize,
+        scratch: *mut u32,
+        scratch_len: usize,
+        shelf: *const u32,
+        shelf_len: usize,
+        name: u32,
+    ) -> u64;
+
+    fn labs_drop(
+        table: *const u8,
+        table_len: usize,
+        scratch: *mut u32,
+        scratch_len: usize,
+        shelf: *mut u32,
+        shelf_len: usize,
+        name: u32,
     ) -> u64;
 }

@@ -1,6 +1,7 @@
 //! The proved library, called as C calls it, on cases that the second implementation generates.
 
 pub mod fleets;
+pub mod loaded;
 pub mod mir;
 pub mod numbers;
 pub mod page;
@@ -8,6 +9,7 @@ pub mod program;
 #[path = "../../include/rehearsal.rs"]
 pub mod rehearsal;
 pub mod residuals;
+pub mod shelves;
 pub mod stack;
 
 use reference::cases::{Call, Case, ANSWER_FILL};
@@ -128,8 +130,13 @@ pub fn any_words(length: usize, salt: u32) -> Vec<u32> {
 }
 
 /// Scratch holds whatever was there.
-fn lent_scratch(case: &Case) -> Lent<u32> {
-    Lent::new(&any_words(case.scratch, 0x5bd1_e995), 0xdead_beef)
+fn lent_scratch(words: usize) -> Lent<u32> {
+    lent(&any_words(words, 0x5bd1_e995))
+}
+
+/// Words between others that are marked.
+fn lent(words: &[u32]) -> Lent<u32> {
+    Lent::new(words, 0xdead_beef)
 }
 
 /// What the words for totals hold before a call.
@@ -145,14 +152,14 @@ pub fn call(case: &Case) -> Given {
 /// The same, with so many words for totals.
 pub fn call_with(case: &Case, room: usize) -> Given {
     let table = case.table.clone();
-    let mut state = Lent::new(&case.state, 0xdead_beef);
-    let mut scratch = lent_scratch(case);
+    let mut state = lent(&case.state);
+    let mut scratch = lent_scratch(case.scratch);
     let answers = match &case.call {
         Call::Run { answers, .. } => *answers,
         _ => 0,
     };
     let mut answers = Lent::new(&vec![ANSWER_FILL; answers], 77);
-    let mut totals = Lent::new(&lent_totals(room), 0xdead_beef);
+    let mut totals = lent(&lent_totals(room));
     let packed = call_on(
         &table,
         state.slice(),
@@ -177,9 +184,9 @@ pub fn preview(case: &Case, next: &[u32]) -> Previewed {
         panic!("not a step");
     };
     let table = case.table.clone();
-    let state = Lent::new(&case.state, 0xdead_beef);
-    let mut scratch = lent_scratch(case);
-    let mut next = Lent::new(next, 0xdead_beef);
+    let state = lent(&case.state);
+    let mut scratch = lent_scratch(case.scratch);
+    let mut next = lent(next);
     let packed = rehearsal::preview(
         &table,
         state.shared(),

@@ -9,12 +9,13 @@ use reference::draft::Draft;
 use reference::machine::open;
 use reference::refusal::{pack, write_totals, Counts, Refusal, Totals};
 use reference::schedule::{self, MAX_STEPS};
+use reference::shelf::save;
 use reference::state::{Agent, Entry, World, MAX_CLOCK, STATE_WORDS};
 use reference::step::Step;
 use reference::syntax::{ExprForm, Party};
 use reference::table::{Node, HEADER_BYTES, MAX_AGENTS, MAX_DEFINITIONS, MAX_KEYS, MAX_NODES};
 use reference::term::{Term, MAX_WORDS};
-use reference::Reason;
+use reference::{load, Reason};
 
 use crate::fleets;
 
@@ -385,6 +386,72 @@ fn scratch() -> Vec<Named> {
     ]
 }
 
+/// A loaded state, and shelves on which it is saved.
+struct Saving {
+    table: Vec<u8>,
+    state: Vec<u32>,
+}
+
+impl Saving {
+    fn new() -> Saving {
+        let (table, mut state) = (fleets::table(9, 0), vec![0; STATE_WORDS]);
+        load(&table, &mut state, usize::MAX).expect("an accepted table");
+        Saving { table, state }
+    }
+
+    /// Whether a save is done.
+    fn save(&self, shelf: &mut [u32], name: u32) -> bool {
+        save(&self.table, &self.state, usize::MAX, shelf, name).is_ok()
+    }
+
+    /// The one length that a shelf can have.
+    fn words(&self) -> usize {
+        let mut room = vec![0; 10 * STATE_WORDS];
+        let lengths = 0..room.len();
+        let lengths: Vec<usize> = lengths
+            .filter(|&words| self.save(&mut room[..words], 1))
+            .collect();
+        assert_eq!(lengths.len(), 1, "{lengths:?}");
+        lengths[0]
+    }
+
+    /// Where a save on this shelf writes its name, which is no word of the state, and from where on the state.
+    fn places(&self, shelf: &mut [u32], name: u32) -> Option<(usize, usize)> {
+        let before = shelf.to_vec();
+        if !self.save(shelf, name) {
+            return None;
+        }
+        let differs = |&i: &usize| shelf[i] != before[i];
+        let (names, states): (Vec<usize>, Vec<usize>) = (0..shelf.len())
+            .filter(differs)
+            .partition(|&i| shelf[i] == name);
+        assert_eq!(names.len(), 1);
+        let words = (0..STATE_WORDS).filter(|&i| self.state[i] != 0);
+        let starts: BTreeSet<usize> = states.iter().zip(words).map(|(at, i)| at - i).collect();
+        assert_eq!(starts.len(), 1);
+        Some((names[0], *starts.first()?))
+    }
+}
+
+/// By saves under new names until there is no place for them, and under one name after another until it is none.
+fn shelf() -> Vec<Named> {
+    let saving = Saving::new();
+    let words = saving.words();
+    let empty = vec![0; words];
+    let mut all = vec![named("LABS_SHELF_WORDS", words)];
+    let (mut shelf, mut places) = (empty.clone(), 0);
+    while let Some((name, state)) = saving.places(&mut shelf, 200 + places) {
+        all.push(named(&format!("LABS_SHELF_NAME({places})"), name));
+        all.push(named(&format!("LABS_SHELF_STATE({places})"), state));
+        places += 1;
+    }
+    all.push(named("LABS_SHELF_PLACES", places));
+    let is_name = |name: &u32| saving.save(&mut empty.clone(), *name);
+    let last = (1..).take_while(is_name).last().expect("a name");
+    all.push(named("LABS_NAME_LIMIT", last));
+    all
+}
+
 /// What is read from packed answers.
 fn answers() -> Vec<Named> {
     let refused = |reason, place| pack::<()>(&Err(Refusal::at(reason, place)));
@@ -395,6 +462,7 @@ fn answers() -> Vec<Named> {
         (Reason::BadNode, 4_095),
         (Reason::ExposedCall, 63),
         (Reason::AnswersShort, 0),
+        (Reason::ShelfFull, 0),
     ] {
         let answer = refused(reason, place);
         for (name, number) in [
@@ -462,6 +530,7 @@ pub fn all() -> Vec<Named> {
         step_kinds(),
         words(),
         parts(),
+        shelf(),
         residual_words(),
         scratch(),
         answers(),

@@ -2,6 +2,9 @@
 
 use std::arch::asm;
 
+/// A stack on which every call on chains of about 4,000 nodes fits.
+pub const SMALL_STACK: usize = 800 << 10;
+
 /// What the words of a stack hold before a call.
 const UNTOUCHED: u64 = 0x5bd1_e995_dead_beef;
 

@@ -8,12 +8,15 @@ use std::process::Command;
 use conformance::page::{block, bytes, commands, root, rows, text};
 use conformance::program::{labs_show, printed};
 use conformance::rehearsal::TOTALS;
+use conformance::shelves;
 use conformance::{
     any_words, call, expected, expected_preview, numbers, preview, Given, Previewed,
 };
 use reference::cases::{Call, Case};
 use reference::draft::Draft;
 use reference::schedule::MAX_STEPS;
+use reference::shelf::{PLACES, SHELF_WORDS};
+use reference::shelf_cases::{ShelfCall, ShelfCase, ShelfOutcome};
 use reference::show::show;
 use reference::state::{entry_at, STATE_WORDS};
 use reference::step::Step;
@@ -327,6 +330,20 @@ fn the_layout_is_the_references() {
 }
 
 #[test]
+fn the_layout_of_a_shelf_is_the_references() {
+    let all = numbers::all();
+    let rows = rows(&page(), "| Word of a shelf | Index by | What it is |");
+    assert_eq!(rows.len(), 2);
+    for row in rows {
+        for i in 0..PLACES as u64 {
+            let name = row[1].replace("(i)", &format!("({i})"));
+            let (_, index) = all.iter().find(|(other, _)| *other == name).unwrap();
+            assert_eq!(place(&row[0], 0, 0, i), *index, "{name}");
+        }
+    }
+}
+
+#[test]
 fn the_limits_are_the_references() {
     let limits = [
         ("N", format!("1 to {MAX_NODES}")),
@@ -473,6 +490,81 @@ fn buffers_are_refused_as_the_page_says() {
         (nothing.packed, &nothing.totals[..TOTALS]),
         (0, &[0; TOTALS][..])
     );
+}
+
+/// What a call on a shelf gives, of the library and the second implementation alike.
+fn on_shelf(
+    call: ShelfCall,
+    name: u32,
+    table: &[u8],
+    state: &[u32],
+    shelf: &[u32],
+) -> ShelfOutcome {
+    let case = ShelfCase {
+        call,
+        name,
+        table: table.to_vec(),
+        state: state.to_vec(),
+        scratch: 2 * MAX_NODES,
+        shelf: shelf.to_vec(),
+    };
+    shelves::agreed(&case, "of the page")
+}
+
+/// What the page says of shelves (8, 9, 21, 22).
+#[test]
+fn shelves_are_refused_as_the_page_says() {
+    let input = input(&page());
+    let (table, schedule) = split(&input);
+    let (first, later) = (loaded(table).state, run(table, schedule).state);
+    let none = vec![0; SHELF_WORDS];
+    let save =
+        |name, state: &[u32], shelf: &[u32]| on_shelf(ShelfCall::Save, name, table, state, shelf);
+    let restore = |name, shelf: &[u32]| on_shelf(ShelfCall::Restore, name, table, &later, shelf);
+    let drop = |name, shelf: &[u32]| on_shelf(ShelfCall::Drop, name, table, &[], shelf);
+
+    let shelf = save(1, &first, &none).shelf;
+    assert_eq!(restore(1, &shelf).state, first);
+    // Names counted from 0, and a name that was dropped.
+    assert_eq!(save(0, &first, &none).refusal(), 21);
+    assert_eq!(save(256, &first, &none).refusal(), 21);
+    assert_eq!(restore(2, &shelf).refusal(), 21);
+    let dropped = drop(1, &shelf).shelf;
+    assert_eq!(drop(1, &dropped).refusal(), 21);
+    assert_eq!(restore(1, &dropped).refusal(), 21);
+    // Its state words stay, and the place is used again.
+    let changed = (0..SHELF_WORDS).filter(|&i| shelf[i] != dropped[i]);
+    assert!(changed.eq([0]));
+    assert_eq!(save(9, &first, &dropped).shelf[0], 9);
+
+    let mut full = none.clone();
+    for name in 1..=PLACES as u32 {
+        full = save(name, &first, &full).shelf;
+    }
+    assert_eq!(save(9, &later, &full).refusal(), 22);
+    assert_eq!(restore(3, &save(3, &later, &full).shelf).state, later);
+
+    // A length in bytes; name words that were not 0 at first; the state of another table.
+    for length in [SHELF_WORDS - 1, 4 * SHELF_WORDS] {
+        let mut shelf = shelf.clone();
+        shelf.resize(length, 0);
+        assert_eq!(restore(1, &shelf).refusal(), 8);
+    }
+    assert_eq!(save(1, &first, &any_words(SHELF_WORDS, 0)).refusal(), 9);
+    let other = defined(&[action]);
+    let state = loaded(&other).state;
+    assert_eq!(
+        on_shelf(ShelfCall::Save, 2, &other, &state, &shelf).refusal(),
+        9
+    );
+    assert_eq!(
+        on_shelf(ShelfCall::Save, 2, &other, &state, &dropped).refusal(),
+        0
+    );
+    // A name held twice, also where both states are well formed.
+    let mut twice = full.clone();
+    twice[1] = twice[0];
+    assert_eq!(drop(5, &twice).refusal(), 9);
 }
 
 /// The answers of one agent that starts with this process, and acts by choice 0 again and again.

@@ -9,8 +9,8 @@ use std::process::{Command, Stdio};
 
 use conformance::numbers::{self, Named};
 use conformance::rehearsal::{
-    self, taken_apart, word, Counts, Refused, Totals, MAX_AGENTS, MAX_KEYS, MAX_NODES,
-    MAX_RESIDUAL, MAX_STEPS, SCRATCH_WORDS, TOTALS,
+    self, shelf, taken_apart, word, Counts, Refused, Totals, MAX_AGENTS, MAX_KEYS, MAX_NODES,
+    MAX_RESIDUAL, MAX_STEPS, NAME_LIMIT, SCRATCH_WORDS, TOTALS,
 };
 use reference::refusal::{pack, write_totals, Refusal};
 use reference::Reason;
@@ -40,8 +40,9 @@ fn program(all: &[Named]) -> String {
     }
     text.push_str(
         "0};\nstatic uint32_t state[LABS_STATE_WORDS], scratch[LABS_SCRATCH_WORDS], next[LABS_STATE_WORDS],\n\
-         totals[LABS_TOTALS];\n\
+         totals[LABS_TOTALS], shelf[LABS_SHELF_WORDS];\n\
          static const uint32_t *const seen = state;\n\
+         static const uint32_t *const held = shelf;\n\
          int main(void)\n{\n\
          uint8_t none[1] = {0};\n\
          for (size_t i = 0; i + 1 < sizeof numbers / sizeof *numbers; i++)\n\
@@ -52,6 +53,10 @@ fn program(all: &[Named]) -> String {
          next, LABS_STATE_WORDS);\n\
          answer |= labs_run(none, 0, state, LABS_STATE_WORDS, scratch, LABS_SCRATCH_WORDS, none, 0, none, 0,\n\
          totals, LABS_TOTALS);\n\
+         answer |= labs_save(none, 0, seen, LABS_STATE_WORDS, scratch, LABS_SCRATCH_WORDS, shelf, LABS_SHELF_WORDS, 1);\n\
+         answer |= labs_restore(none, 0, state, LABS_STATE_WORDS, scratch, LABS_SCRATCH_WORDS,\n\
+         held, LABS_SHELF_WORDS, 1);\n\
+         answer |= labs_drop(none, 0, scratch, LABS_SCRATCH_WORDS, shelf, LABS_SHELF_WORDS, 1);\n\
          return LABS_REFUSAL(answer) == LABS_REFUSAL_TABLE_SHORT ? 0 : 1;\n}\n",
     );
     text
@@ -188,6 +193,13 @@ fn every_number_of_the_module_is_the_references() {
         assert_eq!(word::zp(a), at("ZP"));
         assert_eq!(word::residual_length(a), at("RESIDUAL_LENGTH"));
     }
+    assert_eq!(shelf::PLACES, number("LABS_SHELF_PLACES"));
+    assert_eq!(shelf::SHELF_WORDS, number("LABS_SHELF_WORDS"));
+    assert_eq!(NAME_LIMIT as usize, number("LABS_NAME_LIMIT"));
+    for i in 0..shelf::PLACES {
+        assert_eq!(shelf::name(i), number(&format!("LABS_SHELF_NAME({i})")));
+        assert_eq!(shelf::state(i), number(&format!("LABS_SHELF_STATE({i})")));
+    }
 
     for place in [0, 4_095] {
         let answer = pack::<()>(&Err(Refusal::at(Reason::BadNode, place)));
@@ -218,7 +230,8 @@ fn every_number_of_the_module_is_the_references() {
     }
 }
 
-/// Threads that share a table and a state that they preview, each with other buffers of its own.
+/// Threads that share a table, a state that they preview and save, and a shelf that they restore it from, each with
+/// other buffers of its own.
 #[test]
 fn calls_may_run_in_several_threads() {
     let table = &conformance::fleets::table(2_000, 64);
@@ -229,12 +242,22 @@ fn calls_may_run_in_several_threads() {
         (answer, state)
     };
     let (_, loaded) = &load();
+    let mut held = vec![0; shelf::SHELF_WORDS];
+    let mut scratch = vec![0; SCRATCH_WORDS];
+    let saved = rehearsal::save(table, loaded, &mut scratch, &mut held, 7);
+    assert_eq!(saved, 0);
+    let held = &held;
     let call = || {
         let mut next = vec![0; word::STATE_WORDS];
         let mut scratch = vec![0; SCRATCH_WORDS];
         let answer = rehearsal::preview(table, loaded, &mut scratch, 0, 0, 0, &mut next);
         assert!(answer == 0 && next != *loaded, "the step can be done");
-        (load(), answer, next)
+        let mut mine = vec![0; shelf::SHELF_WORDS];
+        let saved = rehearsal::save(table, loaded, &mut scratch, &mut mine, 1);
+        let mut back = next.clone();
+        let restored = rehearsal::restore(table, &mut back, &mut scratch, held, 7);
+        assert!((saved, restored) == (0, 0) && back == *loaded);
+        (load(), answer, next, mine)
     };
     let alone = call();
     let together = || (0..200).all(|_| call() == alone);

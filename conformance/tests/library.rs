@@ -1,8 +1,10 @@
-//! labs_load, labs_step and labs_run answer as the second implementation does. (labs_preview is in another file.)
+//! labs_load, labs_step and labs_run answer as the second implementation does. (labs_preview, and the calls on a shelf,
+//! are in other files.)
 
 use conformance::fleets::long_link;
 use conformance::rehearsal::{word, Counts, TOTALS};
 use conformance::residuals::long_residuals;
+use conformance::stack::SMALL_STACK;
 use conformance::{
     any_words, call, call_with, expected, expected_with, lent_totals, preview, Given, LISTS,
 };
@@ -20,9 +22,6 @@ use reference::stats::Tally;
 use reference::step::Step;
 use reference::table::MAX_NODES;
 use reference::term::{IDLE, MAX_WORDS, TICK};
-
-/// A stack on which chains of about 4,000 nodes are loaded, stepped and previewed.
-const SMALL_STACK: usize = 800 << 10;
 
 /// How often load, step and run answer done (0) and each refusal, and the bytes of runs that are done.
 #[derive(Default)]

@@ -1,6 +1,7 @@
 //! labs_preview answers as labs_step does on a copy of the state, and as the second implementation does.
 
-use conformance::rehearsal::{self, word, SCRATCH_WORDS};
+use conformance::loaded::{LOADED, SHALLOW_STACK};
+use conformance::rehearsal::{self, SCRATCH_WORDS};
 use conformance::residuals::long_residuals;
 use conformance::{any_words, call, expected_preview, preview, Given, Previewed, LISTS};
 use reference::cases::{Call, Case};
@@ -115,20 +116,7 @@ fn previews_of_acts_on_long_residuals() {
     }
 }
 
-/// The first state of the paper's example, in memory that cannot be written.
-static LOADED: [u32; STATE_WORDS] = {
-    let mut words = [0; STATE_WORDS];
-    words[word::AGENTS] = 2;
-    // Residuals of one word: nodes 1 and 3.
-    let (first, second) = (word::residual_length(0), word::residual_length(1));
-    (words[first], words[first + 1]) = (1, 1);
-    (words[second], words[second + 1]) = (1, 3);
-    words
-};
-
-/// A stack on which a small table's step is previewed: a state's words would not fit it too.
-const SHALLOW_STACK: usize = 20 << 10;
-
+/// The first state is in memory that cannot be written, and the stack has no room for a state besides.
 #[test]
 fn a_preview_writes_no_state_but_the_second() {
     let table = edges::example().bytes();

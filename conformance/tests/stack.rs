@@ -1,6 +1,7 @@
-//! The stack that an act keeps, and each level of its walks, held to docs/DECISIONS.md.
+//! The stack that an act keeps, and each level of its walks, held to docs/DECISIONS.md; calls on a shelf keep less.
 
 use conformance::page::{rows, text};
+use conformance::rehearsal::shelf::SHELF_WORDS;
 use conformance::rehearsal::{self, SCRATCH_WORDS, TOTALS};
 use conformance::stack::touched;
 use reference::draft::Draft;
@@ -65,6 +66,28 @@ impl Acting {
             .all(|state| *state == after[0] && *state != before));
         bytes.into_iter().max().unwrap()
     }
+
+    /// Bytes that labs_save, labs_restore and labs_drop touch, whichever takes most.
+    fn most_on_a_shelf(self) -> usize {
+        let Acting { table, world } = self;
+        let before = world.words();
+        let (mut state, mut scratch) = (before.clone(), vec![0; SCRATCH_WORDS]);
+        let mut shelf = vec![0; SHELF_WORDS];
+        let mut packed = [u64::MAX; 3];
+        let bytes = [
+            touched(STACK, || {
+                packed[0] = rehearsal::save(&table, &before, &mut scratch, &mut shelf, 1);
+            }),
+            touched(STACK, || {
+                packed[1] = rehearsal::restore(&table, &mut state, &mut scratch, &shelf, 1);
+            }),
+            touched(STACK, || {
+                packed[2] = rehearsal::drop(&table, &mut scratch, &mut shelf, 1);
+            }),
+        ];
+        assert_eq!((packed, shelf[0]), ([0; 3], 0), "the calls are done");
+        bytes.into_iter().max().unwrap()
+    }
 }
 
 fn write(draft: &mut Draft) -> u16 {
@@ -123,14 +146,17 @@ fn ticking_parts(levels: usize) -> Acting {
 /// How many levels are measured, and then twice as many.
 const LEVELS: usize = 14;
 
-#[test]
-fn an_act_keeps_the_stack_that_is_listed() {
+/// The numbers of the list.
+fn listed() -> Vec<usize> {
     let page = text("docs/DECISIONS.md");
     let listed = rows(&page, "| Stack of an act | Bytes |");
-    let listed: Vec<usize> = listed
-        .iter()
-        .map(|row| row[1].replace(',', "").parse().expect("a number"))
-        .collect();
+    let number = |row: &Vec<String>| row[1].replace(',', "").parse().expect("a number");
+    listed.iter().map(number).collect()
+}
+
+#[test]
+fn an_act_keeps_the_stack_that_is_listed() {
+    let listed = listed();
     let acts = [Acting::process(Draft::tick), guards(0)].map(Acting::most);
     let walks = [guards, expressions, ticks, parts, ticking_parts].map(|walk| {
         let (half, whole) = (walk(LEVELS).most(), walk(2 * LEVELS).most());
@@ -144,4 +170,14 @@ fn an_act_keeps_the_stack_that_is_listed() {
         assert!((bytes..bytes + residual).contains(listed), "{acts:?} bytes");
     }
     assert_eq!(listed_walks, walks, "each level of a walk");
+}
+
+/// A call on a shelf walks no guard, expression or choice: however deep these are, it takes less than a tick.
+#[test]
+fn a_call_on_a_shelf_keeps_less_than_an_act() {
+    let deep = [guards, expressions, ticks, parts, ticking_parts].map(|walk| walk(2 * LEVELS));
+    for acting in deep {
+        let bytes = acting.most_on_a_shelf();
+        assert!(bytes < listed()[0], "{bytes} bytes");
+    }
 }

@@ -247,11 +247,15 @@ fn a_missing_tool_is_one_clear_line() {
     );
 }
 
-/// A toolchain that says of two crates what rt says, and keeps what it was asked. It goes on to the second crate once the
+/// A toolchain that says of three crates what rt says, and keeps what it was asked. It goes on to the second crate once the
 /// first has been seen.
 const SAYS: &str = r#"#!/usr/bin/env bash
 echo "$*" >>asked
-[ "$1" = check ] || exit 0
+if [ "$1" = staticlib ]; then
+    echo "rt: basis proved (unchanged since it was last proved)"
+    echo "rt: shelf proved (3 s)"
+    exit 0
+fi
 echo "fn basis::lowest: proved"
 echo "rt: basis proved (5 s)"
 for ((i = 0; i < 100; i++)); do [ -e seen ] || sleep 0.1; done
@@ -274,8 +278,9 @@ fn rehearse_says_where_it_is() {
     assert!(lines[0].starts_with(&first), "{said}");
     assert_eq!(lines[1], format!("1 of {count}: basis proved (5 s)"));
     assert_eq!(lines[2], format!("2 of {count}: value proved (4 s)"));
-    let last = format!("{count} of {count}: rehearsal proved (");
-    assert!(lines[3].starts_with(&last), "{said}");
+    assert_eq!(lines[3], format!("3 of {count}: shelf proved (3 s)"));
+    let last = format!("4 of {count}: rehearsal proved (");
+    assert!(lines[4].starts_with(&last), "{said}");
     assert!(
         said.ends_with(&block(&text("README.md"), "lines")),
         "{said}"

@@ -42,6 +42,11 @@ impl History {
         &self.fleet
     }
 
+    /// The world that the steps so far give from load.
+    pub fn world(&self) -> &World {
+        &self.world
+    }
+
     /// The next step with the length of its scratch; says what it answers.
     pub fn note(&mut self, scratch_words: usize, step: Step) -> Answer<Counts> {
         if scratch_words < 2 * self.fleet.sizes.nodes {

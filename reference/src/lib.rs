@@ -16,10 +16,14 @@ pub mod reach;
 pub mod refusal;
 pub mod rng;
 pub mod schedule;
+pub mod shelf;
+pub mod shelf_cases;
+pub mod shelf_faults;
 pub mod show;
 pub mod state;
 pub mod stats;
 pub mod step;
+pub mod surviving;
 pub mod syntax;
 pub mod table;
 pub mod tables;
@@ -28,6 +32,7 @@ pub mod value;
 
 pub use machine::{load, preview, run, step};
 pub use refusal::{pack, Answer, Counts, Reason, Refusal, Totals};
+pub use shelf::{drop, restore, save};
 
 /// Runs on a stack that is deep enough for the deepest trees that a table can
 /// hold: 4,096 nodes under one another.

@@ -1,6 +1,7 @@
-//! The four public calls. Each checks in the paper's order, and a refused one
-//! changes nothing that is lent. Scratch is lent by its length alone: this
-//! implementation has no use for the words.
+//! Load, step, preview and run. Each checks in the paper's order, and a refused
+//! one changes nothing that is lent. Scratch is lent by its length alone: this
+//! implementation has no use for the words. (The calls on a shelf are in another
+//! file.)
 
 use crate::refusal::{Answer, Counts, Reason, Totals};
 use crate::schedule;
@@ -10,27 +11,29 @@ use crate::table::{Fleet, Sizes};
 
 /// Refusals 1, 2, 3, 8, 4, 5, 6, 7.
 pub fn open(table: &[u8], state_words: usize, scratch_words: usize) -> Answer<Fleet> {
-    open_both(table, [state_words; 2], scratch_words)
+    open_where(table, state_words == STATE_WORDS, scratch_words)
 }
 
-/// The same for a call that reads one state and writes another.
-fn open_both(table: &[u8], state_words: [usize; 2], scratch_words: usize) -> Answer<Fleet> {
+/// The same, where it is told whether what is lent beside scratch has the right
+/// lengths.
+pub fn open_where(table: &[u8], fits: bool, scratch_words: usize) -> Answer<Fleet> {
     let sizes = Sizes::read(table)?;
-    if state_words != [STATE_WORDS; 2] || scratch_words < 2 * sizes.nodes {
+    if !fits || scratch_words < 2 * sizes.nodes {
         return Err(Reason::BufferLength.into());
     }
     Fleet::read(table, sizes)
 }
 
-/// Refusal 9 after these: the state that is read is judged, of the one that is
-/// written only the length.
-fn open_at(
+/// Refusal 9 of the state after these; it is told whether what is lent beside
+/// state and scratch has the right length.
+pub fn open_at(
     table: &[u8],
     state: &[u32],
-    written_words: usize,
+    fits: bool,
     scratch_words: usize,
 ) -> Answer<(Fleet, World)> {
-    let fleet = open_both(table, [state.len(), written_words], scratch_words)?;
+    let fits = fits && state.len() == STATE_WORDS;
+    let fleet = open_where(table, fits, scratch_words)?;
     let world = World::decode(state, &fleet).ok_or(Reason::StateNotWellFormed)?;
     Ok((fleet, world))
 }
@@ -46,11 +49,11 @@ pub fn load(table: &[u8], state: &mut [u32], scratch_words: usize) -> Answer<()>
 fn stepped(
     table: &[u8],
     state: &[u32],
-    written_words: usize,
+    fits: bool,
     scratch_words: usize,
     step: Step,
 ) -> Answer<(World, Counts)> {
-    let (fleet, mut world) = open_at(table, state, written_words, scratch_words)?;
+    let (fleet, mut world) = open_at(table, state, fits, scratch_words)?;
     let counts = world.step(&fleet, step)?;
     Ok((world, counts))
 }
@@ -69,7 +72,7 @@ pub fn step(
         agent,
         number,
     };
-    let (world, counts) = stepped(table, state, state.len(), scratch_words, step)?;
+    let (world, counts) = stepped(table, state, true, scratch_words, step)?;
     world.encode(state);
     Ok(counts)
 }
@@ -90,7 +93,8 @@ pub fn preview(
         agent,
         number,
     };
-    let (world, counts) = stepped(table, state, next.len(), scratch_words, step)?;
+    let fits = next.len() == STATE_WORDS;
+    let (world, counts) = stepped(table, state, fits, scratch_words, step)?;
     world.encode(next);
     Ok(counts)
 }
@@ -104,7 +108,7 @@ pub fn run(
     schedule: &[u8],
     answers: &mut [u8],
 ) -> Answer<Totals> {
-    let (fleet, mut world) = open_at(table, state, state.len(), scratch_words)?;
+    let (fleet, mut world) = open_at(table, state, true, scratch_words)?;
     let steps = schedule::read(schedule)?;
     if answers.len() < steps.len() {
         return Err(Reason::AnswersShort.into());

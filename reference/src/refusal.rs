@@ -26,10 +26,12 @@ pub enum Reason {
     KeyNotInSet = 18,
     ScheduleLength = 19,
     AnswersShort = 20,
+    NoSuchName = 21,
+    ShelfFull = 22,
 }
 
 /// How many refusals there are; they count from 1.
-pub const REASONS: usize = 20;
+pub const REASONS: usize = 22;
 
 impl Reason {
     /// In the order of the numbers.
@@ -54,6 +56,8 @@ impl Reason {
         Reason::KeyNotInSet,
         Reason::ScheduleLength,
         Reason::AnswersShort,
+        Reason::NoSuchName,
+        Reason::ShelfFull,
     ];
 
     pub fn number(self) -> u8 {
@@ -125,7 +129,7 @@ pub trait Report {
     fn totals(&self) -> Totals;
 }
 
-/// Load reports 0.
+/// Load, save, restore and drop report 0.
 impl Report for () {
     fn number(&self) -> u64 {
         0

@@ -195,19 +195,6 @@ fn the_empty_list_has_no_writes() {
     assert_eq!(watch.after(&world(&table, &start(&table))), Ok(()));
 }
 
-/// The world after these steps from load, and its watch.
-fn after_steps(table: &[u8], steps: &[Step]) -> (World, Watch) {
-    let mut lent = start(table);
-    let mut watch = Watch::after_load(table).unwrap();
-    for &next in steps {
-        watch.before(&world(table, &lent));
-        let answer = do_step(table, &mut lent, next);
-        assert_eq!(watch.history.note(SCRATCH, next), answer);
-        assert_eq!(watch.after(&world(table, &lent)), Ok(()));
-    }
-    (world(table, &lent), watch)
-}
-
 /// The example after the first write, and its watch.
 fn after_a_write() -> (World, Watch) {
     let table = edges::example().bytes();

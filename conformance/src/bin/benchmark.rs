@@ -4,9 +4,11 @@ use std::time::{Duration, Instant};
 
 use conformance::call_on;
 use conformance::fleets::{fleet, joined_ticks, long_link, many_guards, nested_ands, table, Fleet};
-use conformance::rehearsal::TOTALS;
+use conformance::rehearsal::{self, TOTALS};
 use reference::cases::Call;
 use reference::on_deep_stack;
+use reference::shelf::{PLACES, SHELF_WORDS};
+use reference::shelf_cases::{ShelfCall, SHELF_CALLS};
 use reference::state::STATE_WORDS;
 use reference::step::Step;
 use reference::table::MAX_NODES;
@@ -35,19 +37,53 @@ fn timed(mut round: impl FnMut() -> Duration) -> Times {
     }
 }
 
+fn loaded(table: &[u8], scratch: &mut [u32]) -> Vec<u32> {
+    let mut state = vec![0; STATE_WORDS];
+    let packed = rehearsal::load(table, &mut state, scratch);
+    assert_eq!(packed, 0, "the table is accepted");
+    state
+}
+
+/// A call on a full shelf, all of whose states are the loaded one: the library's time, and the second implementation's.
+fn measure_on_shelf(table: &[u8], call: ShelfCall) -> [Times; 2] {
+    let mut scratch = vec![0; 2 * MAX_NODES];
+    let (loaded, mut full) = (loaded(table, &mut scratch), vec![0; SHELF_WORDS]);
+    for name in 1..=PLACES as u32 {
+        let packed = rehearsal::save(table, &loaded, &mut scratch, &mut full, name);
+        assert_eq!(packed, 0, "there is a place");
+    }
+    let name = PLACES as u32;
+    let library = timed(|| {
+        let (mut state, mut shelf) = (loaded.clone(), full.clone());
+        let begin = Instant::now();
+        let packed = match call {
+            ShelfCall::Save => rehearsal::save(table, &state, &mut scratch, &mut shelf, name),
+            ShelfCall::Restore => rehearsal::restore(table, &mut state, &mut scratch, &shelf, name),
+            ShelfCall::Drop => rehearsal::drop(table, &mut scratch, &mut shelf, name),
+        };
+        let time = begin.elapsed();
+        assert_eq!(packed, 0, "the call is done");
+        time
+    });
+    let second = timed(|| {
+        let (mut state, mut shelf) = (loaded.clone(), full.clone());
+        let begin = Instant::now();
+        let answer = match call {
+            ShelfCall::Save => reference::save(table, &state, usize::MAX, &mut shelf, name),
+            ShelfCall::Restore => reference::restore(table, &mut state, usize::MAX, &shelf, name),
+            ShelfCall::Drop => reference::drop(table, usize::MAX, &mut shelf, name),
+        };
+        let time = begin.elapsed();
+        assert!(answer.is_ok(), "the call is done");
+        time
+    });
+    [library, second]
+}
+
 /// A call on a loaded state: the library's time, and the second implementation's.
 fn measure(table: &[u8], call: &Call) -> [Times; 2] {
     let mut scratch = vec![0; 2 * MAX_NODES];
-    let mut loaded = vec![0; STATE_WORDS];
-    let packed = call_on(
-        table,
-        &mut loaded,
-        &mut scratch,
-        &Call::Load,
-        &mut [],
-        &mut [],
-    );
-    assert_eq!(packed, 0, "the table is accepted");
+    let loaded = loaded(table, &mut scratch);
     let room = match call {
         Call::Run { answers, .. } => *answers,
         _ => 0,
@@ -92,7 +128,11 @@ fn micros(time: Duration) -> f64 {
 }
 
 fn report(name: &str, table: &[u8], call: &Call) -> Times {
-    let [library, second] = measure(table, call);
+    print(name, measure(table, call))
+}
+
+/// A line; the library's time again.
+fn print(name: &str, [library, second]: [Times; 2]) -> Times {
     println!(
         "{name:<38} {:>12.1} {:>12.1} {:>12.1} {:>12.1} {:>8.2}",
         micros(library.least),
@@ -130,6 +170,13 @@ fn main() {
         for nodes in [100, 4_096] {
             let name = format!("one step, {nodes} nodes");
             report(&name, &table(nodes, 0), &Call::Step(Step::act(0, 0)));
+        }
+        for agents in [2, 32] {
+            let Fleet { table, .. } = fleet(agents);
+            for call in SHELF_CALLS {
+                let name = format!("{call:?}, full shelf, {agents} agents").to_lowercase();
+                print(&name, measure_on_shelf(&table, call));
+            }
         }
         let slow: [(&str, Fleet); 5] = [
             ("link of 4,000 nodes that holds", long_link(true)),

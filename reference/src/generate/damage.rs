@@ -77,7 +77,7 @@ fn damage_table(rng: &mut Rng, table: &mut Vec<u8>, sizes: Sizes) {
     }
 }
 
-fn damage_state(rng: &mut Rng, state: &mut [u32], sizes: Sizes) {
+pub fn damage_state(rng: &mut Rng, state: &mut [u32], sizes: Sizes) {
     let key = rng.below(MAX_KEYS);
     let pair = 2 * key + rng.below(2);
     let agent = if rng.chance(85) {
@@ -122,7 +122,7 @@ fn damage_state(rng: &mut Rng, state: &mut [u32], sizes: Sizes) {
 
 /// A writer below A or not, where the stamp is above 0 or not, at times past
 /// the keys or the agents.
-fn damage_writer(rng: &mut Rng, state: &mut [u32], sizes: Sizes) {
+pub fn damage_writer(rng: &mut Rng, state: &mut [u32], sizes: Sizes) {
     let keys = if rng.chance(80) {
         sizes.stigmergy.max(1)
     } else {

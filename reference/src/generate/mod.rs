@@ -1,10 +1,12 @@
 //! Deterministic inputs for load, step and run: sound ones, sound ones damaged in
-//! one place, ones at and past every limit, and plain random bytes.
+//! one place, ones at and past every limit, and plain random bytes. (Calls on a
+//! shelf are in a file of their own.)
 
 pub mod damage;
 pub mod edges;
 pub mod fleets;
 pub mod schedules;
+pub mod shelves;
 pub mod worlds;
 
 use crate::cases::{Call, Case, FILL};

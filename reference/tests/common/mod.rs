@@ -2,6 +2,7 @@
 #![allow(dead_code)]
 
 use reference::draft::Draft;
+use reference::history::Watch;
 use reference::machine::open;
 use reference::refusal::{Answer, Counts, Refusal};
 use reference::state::{World, STATE_WORDS};
@@ -64,6 +65,20 @@ pub fn steps(table: &[u8], state: &mut Vec<u32>, step: Step) -> u8 {
 
 pub fn do_step(table: &[u8], state: &mut [u32], s: Step) -> Answer<Counts> {
     step(table, state, SCRATCH, s.kind, s.agent, s.number)
+}
+
+/// The world after these steps from load, along which demand 3 holds, and its
+/// watch.
+pub fn after_steps(table: &[u8], steps: &[Step]) -> (World, Watch) {
+    let mut lent = start(table);
+    let mut watch = Watch::after_load(table).unwrap();
+    for &next in steps {
+        watch.before(&world(table, &lent));
+        let answer = do_step(table, &mut lent, next);
+        assert_eq!(watch.history.note(SCRATCH, next), answer);
+        assert_eq!(watch.after(&world(table, &lent)), Ok(()));
+    }
+    (world(table, &lent), watch)
 }
 
 /// What a step counts.
