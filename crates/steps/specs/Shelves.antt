@@ -52,7 +52,7 @@ module _ (shelf : List ℕ) where
   abbrev pub hasFree : Bool
   hasFree = someBelow (isNamed 0) placeLimit
 
-  -- the place that a name holds, and the lowest free one
+  -- the place that a name holds, and the lowest free one; 8, which is no place, where there is none
   abbrev pub placeOf : ℕ → ℕ
   placeOf name = lowest (isNamed name) placeLimit
 
