@@ -44,7 +44,7 @@ module _ (bytes : List ℕ) (few : tableOf bytes .sizes .stigmergy ≤ keyLimit)
         let f = sym p ∙ all .equal k a b (ap stampIn p ∙ e ∙ sym (ap stampIn q)) ∙ q in
         (ap (λ (r : Entry). r .value) f, ap (λ (r : Entry). r .writer) f);
     never-fall = λ before since e a k h l. omega (arith, all .never-fall before since e k a, ap stampIn (entry-there bytes before k a l), ap stampIn (entry-there bytes xs k a l));
-    pair = λ a b k h i l held. contact-load bytes few xs .pair a b k h i l (steady-held bytes few xs k a b held);
+    pair = λ a b k h i l held. contact-load bytes few xs a b k h i l (steady-held bytes few xs k a b held);
   }
     where
       written-there : (k a : ℕ) → k < tableOf bytes .sizes .stigmergy → 0 < stampOf (stateAfter bytes xs) a k

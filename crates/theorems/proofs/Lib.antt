@@ -22,8 +22,11 @@ pub mod OfferViews
 pub mod Turns
 pub mod Lists
 pub mod Contact
+pub mod SteadyLinks
 pub mod Demand3
 pub mod Instance3
 pub mod Surviving
 pub mod InstanceSurviving
+pub mod Chains
+pub mod InstanceChains
 pub mod Ranged

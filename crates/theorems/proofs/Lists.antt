@@ -186,13 +186,15 @@ module _ (bytes : List ℕ) where
   }
 
   -- load leaves no entry and no key in Zp
+  pub loaded-none : S ≤ keyLimit → (a k : ℕ) → k < S → entryOf (loaded t) a k ≡ absent
+  loaded-none few a k l =
+      same-entry (loaded-zero t (Word (Entries a) k) (omega arith) refl (λ b h. refl) (λ b h. refl)) (loaded-mark t (Entries a) k (omega arith)) (loaded-writer t a k (omega arith))
+
   start : S ≤ keyLimit → Start machine absent (loaded t)
   start few = record { invariant = tt; no-entry = λ k a. entry a k (ltb k S) refl; no-waits = λ k a. waits a k (ltb k S) refl }
     where
       entry : (a k : ℕ) (b : Bool) → ltb k S ≡ b → cond b (seen (loaded t) k) (blank absent) .entry a ≡ absent
-      entry a k true e =
-          let l = ltb-true k S e in
-          same-entry (loaded-zero t (Word (Entries a) k) (omega arith) refl (λ b h. refl) (λ b h. refl)) (loaded-mark t (Entries a) k (omega arith)) (loaded-writer t a k (omega arith))
+      entry a k true e = loaded-none few a k (ltb-true k S e)
       entry a k false e = refl
 
       waits : (a k : ℕ) (b : Bool) → ltb k S ≡ b → cond b (seen (loaded t) k) (blank absent) .waits a ≡ false

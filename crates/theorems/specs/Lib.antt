@@ -4,5 +4,6 @@ pub mod Demand2
 pub mod Demand3
 pub mod Contact
 pub mod Surviving
+pub mod Chains
 pub mod Rehearsals
 pub mod Cases

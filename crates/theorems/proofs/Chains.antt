@@ -1,0 +1,111 @@
+-- Chains of agents in which a key waits nowhere: all have the same entry, or none has one.
+-- Assumes nothing.
+use Prim.Native.Nat.{ℕ, _<_, _≤_}
+use mathlib.Core.Path.{_≡_, refl, sym, ap, subst, _∙_}
+use mathlib.Core.Logic.{_⊎_, inl, inr, ⊎-elim}
+use mathlib.Core.List.{List, [], _∷_, _++_, List·Memᴰ, List·Memᴰ·head, List·Memᴰ·tail, List·Memᴰ·cases-cons, List·Memᴰ·not-nil}
+use native.Mathlib.Omega.{arith}
+use lib.Dec.{T, ltb→lt}
+use Rattle.agreement.specs.View.{View, NoneWaits}
+use Rattle.agreement.specs.Machine.{InContact as MachineInContact}
+use Rattle.agreement.proofs.Turns.{neighbours-map}
+use Rattle.table.specs.Tables.{tableOf}
+use Rattle.state.specs.declared.Entry.{Entry}
+use Rattle.state.specs.Layout.{keyLimit, stampOf}
+use Rattle.state.specs.Entries.{entryOf}
+use Rattle.state.specs.WellFormed.{loaded}
+use Rattle.steps.specs.Shelves.{savedOf}
+use Rattle.steps.proofs.Steps.{load-accepted}
+use Rattle.theorems.specs.Lists.{Step, stateAfter}
+use Rattle.theorems.specs.Demand3.{HeldBeforeSteps}
+use Rattle.theorems.specs.Contact.{HeldBeforePropagates, InContact}
+use Rattle.theorems.specs.Surviving.{Element, shelfThen, survivingLine, Surviving}
+use Rattle.theorems.specs.Chains.{Silent, Agree, ChainsAgree, Chains, Chains-surviving, Chains-hold}
+use Rattle.theorems.proofs.Views.{absent, stampIn}
+use Rattle.theorems.proofs.Lists.{machine, loaded-none, after-list, view-there, entry-there}
+use Rattle.theorems.proofs.Contact.{in-contact, from-load, steady-held}
+use Rattle.theorems.proofs.Surviving.{surviving}
+
+-- P of each number of a list, one by one, is P of its members
+abbrev pub Each : (ℕ → Type 0) → List ℕ → Type 0
+Each P [] = Unit {0}
+Each P (a ∷ l) = P a × Each P l
+
+pub members : (P : ℕ → Type 0) (l : List ℕ) → Each P l → (a : ℕ) → List·Memᴰ a l → P a
+members P [] h a m = absurd (List·Memᴰ·not-nil m)
+members P (b ∷ l) h a m = ⊎-elim (λ (e : a ≡ b). subst P (sym e) (h .0)) (λ n. members P l (h .1) a n) (List·Memᴰ·cases-cons m)
+
+-- agents that agree have the same for the key
+pub same-words : (s : List ℕ) (k : ℕ) (l : List ℕ) → Agree s k l → (a b : ℕ) → List·Memᴰ a l → List·Memᴰ b l → entryOf s a k ≡ entryOf s b k
+same-words s k l (inl h) a b m n = h .2 a m ∙ sym (h .2 b n)
+same-words s k l (inr h) a b m n = h a m ∙ sym (h b n)
+
+module _ (bytes : List ℕ) (few : tableOf bytes .sizes .stigmergy ≤ keyLimit) where
+  -- what an agent has for a key is an entry, or it has none
+  present-or-none : (xs : List Step) (k a : ℕ) → k < tableOf bytes .sizes .stigmergy → (0 < stampOf (stateAfter bytes xs) a k) ⊎ (entryOf (stateAfter bytes xs) a k ≡ absent)
+  present-or-none xs k a h = ⊎-elim
+      (λ e. inr (sym (entry-there bytes xs k a h) ∙ e ∙ entry-there bytes [] k a h ∙ loaded-none bytes few a k h))
+      (λ t. let n = ltb→lt _ _ t in inl (above (ap stampIn (entry-there bytes xs k a h)) n))
+      (after-list bytes few xs .agreement .never-older [] xs refl k a)
+    where
+      above : {m n c : ℕ} → n ≡ c → m < n → 0 < c
+      above e l = omega arith
+
+  -- from any moment on
+  agree-since : (before since : List Step) → ChainsAgree bytes (stateAfter bytes (before ++ since)) (InContact bytes before since)
+  agree-since before since k [] h agents near silent = inr (λ a m. absurd (List·Memᴰ·not-nil m))
+  agree-since before since k (b ∷ l) h agents near silent =
+      ⊎-elim (λ p. inl (entryOf (stateAfter bytes end) b k, p, as-first)) (λ e. inr (λ a m. as-first a m ∙ e)) (present-or-none end k b h)
+    where
+      end : List Step
+      end = before ++ since
+
+      none : NoneWaits (b ∷ l) (machine bytes .view (stateAfter bytes end) k)
+      none c i w = let z = subst (λ (v : View Entry). T (v .waits c)) (view-there bytes (stateAfter bytes end) k h) w in rw (silent c i) at z
+
+      as-first : (a : ℕ) → List·Memᴰ a (b ∷ l) → entryOf (stateAfter bytes end) a k ≡ entryOf (stateAfter bytes end) b k
+      as-first a m =
+          sym (entry-there bytes end k a h)
+          ∙ after-list bytes few end .agreement .chain before since refl k (after-list bytes few end .comparable k) (b ∷ l)
+          (neighbours-map (InContact bytes before since k) (MachineInContact (machine bytes) (loaded (tableOf bytes)) before since k) (b ∷ l)
+          (λ c d i j. in-contact bytes few before since k c d h (agents d j)) near) none a b m (List·Memᴰ·head refl)
+          ∙ entry-there bytes end k b h
+
+  -- links of which more is asked
+  asked : (s : List ℕ) (More Held : ℕ → ℕ → ℕ → Type 0) → ((k a b : ℕ) → k < tableOf bytes .sizes .stigmergy → More k a b → Held k a b)
+      → ChainsAgree bytes s Held → ChainsAgree bytes s More
+  asked s More Held f all k l h agents near = all k l h agents (neighbours-map (More k) (Held k) l (λ a b i j. f k a b h) near)
+
+  module _ (xs : List Step) where
+    abbrev s : List ℕ
+    s = stateAfter bytes xs
+
+    steady : ChainsAgree bytes s (HeldBeforeSteps bytes xs)
+    steady = asked s (HeldBeforeSteps bytes xs) (InContact bytes [] xs) (λ k a b h held. from-load bytes few xs k a b h (steady-held bytes few xs k a b held)) (agree-since [] xs)
+
+    chains : Chains bytes s xs
+    chains = record {
+      steady = steady;
+      propagated = asked s (HeldBeforePropagates bytes (loaded (tableOf bytes)) xs) (InContact bytes [] xs) (from-load bytes few xs) (agree-since [] xs);
+      contact = λ before since e.
+          subst (λ (ys : List Step). ChainsAgree bytes (stateAfter bytes ys) (InContact bytes before since)) (sym e) (agree-since before since);
+      two = λ a b k ha hb h there back qa qb.
+          same-words s k (a ∷ b ∷ []) (steady k (a ∷ b ∷ []) h (members (λ c. c < tableOf bytes .sizes .agents) (a ∷ b ∷ []) (ha, (hb, tt)))
+          (there, back, tt) (members (Silent s k) (a ∷ b ∷ []) (qa, (qb, tt)))) a b (List·Memᴰ·head refl) (List·Memᴰ·tail (List·Memᴰ·head refl));
+    }
+
+-- state and held states are those that their lines give
+module _ (bytes shelf : List ℕ) (es : List Element) (survives : Surviving bytes shelf es) (all : (xs : List Step) → Chains bytes (stateAfter bytes xs) xs) where
+  moved : (s : List ℕ) (l : List Step) → s ≡ stateAfter bytes l → Chains bytes s l
+  moved s l e = subst (λ (s : List ℕ). Chains bytes s l) (sym e) (all l)
+
+  chains-surviving : Chains-surviving bytes shelf es
+  chains-surviving = record {
+    now = moved _ (survivingLine bytes shelf es) (survives .state);
+    held = λ i h n. let w = survives .held i h n in (w .0, w .1, moved (savedOf (shelfThen bytes shelf es) i) (w .0) (w .2));
+  }
+
+pub chains-hold : Chains-hold
+chains-hold bytes lent scratch e =
+    let few = load-accepted bytes lent scratch e .table .sound .shaped .limits .stigmergy in
+    (chains bytes few, λ shelf free es. chains-surviving bytes shelf es (surviving bytes lent scratch e shelf free es) (chains bytes few))
