@@ -1,8 +1,10 @@
 //! The history of writes, made without the lent state, and the four points of
 //! demand 3 along a list of steps, with the agreement that follows from them.
 
-use std::collections::{BTreeMap, BTreeSet};
+use std::collections::BTreeMap;
+use std::ops::AddAssign;
 
+use crate::chains::{agreeing, all_links, Agreed, Links};
 use crate::machine::open;
 use crate::refusal::{Answer, Counts, Reason};
 use crate::state::{World, STATE_WORDS};
@@ -83,39 +85,64 @@ pub struct Watch {
     pub history: History,
     /// The highest stamp seen so far of (agent, key).
     stamps: BTreeMap<(usize, Key), u32>,
-    /// The links (key, sender, receiver) that held before every step so far.
-    linked: BTreeSet<(Key, usize, usize)>,
-    /// How often point (iv) said something: a sender newer than a receiver.
+    /// By key: the links that held before every step so far.
+    pub steady: Vec<Links>,
+    /// By key: the links that held before each done propagate of the key by
+    /// their sender so far.
+    pub kept: Vec<Links>,
+    pub said: Said,
+}
+
+/// How often the points said something.
+#[derive(Clone, Copy, Debug, Default, PartialEq, Eq)]
+pub struct Said {
+    /// Point (iv): a sender newer than a receiver.
     pub newer: usize,
-    /// How often two silent agents had an entry to agree on.
-    pub silent: usize,
+    /// Silent agents in groups, by the steady links and by the kept ones.
+    pub steady: Agreed,
+    pub kept: Agreed,
+    /// Groups by the kept links that are none by the steady ones.
+    pub kept_alone: usize,
+}
+
+impl AddAssign for Said {
+    fn add_assign(&mut self, more: Said) {
+        self.newer += more.newer;
+        self.steady += more.steady;
+        self.kept += more.kept;
+        self.kept_alone += more.kept_alone;
+    }
 }
 
 impl Watch {
     pub fn after_load(table: &[u8]) -> Answer<Watch> {
         let history = History::after_load(table)?;
-        let agents = history.fleet.sizes.agents;
-        let mut linked = BTreeSet::new();
-        for key in 0..history.fleet.sizes.stigmergy as Key {
-            for sender in 0..agents {
-                let others = (0..agents).filter(|&other| other != sender);
-                linked.extend(others.map(|receiver| (key, sender, receiver)));
-            }
-        }
+        let sizes = history.fleet.sizes;
+        let links = vec![all_links(sizes.agents); sizes.stigmergy];
         Ok(Watch {
             history,
             stamps: BTreeMap::new(),
-            linked,
-            newer: 0,
-            silent: 0,
+            steady: links.clone(),
+            kept: links,
+            said: Said::default(),
         })
     }
 
-    /// To be called with the lent state before each step.
-    pub fn before(&mut self, lent: &World) {
+    /// The next step, with the lent state before it and the length of its
+    /// scratch; says what the step answers.
+    pub fn note(&mut self, before: &World, scratch_words: usize, step: Step) -> Answer<Counts> {
+        let answer = self.history.note(scratch_words, step);
         let fleet = &self.history.fleet;
-        self.linked
-            .retain(|&(key, sender, receiver)| lent.linked(fleet, key, sender, receiver));
+        for (key, links) in self.steady.iter_mut().enumerate() {
+            links.retain(|&(sender, receiver)| before.linked(fleet, key as Key, sender, receiver));
+        }
+        if answer.is_ok() && step.kind == 1 {
+            let (who, key) = (usize::from(step.agent), step.number);
+            self.kept[usize::from(key)].retain(|&(sender, receiver)| {
+                sender != who || before.linked(fleet, key, sender, receiver)
+            });
+        }
+        answer
     }
 
     /// To be called with the lent state after each step, and once after load.
@@ -177,32 +204,36 @@ impl Watch {
     /// (iv) Along a link that held before every step, a key whose entry is
     /// newer at the sender waits there to be propagated.
     pub fn newer_waits(&mut self, lent: &World) -> Result<(), String> {
-        for &(key, sender, receiver) in &self.linked {
-            let (from, to) = (&lent.agents[sender], &lent.agents[receiver]);
-            if from.stamp(key) > to.stamp(key) {
-                self.newer += 1;
-                if !from.to_propagate.contains(&key) {
-                    return Err(format!("key {key} from {sender} to {receiver}: not in Zp"));
+        for (key, links) in self.steady.iter().enumerate() {
+            let key = key as Key;
+            for &(sender, receiver) in links {
+                let (from, to) = (&lent.agents[sender], &lent.agents[receiver]);
+                if from.stamp(key) > to.stamp(key) {
+                    self.said.newer += 1;
+                    if !from.to_propagate.contains(&key) {
+                        return Err(format!("key {key} from {sender} to {receiver}: not in Zp"));
+                    }
                 }
             }
         }
         Ok(())
     }
 
-    /// Two agents whose links to each other held before every step have the
-    /// same entry for a key, or none, while it waits in neither.
+    /// The agents of a chain have the same entry for a key, or none, while it
+    /// waits in none of them: where the links between neighbours held before
+    /// every step, and also where each held before the done propagates of the
+    /// key by its sender.
     pub fn silent_agree(&mut self, lent: &World) -> Result<(), String> {
-        for &(key, i, j) in &self.linked {
-            let (one, other) = (&lent.agents[i], &lent.agents[j]);
-            let waits = one.to_propagate.contains(&key) || other.to_propagate.contains(&key);
-            if waits || !self.linked.contains(&(key, j, i)) {
-                continue;
+        for (key, (steady, kept)) in self.steady.iter().zip(&self.kept).enumerate() {
+            if !steady.is_subset(kept) {
+                return Err(format!("key {key}: {steady:?} but {kept:?}"));
             }
-            let entries = [one, other].map(|agent| agent.entries.get(&key));
-            if entries[0] != entries[1] {
-                return Err(format!("key {key} of {i} and {j}: {entries:?}"));
-            }
-            self.silent += usize::from(entries[0].is_some());
+            let steady_groups = agreeing(lent, key as Key, steady)?;
+            let kept_groups = agreeing(lent, key as Key, kept)?;
+            self.said.steady.count(&steady_groups, steady);
+            self.said.kept.count(&kept_groups, kept);
+            let alone = |group: &&Vec<usize>| !steady_groups.contains(group);
+            self.said.kept_alone += kept_groups.iter().filter(alone).count();
         }
         Ok(())
     }

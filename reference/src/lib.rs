@@ -2,6 +2,7 @@
 //! against. It reads tables into owned trees and states into maps and sets.
 
 pub mod cases;
+pub mod chains;
 pub mod count;
 pub mod derive;
 pub mod describe;

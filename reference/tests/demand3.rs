@@ -4,12 +4,11 @@
 mod common;
 
 use common::*;
+use reference::chains::{agreeing, Agreed};
 use reference::draft::Draft;
 use reference::generate::edges;
 use reference::generate::fleets::{accepted, Scale};
-use reference::generate::schedules::{any, enabled};
-use reference::history::{Watch, Write};
-use reference::machine::step;
+use reference::history::{Said, Watch, Write};
 use reference::rng::Rng;
 use reference::state::{Agent, Entry, World};
 use reference::step::Step;
@@ -21,8 +20,7 @@ struct Seen {
     refused: usize,
     taken: usize,
     writes: usize,
-    newer: usize,
-    silent: usize,
+    said: Said,
     /// Entries after a step that neither their holder nor agent 0 wrote.
     others: usize,
 }
@@ -33,59 +31,31 @@ impl Seen {
             && self.refused > least.refused
             && self.taken > least.taken
             && self.writes > least.writes
-            && self.newer > least.newer
-            && self.silent > least.silent
             && self.others > least.others
+            && reaches(&self.said, &least.said)
     }
 }
 
 /// Does random steps on a lent state and watches them.
 fn watch(rng: &mut Rng, table: &[u8], length: usize, seen: &mut Seen) {
-    let fleet = fleet(table);
-    let mut lent = start(table);
-    let mut watch = Watch::after_load(table).expect("the table is accepted");
-    watch.after(&World::decode(&lent, &fleet).unwrap()).unwrap();
+    let mut watched = Watched::new(table);
     for _ in 0..length {
-        let before = World::decode(&lent, &fleet).expect("the state is well formed");
-        let next = match enabled(rng, &fleet, &before) {
-            Some(step) if rng.chance(85) => step,
-            None if rng.chance(30) => break,
-            _ => any(rng, &fleet),
+        let Some(answer) = watched.random_step(rng) else {
+            break;
         };
-        let scratch = if rng.chance(5) {
-            rng.below(2 * fleet.sizes.nodes)
-        } else {
-            SCRATCH
-        };
-        watch.before(&before);
-        let answer = step(
-            table,
-            &mut lent,
-            scratch,
-            next.kind,
-            next.agent,
-            next.number,
-        );
-        // The history says the same of the step, without the lent state.
-        assert_eq!(watch.history.note(scratch, next), answer);
-        let after = World::decode(&lent, &fleet).expect("the state is well formed");
-        watch.after(&after).unwrap();
-        assert_eq!(after.clock as usize, watch.history.writes.len());
-        seen.others += others(&after);
+        let writes = watched.watch.history.writes.len();
+        assert_eq!(watched.world.clock as usize, writes);
+        seen.others += others(&watched.world);
         match answer {
             Ok(counts) => {
                 seen.done += 1;
                 seen.taken += counts.taken() as usize;
             }
-            Err(_) => {
-                seen.refused += 1;
-                assert_eq!(before, after);
-            }
+            Err(_) => seen.refused += 1,
         }
     }
-    seen.writes += watch.history.writes.len();
-    seen.newer += watch.newer;
-    seen.silent += watch.silent;
+    seen.writes += watched.watch.history.writes.len();
+    seen.said += watched.watch.said;
 }
 
 /// How many entries neither their holder nor agent 0 wrote.
@@ -125,9 +95,13 @@ fn holds_along_random_lists() {
         refused: 500,
         taken: 300,
         writes: 300,
-        newer: 300,
-        silent: 300,
         others: 300,
+        said: Said {
+            newer: 300,
+            steady: Agreed::new(1_000, 1_000, 0),
+            kept: Agreed::new(1_000, 1_000, 0),
+            kept_alone: 100,
+        },
     };
     holds(11, 400, least, |rng, round| {
         let scale = match round % 13 {
@@ -179,9 +153,13 @@ fn holds_where_all_write() {
         refused: 100,
         taken: 1_000,
         writes: 1_000,
-        newer: 3_000,
-        silent: 3_000,
         others: 3_000,
+        said: Said {
+            newer: 3_000,
+            steady: Agreed::new(3_000, 2_000, 0),
+            kept: Agreed::new(3_000, 2_000, 0),
+            kept_alone: 100,
+        },
     };
     let table = all_write().bytes();
     holds(12, 30, least, |_, _| (table.clone(), 200));
@@ -214,11 +192,7 @@ fn each_point_can_fail() {
     let (sound, mut watch) = after_a_write();
     assert_eq!(watch.after(&sound), Ok(()));
     // (i) another value, a stamp that was never taken, or another writer.
-    for wrong in [
-        Entry::new(8, 1, 0),
-        Entry::new(7, 2, 0),
-        Entry::new(7, 1, 1),
-    ] {
+    for wrong in UNLIKE {
         let (mut bad, watch) = after_a_write();
         bad.agents[0].entries.insert(0, wrong);
         assert!(watch.entries_are_writes(&bad).is_err());
@@ -242,22 +216,22 @@ fn each_point_can_fail() {
     assert!(watch.after(&bad).is_err());
     // Both agents alike: then it need not wait.
     assert!(watch.silent_agree(&bad).is_err());
-    for wrong in [
-        Entry::new(8, 1, 0),
-        Entry::new(7, 2, 0),
-        Entry::new(7, 1, 1),
-    ] {
+    assert!(agreeing(&bad, 0, &watch.steady[0]).is_err());
+    for wrong in UNLIKE {
         bad.agents[1].entries.insert(0, wrong);
         assert!(watch.silent_agree(&bad).is_err());
     }
-    assert_eq!(watch.silent, 0);
+    assert_eq!(watch.said.steady.groups, 0);
     bad.agents[1].entries.insert(0, Entry::new(7, 1, 0));
     assert_eq!(watch.after(&bad), Ok(()));
-    assert_eq!(watch.silent, 2);
+    assert_eq!(watch.said.steady.groups, 1);
     // While it waits in one of the two, they may differ.
     bad.agents[1].to_propagate.insert(0);
     bad.agents[1].entries.insert(0, Entry::new(7, 1, 1));
     assert_eq!(watch.silent_agree(&bad), Ok(()));
+    // A link that held before every step held before the propagates.
+    watch.kept[0].clear();
+    assert!(watch.silent_agree(&bad).is_err());
 }
 
 #[test]
@@ -280,5 +254,5 @@ fn a_link_that_did_not_always_hold_promises_nothing() {
     assert!(after.linked(&fleet(&table), 0, 0, 1));
     assert!(after.agents[0].stamp(0) > after.agents[1].stamp(0));
     assert!(after.agents[0].to_propagate.is_empty());
-    assert_eq!(watch.newer, 0);
+    assert_eq!(watch.said, Said::default());
 }

@@ -6,11 +6,12 @@ mod common;
 
 use common::*;
 use reference::cases::FILL;
+use reference::chains::Agreed;
 use reference::draft::Draft;
 use reference::generate::edges;
 use reference::generate::fleets::{accepted, Scale};
 use reference::generate::shelves::{empty, Elements};
-use reference::history::{History, Watch};
+use reference::history::{History, Said, Watch};
 use reference::rng::Rng;
 use reference::shelf::{state_at, PLACES, SHELF_WORDS};
 use reference::shelf_cases::{ShelfCall, ShelfCase};
@@ -33,8 +34,11 @@ fn given(table: &[u8], line: &[Step]) -> Vec<u32> {
 struct Seen {
     steps: usize,
     writes: usize,
-    newer: usize,
-    silent: usize,
+    said: Said,
+    /// Restored states in which a group of agents agreed, two of them apart.
+    restored: usize,
+    /// Restores after which a link is kept that the line which they end had lost.
+    regained: usize,
     /// Under a new name, and under a held one.
     saves: [usize; 2],
     restores: usize,
@@ -121,8 +125,8 @@ impl List {
         match element {
             Element::Step(step) => {
                 assert_eq!((&shelf, falls), (&self.shelf, 0));
-                self.watch.before(&before);
-                self.watch.history.note(SCRATCH, step).expect("it is done");
+                let answer = self.watch.note(&before, SCRATCH, step);
+                answer.expect("it is done");
                 seen.steps += 1;
             }
             Element::Shelf(ShelfCall::Save, name) => {
@@ -133,6 +137,9 @@ impl List {
                 assert_eq!(shelf, self.shelf);
                 let (world, watch) = after_steps(&self.table, &self.lines.now);
                 assert_eq!(world, after);
+                let mut links = watch.kept.iter().zip(&self.watch.kept);
+                let regained = links.any(|(now, ended)| !now.is_subset(ended));
+                seen.regained += usize::from(regained);
                 self.watch = watch;
                 seen.restores += 1;
                 seen.falls += usize::from(falls > 0);
@@ -143,7 +150,11 @@ impl List {
                 seen.drops += 1;
             }
         }
+        let apart = self.watch.said.kept.apart;
         self.watch.after(&after).unwrap();
+        if let Element::Shelf(ShelfCall::Restore, _) = element {
+            seen.restored += self.watch.said.kept.apart - apart;
+        }
         self.holds().unwrap();
     }
 
@@ -182,8 +193,7 @@ fn rehearse(rng: &mut Rng, table: Vec<u8>, length: usize, seen: &mut Seen) {
         list.perform(element, scratch, seen);
     }
     seen.writes += list.watch.history.writes.len();
-    seen.newer += list.watch.newer;
-    seen.silent += list.watch.silent;
+    seen.said += list.watch.said;
 }
 
 /// Four agents write two keys for ever, one of them from what it reads; each
@@ -213,10 +223,11 @@ fn all_write() -> Vec<u8> {
 fn the_state_is_that_of_the_surviving_line() {
     let rng = &mut Rng::new(31);
     let mut seen = Seen::default();
-    for round in 0..400 {
-        let table = match round % 8 {
+    for round in 0..500 {
+        let table = match round % 10 {
             0..=2 => all_write(),
             3 => accepted(rng, Scale::Small).0,
+            4..=6 => row(&places(rng)),
             _ => accepted(rng, Scale::Middle).0,
         };
         let length = rng.between(10, 120);
@@ -225,8 +236,9 @@ fn the_state_is_that_of_the_surviving_line() {
     let Seen {
         steps,
         writes,
-        newer,
-        silent,
+        said,
+        restored,
+        regained,
         saves: [new, again],
         restores,
         drops,
@@ -237,8 +249,8 @@ fn the_state_is_that_of_the_surviving_line() {
     for (count, least) in [
         (steps, 2_000),
         (writes, 200),
-        (newer, 500),
-        (silent, 500),
+        (restored, 20),
+        (regained, 100),
         (new, 500),
         (again, 400),
         (restores, 300),
@@ -252,6 +264,13 @@ fn the_state_is_that_of_the_surviving_line() {
     ] {
         assert!(count > least, "{seen:?}");
     }
+    let least = Said {
+        newer: 500,
+        steady: Agreed::new(2_000, 1_000, 0),
+        kept: Agreed::new(2_000, 1_000, 200),
+        kept_alone: 500,
+    };
+    assert!(reaches(&said, &least), "{seen:?}");
 }
 
 /// A shelf of no names.
