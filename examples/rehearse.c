@@ -1,10 +1,11 @@
 /* Rehearses the fleet in a file, a table and after it a schedule, as labs_show does, and says what labs_show does not:
  * which steps were refused, and why, and how many agents would take an entry that waits to be sent, as their first one
  * or over an older one. docs/FORMATS.md has the formats.
- * Status: 0 done, 1 load or run refused, 2 no such file. */
+ * Status: 0 done, 1 a call refused, 2 no such file. */
 #include "rehearsal.h"
 
 #include <stdio.h>
+#include <stdlib.h>
 
 /* One byte more than the longest table and schedule. */
 static uint8_t input[LABS_TABLE_BYTES(LABS_MAX_NODES) + LABS_SCHEDULE_BYTES(LABS_MAX_STEPS) + 1];
@@ -28,6 +29,8 @@ static void say_takers(size_t table_len, const char *what, uint8_t kind, unsigne
 {
     uint64_t answer = labs_preview(input, table_len, state, LABS_STATE_WORDS, scratch, LABS_SCRATCH_WORDS,
                                    kind, (uint16_t)agent, (uint16_t)key, next, LABS_STATE_WORDS);
+    if (refused("preview", answer))
+        exit(1);
     printf(", to %s (would add %u replace %u)", what, LABS_STEP_ADDED(answer), LABS_STEP_REPLACED(answer));
 }
 

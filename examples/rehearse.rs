@@ -1,7 +1,7 @@
 //! Rehearses the fleet in a file, a table and after it a schedule, as labs_show does, and says what labs_show does not:
 //! which steps were refused, and why, and how many agents would take an entry that waits to be sent, as their first one
 //! or over an older one. docs/FORMATS.md has the formats.
-//! Status: 0 done, 1 load or run refused, 2 no such file.
+//! Status: 0 done, 1 a call refused, 2 no such file.
 
 #[allow(dead_code)]
 #[path = "../include/rehearsal.rs"]

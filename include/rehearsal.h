@@ -26,6 +26,11 @@
 extern "C" {
 #endif
 
+/* The interface's version, which rises where something that was there changes; and how many change requests have
+ * landed (docs/CHANGES.md), each of which may add calls and names. */
+#define LABS_VERSION 1
+#define LABS_REQUESTS 7
+
 /* ---- Limits ---- */
 
 #define LABS_MAX_NODES 4096
@@ -165,7 +170,8 @@ enum labs_residual {
 #define LABS_PLACE(answer) (((answer) & ~LABS_REFUSED) >> 16)
 
 /* Of a step that is done, and of its preview: how many agents took the entry, those that had none for its key and those
- * that had an older one, and both together; of an act none. Any other call that is done answers 0. */
+ * that had an older one, and both together; of an act none. Any other call that is done answers 0. To be read only off
+ * an answer that LABS_IS_REFUSED denies: of a refused step they would be read off the refusal's own bits. */
 #define LABS_STEP_ADDED(answer) ((unsigned)((answer) & 0xffff))
 #define LABS_STEP_REPLACED(answer) ((unsigned)((answer) >> 16 & 0xffff))
 #define LABS_STEP_TAKEN(answer) (LABS_STEP_ADDED(answer) + LABS_STEP_REPLACED(answer))
@@ -177,28 +183,28 @@ enum labs_total { LABS_TOTAL_DONE = 0, LABS_TOTAL_REFUSED = 1, LABS_TOTAL_ADDED 
 
 /* Why a call was refused; of a step inside a run, its answer byte. */
 enum labs_refusal {
-    LABS_REFUSAL_TABLE_SHORT = 1,
-    LABS_REFUSAL_SIZE_OUTSIDE_LIMITS = 2,
-    LABS_REFUSAL_TABLE_LENGTH = 3,
-    LABS_REFUSAL_BAD_NODE = 4,
-    LABS_REFUSAL_WRONG_PARTY = 5,
-    LABS_REFUSAL_EXPOSED_CALL = 6,
-    LABS_REFUSAL_NODE_DERIVATIONS = 7,
-    LABS_REFUSAL_BUFFER_LENGTH = 8,
-    LABS_REFUSAL_STATE_NOT_WELL_FORMED = 9,
-    LABS_REFUSAL_STEP_OUT_OF_RANGE = 10,
-    LABS_REFUSAL_KEYS_PENDING = 11,
-    LABS_REFUSAL_RESIDUAL_DERIVATIONS = 12,
-    LABS_REFUSAL_NO_SUCH_CHOICE = 13,
-    LABS_REFUSAL_GUARD_FAILS = 14,
-    LABS_REFUSAL_EXPRESSION_ABSENT = 15,
-    LABS_REFUSAL_CLOCK_AT_END = 16,
-    LABS_REFUSAL_RESIDUAL_TOO_LONG = 17,
-    LABS_REFUSAL_KEY_NOT_IN_SET = 18,
-    LABS_REFUSAL_SCHEDULE_LENGTH = 19,
-    LABS_REFUSAL_ANSWERS_SHORT = 20,
-    LABS_REFUSAL_NO_SUCH_NAME = 21,
-    LABS_REFUSAL_SHELF_FULL = 22
+    LABS_REFUSAL_TABLE_SHORT = 1, /* the table has fewer than 12 bytes */
+    LABS_REFUSAL_SIZE_OUTSIDE_LIMITS = 2, /* a size is outside its limits, or D + S + A is over N */
+    LABS_REFUSAL_TABLE_LENGTH = 3, /* the table has not 12 + 5N bytes */
+    LABS_REFUSAL_BAD_NODE = 4, /* a kind or an operand is bad; place: the lowest such node */
+    LABS_REFUSAL_WRONG_PARTY = 5, /* a wrong party, or an environment key in a link; place: the lowest such key node */
+    LABS_REFUSAL_EXPOSED_CALL = 6, /* an exposed call that is not lower; place: the lowest such definition */
+    LABS_REFUSAL_NODE_DERIVATIONS = 7, /* over 65,535 choices; place: the lowest such process node */
+    LABS_REFUSAL_BUFFER_LENGTH = 8, /* state, next, scratch or shelf has a wrong length */
+    LABS_REFUSAL_STATE_NOT_WELL_FORMED = 9, /* the state, or the shelf, is not well formed for the table */
+    LABS_REFUSAL_STEP_OUT_OF_RANGE = 10, /* no such kind of step, agent or key */
+    LABS_REFUSAL_KEYS_PENDING = 11, /* an act while keys are to be confirmed or propagated */
+    LABS_REFUSAL_RESIDUAL_DERIVATIONS = 12, /* a part of what is left of the process has over 65,535 choices */
+    LABS_REFUSAL_NO_SUCH_CHOICE = 13, /* the agent has no such choice */
+    LABS_REFUSAL_GUARD_FAILS = 14, /* a guard of the choice does not hold */
+    LABS_REFUSAL_EXPRESSION_ABSENT = 15, /* the choice's expression is absent */
+    LABS_REFUSAL_CLOCK_AT_END = 16, /* a mark would be written at clock 65,535 */
+    LABS_REFUSAL_RESIDUAL_TOO_LONG = 17, /* the choice leaves over 63 words */
+    LABS_REFUSAL_KEY_NOT_IN_SET = 18, /* the key is not one to propagate, or to confirm */
+    LABS_REFUSAL_SCHEDULE_LENGTH = 19, /* the schedule has not 2 + 5n bytes, or n is over 8,192 */
+    LABS_REFUSAL_ANSWERS_SHORT = 20, /* fewer answer bytes than steps */
+    LABS_REFUSAL_NO_SUCH_NAME = 21, /* the name is 0 or over 255, or not held on a restore or drop */
+    LABS_REFUSAL_SHELF_FULL = 22 /* a new name, and all eight places are held */
 };
 
 /* ---- Calls ---- */
@@ -207,7 +213,8 @@ enum labs_refusal {
 uint64_t labs_load(const uint8_t *table, size_t table_len, uint32_t *state, size_t state_len,
                    uint32_t *scratch, size_t scratch_len);
 
-/* Does one step. The number is an act's choice, or the key of a propagate or confirm. */
+/* Does one step. The number is an act's choice, or the key of a propagate or confirm. It has 16 bits, to which C
+ * cuts a wider argument: a choice above 65,535, which no agent has, must be told before the call. */
 uint64_t labs_step(const uint8_t *table, size_t table_len, uint32_t *state, size_t state_len,
                    uint32_t *scratch, size_t scratch_len, uint8_t kind, uint16_t agent, uint16_t number);
 

@@ -3,7 +3,12 @@
 //!
 //! Slices of Rust are what the library asks of its caller: aligned, not null, valid, and apart where they are written.
 
+/// The interface's version, and how many change requests have landed.
+pub const VERSION: u32 = 1;
+pub const REQUESTS: u32 = 7;
+
 pub const MAX_NODES: usize = 4_096;
+pub const MAX_DEFINITIONS: usize = 64;
 pub const MAX_AGENTS: usize = 32;
 pub const MAX_KEYS: usize = 16;
 pub const MAX_STEPS: usize = 8_192;
@@ -14,6 +19,107 @@ pub const SCRATCH_WORDS: usize = 2 * MAX_NODES;
 
 /// The highest name of a saved state; the lowest is 1.
 pub const NAME_LIMIT: u32 = 255;
+
+/// Kinds of nodes.
+pub mod node {
+    pub const IDLE: u8 = 0;
+    pub const TICK: u8 = 1;
+    pub const SET_ATTRIBUTE: u8 = 2;
+    pub const SET_STIGMERGY: u8 = 3;
+    pub const SET_ENVIRONMENT: u8 = 4;
+    pub const SEQUENCE: u8 = 5;
+    pub const CHOICE: u8 = 6;
+    pub const GUARDED: u8 = 7;
+    pub const PARALLEL: u8 = 8;
+    pub const CALL: u8 = 9;
+    pub const TRUE: u8 = 16;
+    pub const EQUAL: u8 = 17;
+    pub const LESS: u8 = 18;
+    pub const GREATER: u8 = 19;
+    pub const NOT: u8 = 20;
+    pub const AND: u8 = 21;
+    pub const OR: u8 = 22;
+    pub const CONSTANT: u8 = 32;
+    pub const ATTRIBUTE: u8 = 33;
+    pub const STIGMERGY: u8 = 34;
+    pub const ENVIRONMENT: u8 = 35;
+    pub const ADD: u8 = 36;
+    pub const SUBTRACT: u8 = 37;
+    pub const MULTIPLY: u8 = 38;
+    pub const DIVIDE: u8 = 39;
+    pub const REMAINDER: u8 = 40;
+    pub const ROOT: u8 = 64;
+}
+
+/// Whose value an attribute or stigmergy key node reads.
+pub mod party {
+    pub const OWN: u16 = 0;
+    pub const SENDER: u16 = 1;
+    pub const RECEIVER: u16 = 2;
+}
+
+/// Kinds of steps.
+pub mod kind {
+    pub const ACT: u8 = 0;
+    pub const PROPAGATE: u8 = 1;
+    pub const CONFIRM: u8 = 2;
+}
+
+/// What the words of a residual are; any other word is a process node.
+pub mod residual {
+    pub const IDLE: u32 = 65_532;
+    pub const TICK: u32 = 65_533;
+    pub const PARALLEL: u32 = 65_534;
+    pub const SEQUENCE: u32 = 65_535;
+}
+
+/// Why a call was refused; of a step inside a run, its answer byte.
+pub mod refusal {
+    /// The table has fewer than 12 bytes.
+    pub const TABLE_SHORT: u16 = 1;
+    /// A size is outside its limits, or D + S + A is over N.
+    pub const SIZE_OUTSIDE_LIMITS: u16 = 2;
+    /// The table has not 12 + 5N bytes.
+    pub const TABLE_LENGTH: u16 = 3;
+    /// A kind or an operand is bad; place: the lowest such node.
+    pub const BAD_NODE: u16 = 4;
+    /// A wrong party, or an environment key in a link; place: the lowest such key node.
+    pub const WRONG_PARTY: u16 = 5;
+    /// An exposed call that is not lower; place: the lowest such definition.
+    pub const EXPOSED_CALL: u16 = 6;
+    /// Over 65,535 choices; place: the lowest such process node.
+    pub const NODE_DERIVATIONS: u16 = 7;
+    /// State, next, scratch or shelf has a wrong length.
+    pub const BUFFER_LENGTH: u16 = 8;
+    /// The state, or the shelf, is not well formed for the table.
+    pub const STATE_NOT_WELL_FORMED: u16 = 9;
+    /// No such kind of step, agent or key.
+    pub const STEP_OUT_OF_RANGE: u16 = 10;
+    /// An act while keys are to be confirmed or propagated.
+    pub const KEYS_PENDING: u16 = 11;
+    /// A part of what is left of the process has over 65,535 choices.
+    pub const RESIDUAL_DERIVATIONS: u16 = 12;
+    /// The agent has no such choice.
+    pub const NO_SUCH_CHOICE: u16 = 13;
+    /// A guard of the choice does not hold.
+    pub const GUARD_FAILS: u16 = 14;
+    /// The choice's expression is absent.
+    pub const EXPRESSION_ABSENT: u16 = 15;
+    /// A mark would be written at clock 65,535.
+    pub const CLOCK_AT_END: u16 = 16;
+    /// The choice leaves over 63 words.
+    pub const RESIDUAL_TOO_LONG: u16 = 17;
+    /// The key is not one to propagate, or to confirm.
+    pub const KEY_NOT_IN_SET: u16 = 18;
+    /// The schedule has not 2 + 5n bytes, or n is over 8,192.
+    pub const SCHEDULE_LENGTH: u16 = 19;
+    /// Fewer answer bytes than steps.
+    pub const ANSWERS_SHORT: u16 = 20;
+    /// The name is 0 or over 255, or not held on a restore or drop.
+    pub const NO_SUCH_NAME: u16 = 21;
+    /// A new name, and all eight places are held.
+    pub const SHELF_FULL: u16 = 22;
+}
 
 /// The words of a state, by their index.
 pub mod word {
@@ -118,7 +224,7 @@ pub struct Counts {
 }
 
 impl Counts {
-    /// Of the report of a step, or of its preview.
+    /// Of the report of a step, or of its preview, that `taken_apart` says is no refusal.
     pub fn of(report: u64) -> Counts {
         Counts {
             added: u32::from(report as u16),
@@ -286,7 +392,7 @@ pub fn restore(
 }
 
 /// labs_drop.
-pub fn drop(table: &[u8], scratch: &mut [u32], shelf: &mut [u32], name: u32) -> u64 {
+pub fn drop_name(table: &[u8], scratch: &mut [u32], shelf: &mut [u32], name: u32) -> u64 {
     unsafe {
         labs_drop(
             table.as_ptr(),
@@ -300,7 +406,7 @@ pub fn drop(table: &[u8], scratch: &mut [u32], shelf: &mut [u32], name: u32) -> 
     }
 }
 
-extern "C" {
+unsafe extern "C" {
     fn labs_load(
         table: *const u8,
         table_len: usize,

@@ -18,6 +18,7 @@ use reference::term::{Term, MAX_WORDS};
 use reference::{load, Reason};
 
 use crate::fleets;
+use crate::page::text;
 
 /// A number and its name.
 pub type Named = (String, u64);
@@ -142,7 +143,7 @@ fn operation(draft: &mut Draft, operator: u8) -> u16 {
 }
 
 /// By what an attribute node of each party is read as.
-fn parties() -> Vec<Named> {
+pub fn parties() -> Vec<Named> {
     let party = |number: u16| {
         let mut draft = Draft::new(1, 0);
         let read = draft.attribute(0, number);
@@ -170,6 +171,24 @@ pub fn step_kinds() -> Vec<Named> {
         named("LABS_ACT", Step::act(0, 0).kind),
         named("LABS_PROPAGATE", Step::propagate(0, 0).kind),
         named("LABS_CONFIRM", Step::confirm(0, 0).kind),
+    ]
+}
+
+/// By what FORMATS says, and by the notes on the requests.
+fn versions() -> Vec<Named> {
+    let formats = text("docs/FORMATS.md");
+    let (_, rest) = formats.split_once("This is version ").expect("a version");
+    let version: String = rest.chars().take_while(char::is_ascii_digit).collect();
+    let said = format!("This is version {version} of the interface, with change requests 1 to ");
+    let (_, rest) = formats.split_once(&said).expect("the requests");
+    let last: String = rest.chars().take_while(char::is_ascii_digit).collect();
+    let changes = text("docs/CHANGES.md");
+    let notes = changes.lines().filter(|line| line.starts_with("## Item "));
+    assert_eq!(notes.count().to_string(), last, "a note for each request");
+    let number = |digits: String| -> u64 { digits.parse().expect("a number") };
+    vec![
+        named("LABS_VERSION", number(version)),
+        named("LABS_REQUESTS", number(last)),
     ]
 }
 
@@ -359,7 +378,7 @@ fn parts() -> Vec<Named> {
     all
 }
 
-fn residual_words() -> Vec<Named> {
+pub fn residual_words() -> Vec<Named> {
     let tick = || Term::Tick;
     let terms = [
         ("IDLE", Term::Idle),
@@ -523,6 +542,7 @@ fn how_many_totals() -> Vec<Named> {
 /// All of them.
 pub fn all() -> Vec<Named> {
     [
+        versions(),
         limits(),
         bytes(),
         node_kinds(),

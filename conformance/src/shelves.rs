@@ -24,7 +24,7 @@ pub fn call(case: &ShelfCase) -> ShelfOutcome {
             shelf.shared(),
             case.name,
         ),
-        ShelfCall::Drop => rehearsal::drop(&table, scratch.slice(), shelf.slice(), case.name),
+        ShelfCall::Drop => rehearsal::drop_name(&table, scratch.slice(), shelf.slice(), case.name),
     };
     assert!(table == case.table, "the table was written");
     scratch.content();

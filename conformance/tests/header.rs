@@ -9,8 +9,8 @@ use std::process::{Command, Stdio};
 
 use conformance::numbers::{self, Named};
 use conformance::rehearsal::{
-    self, shelf, taken_apart, word, Counts, Refused, Totals, MAX_AGENTS, MAX_KEYS, MAX_NODES,
-    MAX_RESIDUAL, MAX_STEPS, NAME_LIMIT, SCRATCH_WORDS, TOTALS,
+    self, shelf, taken_apart, word, Counts, Refused, Totals, MAX_AGENTS, MAX_DEFINITIONS, MAX_KEYS,
+    MAX_NODES, MAX_RESIDUAL, MAX_STEPS, NAME_LIMIT, REQUESTS, SCRATCH_WORDS, TOTALS, VERSION,
 };
 use reference::refusal::{pack, write_totals, Refusal};
 use reference::Reason;
@@ -167,7 +167,10 @@ fn every_number_of_the_module_is_the_references() {
         let found = all.iter().find(|(other, _)| other == name);
         found.expect("a number of this name").1 as usize
     };
+    assert_eq!(VERSION as usize, number("LABS_VERSION"));
+    assert_eq!(REQUESTS as usize, number("LABS_REQUESTS"));
     assert_eq!(MAX_NODES, number("LABS_MAX_NODES"));
+    assert_eq!(MAX_DEFINITIONS, number("LABS_MAX_DEFINITIONS"));
     assert_eq!(MAX_AGENTS, number("LABS_MAX_AGENTS"));
     assert_eq!(MAX_KEYS, number("LABS_MAX_KEYS"));
     assert_eq!(MAX_STEPS, number("LABS_MAX_STEPS"));
@@ -227,6 +230,66 @@ fn every_number_of_the_module_is_the_references() {
             counts: Counts { added, replaced },
         };
         assert_eq!(Totals::of(words), totals);
+    }
+}
+
+/// The constants of a module of rehearsal.rs, by its text.
+fn constants(module: &str) -> BTreeSet<(String, u64)> {
+    let text = fs::read_to_string(include().join("rehearsal.rs")).unwrap();
+    let (_, rest) = text
+        .split_once(&format!("pub mod {module} {{"))
+        .expect("a module");
+    let (inside, _) = rest.split_once("\n}\n").expect("its end");
+    let constant = |line: &str| {
+        let (name, rest) = line
+            .trim_start()
+            .strip_prefix("pub const ")?
+            .split_once(':')?;
+        let number = rest.split_once("= ")?.1.trim_end_matches(';');
+        Some((name.to_string(), number.replace('_', "").parse().ok()?))
+    };
+    inside.lines().filter_map(constant).collect()
+}
+
+/// The names of nodes, parties, steps, residual words and refusals are the header's, each with its number.
+#[test]
+fn every_name_of_the_header_is_the_modules() {
+    for (module, prefix, all) in [
+        ("node", "LABS_NODE_", numbers::node_kinds()),
+        ("party", "LABS_PARTY_", numbers::parties()),
+        ("kind", "LABS_", numbers::step_kinds()),
+        ("residual", "LABS_RESIDUAL_", numbers::residual_words()),
+        ("refusal", "LABS_REFUSAL_", numbers::refusals()),
+    ] {
+        let short = |(name, number): &Named| (name[prefix.len()..].to_string(), *number);
+        let expected: BTreeSet<_> = all.iter().map(short).collect();
+        assert_eq!(constants(module), expected, "{module}");
+    }
+}
+
+#[test]
+fn the_module_compiles_in_both_editions() {
+    for edition in ["2021", "2024"] {
+        let status = Command::new("rustc")
+            .args(["--edition", edition, "--crate-type", "lib"])
+            .args(["--emit", "metadata", "-D", "warnings", "--out-dir"])
+            .arg(env!("CARGO_TARGET_TMPDIR"))
+            .arg(include().join("rehearsal.rs"))
+            .status()
+            .expect("rustc can be run");
+        assert!(status.success(), "edition {edition}");
+    }
+}
+
+/// Every refusal of the header has its meaning beside it.
+#[test]
+fn every_refusal_of_the_header_is_explained() {
+    let text = fs::read_to_string(include().join("rehearsal.h")).unwrap();
+    for (name, number) in numbers::refusals() {
+        let line = text
+            .lines()
+            .find(|line| line.contains(&format!("{name} = {number}")));
+        assert!(line.is_some_and(|line| line.ends_with("*/")), "{name}");
     }
 }
 

@@ -460,7 +460,7 @@ fn what_is_only_read_is_not_written() {
             u64::from(state != LOADED),
             rehearsal::save(&table, &LOADED, &mut scratch, &mut shelf, 1),
             u64::from(shelf[state_at(0)] != LOADED),
-            rehearsal::drop(&table, &mut scratch, &mut shelf, 1),
+            rehearsal::drop_name(&table, &mut scratch, &mut shelf, 1),
             u64::from(shelf[0]),
         ]
     };

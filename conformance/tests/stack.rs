@@ -82,7 +82,7 @@ impl Acting {
                 packed[1] = rehearsal::restore(&table, &mut state, &mut scratch, &shelf, 1);
             }),
             touched(STACK, || {
-                packed[2] = rehearsal::drop(&table, &mut scratch, &mut shelf, 1);
+                packed[2] = rehearsal::drop_name(&table, &mut scratch, &mut shelf, 1);
             }),
         ];
         assert_eq!((packed, shelf[0]), ([0; 3], 0), "the calls are done");

@@ -59,7 +59,7 @@ fn measure_on_shelf(table: &[u8], call: ShelfCall) -> [Times; 2] {
         let packed = match call {
             ShelfCall::Save => rehearsal::save(table, &state, &mut scratch, &mut shelf, name),
             ShelfCall::Restore => rehearsal::restore(table, &mut state, &mut scratch, &shelf, name),
-            ShelfCall::Drop => rehearsal::drop(table, &mut scratch, &mut shelf, name),
+            ShelfCall::Drop => rehearsal::drop_name(table, &mut scratch, &mut shelf, name),
         };
         let time = begin.elapsed();
         assert_eq!(packed, 0, "the call is done");
