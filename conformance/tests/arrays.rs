@@ -1,5 +1,5 @@
-//! What the functions that an act runs keep and write, held to the list in docs/DECISIONS.md: none of them keeps words
-//! of a residual in an array of its own.
+//! What the functions that an act runs keep and write, held to the list in act_functions.md beside this file: none of
+//! them keeps words of a residual in an array of its own.
 
 use std::collections::{BTreeMap, BTreeSet};
 use std::fs;
@@ -117,11 +117,11 @@ static LIBRARY: LazyLock<Functions> = LazyLock::new(|| functions(&root(), "rehea
 
 #[test]
 fn an_act_keeps_no_residual_in_an_array() {
-    let list = listed(&text("docs/DECISIONS.md"));
+    let list = listed(&text("conformance/tests/act_functions.md"));
     let lines = differences(&LIBRARY, &CALLS, &list);
     assert!(
         lines.is_empty(),
-        "No function that an act runs keeps words of a residual in an array of its own. docs/DECISIONS.md lists the \
+        "No function that an act runs keeps words of a residual in an array of its own. act_functions.md lists the \
          functions with their arrays, and what each array holds.\n{}",
         lines.join("\n")
     );
