@@ -3,21 +3,10 @@ use Prim.Native.Nat.{ℕ, _*_, _<_, _≤_}
 use mathlib.Core.Path.{_≡_}
 use mathlib.Core.Bool.{true, false}
 use lib.ListN.{length}
-use Rattle.table.specs.declared.Sizes.{Sizes}
-use Rattle.table.specs.Tables.{Table, agentLimit, keyLimit, kindAt, rootsOf}
+use Rattle.table.specs.Tables.{Table, kindAt}
+pub use Rattle.table.specs.Rules.{Limits}
 use Rattle.table.specs.Nodes.{isProcess, isGuard, isExpression, badNode}
 use Rattle.table.specs.Reach.{wrongKey}
-
-pub record Limits (n : Sizes) : Type 0 where
-  pub some-node : 1 ≤ n .nodes
-  pub nodes : n .nodes ≤ 4096
-  pub definitions : n .definitions ≤ 64
-  pub some-agent : 1 ≤ n .agents
-  pub agents : n .agents ≤ agentLimit
-  pub attributes : n .attributes ≤ keyLimit
-  pub stigmergy : n .stigmergy ≤ keyLimit
-  pub environment : n .environment ≤ keyLimit
-  pub roots : rootsOf n ≤ n .nodes
 
 -- 1 to 3 have passed
 pub record Shaped (t : Table) : Type 0 where
