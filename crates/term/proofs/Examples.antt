@@ -6,4 +6,13 @@ use Rattle.term.specs.Examples.{Examples}
 
 pub examples : Examples
 unfolding keep joins derivations canTick
-examples = record { tick-of-both = (refl, refl, refl); choice-in-order = refl; sequence-in-order = refl; parallel-in-order = refl }
+examples =
+    record {
+      tick-of-both = (refl, refl, refl);
+      choice-in-order = refl;
+      sequence-in-order = refl;
+      parallel-in-order = refl;
+      sequence-of-two = refl;
+      parallel-of-two = refl;
+      guards-anywhere = refl;
+    }
