@@ -5,7 +5,8 @@ pub mod Words
 pub mod Opened
 pub mod Calls
 pub mod Exposed
+pub mod Exposes
 pub mod Members
 pub mod Inside
 pub mod Acceptance
-pub mod Examples
+pub mod ByComputing
