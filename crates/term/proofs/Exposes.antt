@@ -46,19 +46,20 @@ module _ (t : Table) where
   ticks-kind calls lower c l n (suc (suc (suc (suc (suc (suc (suc (suc (suc zero))))))))) e h = CanTick.call e (c (pAt t n) h)
   ticks-kind calls lower c l n (suc (suc (suc (suc (suc (suc (suc (suc (suc (suc k)))))))))) e h = absurd (not-both h refl)
 
-  ticks-node : (calls : ℕ → Process) → ((e : ℕ) → canTick (calls e) ≡ true → CanTick t (bodyAt t e)) → (n : ℕ) → canTick (nodeWith t calls n) ≡ true → CanTick t n
-  unfolding nodeWith nodeStep canTick
-  ticks-node calls c =
-      below-induct (nodeStep t calls) idle (λ (k : ℕ) (P : Process). canTick P ≡ true → CanTick t k) (firstRoot t) (λ k h. absurd (not-both h refl))
+  ticks-below : (calls : ℕ → Process) → ((e : ℕ) → canTick (calls e) ≡ true → CanTick t (bodyAt t e))
+      → (limit n : ℕ) → canTick (below (nodeStep t calls) idle limit n) ≡ true → CanTick t n
+  unfolding nodeStep canTick
+  ticks-below calls c limit =
+      below-induct (nodeStep t calls) idle (λ (k : ℕ) (P : Process). canTick P ≡ true → CanTick t k) limit (λ k h. absurd (not-both h refl))
       (λ n h r. ticks-kind calls (below (nodeStep t calls) idle n) c r n (kindAt t n) refl)
 
   ticks-defined : (level e : ℕ) → canTick (defined t level e) ≡ true → CanTick t (bodyAt t e)
-  unfolding defined canTick
+  unfolding defined nodeWith canTick
   ticks-defined level =
       below-induct (λ lower e. nodeWith t lower (bodyAt t e)) idle (λ (e : ℕ) (P : Process). canTick P ≡ true → CanTick t (bodyAt t e)) level
-      (λ k h. absurd (not-both h refl)) (λ d h r. ticks-node (below (λ lower e. nodeWith t lower (bodyAt t e)) idle d) r (bodyAt t d))
+      (λ k h. absurd (not-both h refl)) (λ d h r. ticks-below (below (λ lower e. nodeWith t lower (bodyAt t e)) idle d) r (firstRoot t) (bodyAt t d))
 
-  -- a tree with a call that is not below d is of a node that exposes it
+  -- a tree with a call that is not below d is of a node that exposes one
   module _ (d : ℕ) where
     abbrev High : ℕ → Type 0
     High n = (e : ℕ) × Exposes t n e × (d ≤ e)
@@ -92,15 +93,11 @@ module _ (t : Table) where
     high-kind lower c l n (suc (suc (suc (suc (suc (suc (suc (suc (suc zero))))))))) e h = (pAt t n, Exposes.itself e, ltb-false (pAt t n) d h)
     high-kind lower c l n (suc (suc (suc (suc (suc (suc (suc (suc (suc (suc k)))))))))) e h = absurd (not-both refl h)
 
-    high-node : (n : ℕ) → (canTick (processAt t d n) ≡ true → CanTick t n) × (callsBelow d (processAt t d n) ≡ false → High n)
-    unfolding nodeWith nodeStep canTick callsBelow
+    high-node : (n : ℕ) → callsBelow d (processAt t d n) ≡ false → High n
+    unfolding nodeWith nodeStep callsBelow
     high-node =
-        below-induct (nodeStep t (defined t d)) idle (λ (k : ℕ) (P : Process). (canTick P ≡ true → CanTick t k) × (callsBelow d P ≡ false → High k)) (firstRoot t)
-        (λ k. (λ h. absurd (not-both h refl), λ h. absurd (not-both refl h)))
-        (λ n h r. let lower = below (nodeStep t (defined t d)) idle n in (
-          ticks-kind (defined t d) lower (ticks-defined d) (λ k. r k .0) n (kindAt t n) refl,
-          high-kind lower (λ k. r k .0) (λ k. r k .1) n (kindAt t n) refl,
-        ))
+        below-induct (nodeStep t (defined t d)) idle (λ (k : ℕ) (P : Process). callsBelow d P ≡ false → High k) (firstRoot t) (λ k h. absurd (not-both refl h))
+        (λ n h r. high-kind (below (nodeStep t (defined t d)) idle n) (ticks-below (defined t d) (ticks-defined d) n) r n (kindAt t n) refl)
 
   -- in a sound table, where the definitions below d expose lower calls only, a tree with calls below d ticks as its node does, and its node exposes no
   -- other call
@@ -109,81 +106,82 @@ module _ (t : Table) where
     opened d n k e a b =
         node-opened t (defined t d) n k (kind-inner t sound n (kind-inside t sound n (omega arith)) (omega arith)) (sound-lower t sound n) e
 
+    module _ (d : ℕ) where
+      abbrev Low : ℕ → Type 0
+      Low n = callsBelow d (processAt t d n) ≡ true
+
+      abbrev ticks : ℕ → Bool
+      ticks n = canTick (processAt t d n)
+
+      abbrev low : ℕ → Bool
+      low n = callsBelow d (processAt t d n)
+
+      module _ (n : ℕ) where
+        low-sequence : kindAt t n ≡ 5 → Low n → Low (pAt t n) × (ticks (pAt t n) ≡ true → Low (qAt t n))
+        unfolding callsBelow
+        low-sequence e c =
+            let x = ap (callsBelow d) (sym (opened d n 5 e (omega arith) (omega arith))) ∙ c in
+            let right = not (ticks (pAt t n)) || low (qAt t n) in
+            (and-left (low (pAt t n)) right x, λ h. or-implies (ticks (pAt t n)) (low (qAt t n)) h (and-right (low (pAt t n)) right x))
+
+        low-both : (low (pAt t n) && low (qAt t n)) ≡ true → Low (pAt t n) × Low (qAt t n)
+        low-both x = (and-left (low (pAt t n)) (low (qAt t n)) x, and-right (low (pAt t n)) (low (qAt t n)) x)
+
+        low-choice : kindAt t n ≡ 6 → Low n → Low (pAt t n) × Low (qAt t n)
+        unfolding callsBelow
+        low-choice e c = low-both (ap (callsBelow d) (sym (opened d n 6 e (omega arith) (omega arith))) ∙ c)
+
+        low-guarded : kindAt t n ≡ 7 → Low n → Low (qAt t n)
+        unfolding callsBelow
+        low-guarded e c = ap (callsBelow d) (sym (opened d n 7 e (omega arith) (omega arith))) ∙ c
+
+        low-parallel : kindAt t n ≡ 8 → Low n → Low (pAt t n) × Low (qAt t n)
+        unfolding callsBelow
+        low-parallel e c = low-both (ap (callsBelow d) (sym (opened d n 8 e (omega arith) (omega arith))) ∙ c)
+
+        low-call : kindAt t n ≡ 9 → Low n → pAt t n < d
+        unfolding callsBelow
+        low-call e c = ltb-true (pAt t n) d (ap (callsBelow d) (sym (opened d n 9 e (omega arith) (omega arith))) ∙ c)
+
     abbrev GoodBelow : ℕ → Type 0
     GoodBelow d = (e : ℕ) → e < d → badCall t e ≡ false
 
-    node-ticks : {n : ℕ} → CanTick t n → (d : ℕ) → GoodBelow d → callsBelow d (processAt t d n) ≡ true → canTick (processAt t d n) ≡ true
-    unfolding canTick callsBelow
+    node-ticks : {n : ℕ} → CanTick t n → (d : ℕ) → GoodBelow d → Low d n → ticks d n ≡ true
+    unfolding canTick
     node-ticks {n} (CanTick.tick e) d good c = ap canTick (opened d n 1 e (omega arith) (omega arith))
     node-ticks {n} (CanTick.sequence e a b) d good c =
-        let P = processAt t d (pAt t n) in
-        let Q = processAt t d (qAt t n) in
-        let o : processAt t d n ≡ seq P Q (Node (qAt t n)) = opened d n 5 e (omega arith) (omega arith) in
-        let x : (callsBelow d P && (not (canTick P) || callsBelow d Q)) ≡ true = ap (callsBelow d) (sym o) ∙ c in
-        let y = node-ticks a d good (and-left (callsBelow d P) (not (canTick P) || callsBelow d Q) x) in
-        let z = or-implies (canTick P) (callsBelow d Q) y (and-right (callsBelow d P) (not (canTick P) || callsBelow d Q) x) in
-        ap canTick o ∙ and-both (canTick P) (canTick Q) y (node-ticks b d good z)
+        let w = low-sequence d n e c in
+        let h = node-ticks a d good (w .0) in
+        ap canTick (opened d n 5 e (omega arith) (omega arith)) ∙ and-both (ticks d (pAt t n)) (ticks d (qAt t n)) h (node-ticks b d good (w .1 h))
     node-ticks {n} (CanTick.choice-left e a) d good c =
-        let P = processAt t d (pAt t n) in
-        let Q = processAt t d (qAt t n) in
-        let o : processAt t d n ≡ choice P Q = opened d n 6 e (omega arith) (omega arith) in
-        ap canTick o ∙ or-left (canTick P) (canTick Q) (node-ticks a d good (and-left (callsBelow d P) (callsBelow d Q) (ap (callsBelow d) (sym o) ∙ c)))
+        ap canTick (opened d n 6 e (omega arith) (omega arith)) ∙
+        or-left (ticks d (pAt t n)) (ticks d (qAt t n)) (node-ticks a d good (low-choice d n e c .0))
     node-ticks {n} (CanTick.choice-right e a) d good c =
-        let P = processAt t d (pAt t n) in
-        let Q = processAt t d (qAt t n) in
-        let o : processAt t d n ≡ choice P Q = opened d n 6 e (omega arith) (omega arith) in
-        ap canTick o ∙ or-right (canTick P) (canTick Q) (node-ticks a d good (and-right (callsBelow d P) (callsBelow d Q) (ap (callsBelow d) (sym o) ∙ c)))
-    node-ticks {n} (CanTick.guarded e a) d good c =
-        let o : processAt t d n ≡ guarded (pAt t n) (processAt t d (qAt t n)) = opened d n 7 e (omega arith) (omega arith) in
-        ap canTick o ∙ node-ticks a d good (ap (callsBelow d) (sym o) ∙ c)
+        ap canTick (opened d n 6 e (omega arith) (omega arith)) ∙
+        or-right (ticks d (pAt t n)) (ticks d (qAt t n)) (node-ticks a d good (low-choice d n e c .1))
+    node-ticks {n} (CanTick.guarded e a) d good c = ap canTick (opened d n 7 e (omega arith) (omega arith)) ∙ node-ticks a d good (low-guarded d n e c)
     node-ticks {n} (CanTick.parallel e a b) d good c =
-        let P = processAt t d (pAt t n) in
-        let Q = processAt t d (qAt t n) in
-        let o : processAt t d n ≡ par P (Node (pAt t n)) Q (Node (qAt t n)) = opened d n 8 e (omega arith) (omega arith) in
-        let x : (callsBelow d P && callsBelow d Q) ≡ true = ap (callsBelow d) (sym o) ∙ c in
-        ap canTick o ∙
-        and-both (canTick P) (canTick Q) (node-ticks a d good (and-left (callsBelow d P) (callsBelow d Q) x))
-        (node-ticks b d good (and-right (callsBelow d P) (callsBelow d Q) x))
+        let w = low-parallel d n e c in
+        ap canTick (opened d n 8 e (omega arith) (omega arith)) ∙
+        and-both (ticks d (pAt t n)) (ticks d (qAt t n)) (node-ticks a d good (w .0)) (node-ticks b d good (w .1))
     node-ticks {n} (CanTick.call e a) d good c =
         let p = pAt t n in
-        let o : processAt t d n ≡ call p (defined t d p) = opened d n 9 e (omega arith) (omega arith) in
-        let h : p < d = ltb-true p d (ap (callsBelow d) (sym o) ∙ c) in
-        ap canTick o ∙ ap canTick (defined-body t d p h) ∙
-        node-ticks a p (λ f l. good f (omega arith)) (not-false (callsBelow p (processAt t p (bodyAt t p))) (good p h))
+        let h = low-call d n e c in
+        ap canTick (opened d n 9 e (omega arith) (omega arith)) ∙ ap canTick (defined-body t d p h) ∙
+        node-ticks a p (λ f l. good f (omega arith)) (not-false (low p (bodyAt t p)) (good p h))
 
     module _ (d : ℕ) (good : GoodBelow d) where
-      exposed-lower : {n e : ℕ} → Exposes t n e → callsBelow d (processAt t d n) ≡ true → e < d
-      unfolding callsBelow
-      exposed-lower {n} (Exposes.itself k) c = ltb-true (pAt t n) d (ap (callsBelow d) (sym (opened d n 9 k (omega arith) (omega arith))) ∙ c)
-      exposed-lower {n} (Exposes.sequence-left k x) c =
-          let P = processAt t d (pAt t n) in
-          let Q = processAt t d (qAt t n) in
-          let o : processAt t d n ≡ seq P Q (Node (qAt t n)) = opened d n 5 k (omega arith) (omega arith) in
-          exposed-lower x (and-left (callsBelow d P) (not (canTick P) || callsBelow d Q) (ap (callsBelow d) (sym o) ∙ c))
+      exposed-lower : {n e : ℕ} → Exposes t n e → Low d n → e < d
+      exposed-lower {n} (Exposes.itself k) c = low-call d n k c
+      exposed-lower {n} (Exposes.sequence-left k x) c = exposed-lower x (low-sequence d n k c .0)
       exposed-lower {n} (Exposes.sequence-right k a x) c =
-          let P = processAt t d (pAt t n) in
-          let Q = processAt t d (qAt t n) in
-          let o : processAt t d n ≡ seq P Q (Node (qAt t n)) = opened d n 5 k (omega arith) (omega arith) in
-          let y : (callsBelow d P && (not (canTick P) || callsBelow d Q)) ≡ true = ap (callsBelow d) (sym o) ∙ c in
-          let z = node-ticks a d good (and-left (callsBelow d P) (not (canTick P) || callsBelow d Q) y) in
-          exposed-lower x (or-implies (canTick P) (callsBelow d Q) z (and-right (callsBelow d P) (not (canTick P) || callsBelow d Q) y))
-      exposed-lower {n} (Exposes.choice-left k x) c =
-          let P = processAt t d (pAt t n) in
-          let Q = processAt t d (qAt t n) in
-          exposed-lower x (and-left (callsBelow d P) (callsBelow d Q) (ap (callsBelow d) (sym (opened d n 6 k (omega arith) (omega arith))) ∙ c))
-      exposed-lower {n} (Exposes.choice-right k x) c =
-          let P = processAt t d (pAt t n) in
-          let Q = processAt t d (qAt t n) in
-          exposed-lower x (and-right (callsBelow d P) (callsBelow d Q) (ap (callsBelow d) (sym (opened d n 6 k (omega arith) (omega arith))) ∙ c))
-      exposed-lower {n} (Exposes.guarded k x) c = exposed-lower x (ap (callsBelow d) (sym (opened d n 7 k (omega arith) (omega arith))) ∙ c)
-      exposed-lower {n} (Exposes.parallel-left k x) c =
-          let P = processAt t d (pAt t n) in
-          let Q = processAt t d (qAt t n) in
-          exposed-lower x (and-left (callsBelow d P) (callsBelow d Q) (ap (callsBelow d) (sym (opened d n 8 k (omega arith) (omega arith))) ∙ c))
-      exposed-lower {n} (Exposes.parallel-right k x) c =
-          let P = processAt t d (pAt t n) in
-          let Q = processAt t d (qAt t n) in
-          exposed-lower x (and-right (callsBelow d P) (callsBelow d Q) (ap (callsBelow d) (sym (opened d n 8 k (omega arith) (omega arith))) ∙ c))
+          let w = low-sequence d n k c in
+          exposed-lower x (w .1 (node-ticks a d good (w .0)))
+      exposed-lower {n} (Exposes.choice-left k x) c = exposed-lower x (low-choice d n k c .0)
+      exposed-lower {n} (Exposes.choice-right k x) c = exposed-lower x (low-choice d n k c .1)
+      exposed-lower {n} (Exposes.guarded k x) c = exposed-lower x (low-guarded d n k c)
+      exposed-lower {n} (Exposes.parallel-left k x) c = exposed-lower x (low-parallel d n k c .0)
+      exposed-lower {n} (Exposes.parallel-right k x) c = exposed-lower x (low-parallel d n k c .1)
 
       -- 6, where the lower definitions pass
       pub not-lower-iff : (badCall t d ≡ true) ↔ NotLower t d
@@ -191,8 +189,8 @@ module _ (t : Table) where
         where
           to : badCall t d ≡ true → NotLower t d
           to e =
-              let w = high-node d (bodyAt t d) .1 (is-false (callsBelow d (processAt t d (bodyAt t d))) (λ f. not-both e (ap not f))) in
+              let w = high-node d (bodyAt t d) (is-false (low d (bodyAt t d)) (λ f. not-both e (ap not f))) in
               record { called = w .0; exposed = w .1; not-lower = w .2 }
 
           from : NotLower t d → badCall t d ≡ true
-          from w = ap not (is-false (callsBelow d (processAt t d (bodyAt t d))) (λ f. absurd (omega (arith, exposed-lower (w .exposed) f, w .not-lower))))
+          from w = ap not (is-false (low d (bodyAt t d)) (λ f. absurd (omega (arith, exposed-lower (w .exposed) f, w .not-lower))))
