@@ -1,8 +1,15 @@
 -- The examples hold, by computing the definitions.
 use mathlib.Core.Path.{refl}
-use Rattle.term.specs.Processes.{keep, joins, derivations}
-use Rattle.term.specs.Exposure.{canTick}
+use Rattle.basis.specs.Numbers.{someBelow, lowest}
+use Rattle.basis.specs.Below.{below}
+use Rattle.table.specs.Checks.{firstOf}
+use Rattle.table.specs.Tables.{withinLimits}
+use Rattle.table.specs.Nodes.{processRows, guardRows, expressionRows, rowOf, fieldsHere, fits, fitting, named, namesAgain, badNode}
+use Rattle.table.specs.Reach.{reachStep, reachedFrom, wrongKey}
+use Rattle.term.specs.Processes.{keep, joins, derivations, nodeStep, nodeWith, defined, nodeProcess}
+use Rattle.term.specs.Exposure.{canTick, callsBelow}
 use Rattle.term.specs.Examples.{Examples}
+use Rattle.term.specs.Refused.{CallsRefused}
 
 pub examples : Examples
 unfolding keep joins derivations canTick
@@ -16,3 +23,7 @@ examples =
       parallel-of-two = refl;
       guards-anywhere = refl;
     }
+
+pub calls-refused : CallsRefused
+unfolding someBelow lowest below firstOf withinLimits processRows guardRows expressionRows rowOf fieldsHere fits named namesAgain fitting badNode reachStep reachedFrom wrongKey keep joins derivations nodeStep nodeWith defined nodeProcess canTick callsBelow
+calls-refused = record { lowest-definition = refl; right-exposed = refl; right-hidden = refl }

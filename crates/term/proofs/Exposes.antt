@@ -5,7 +5,6 @@ use mathlib.Core.Bool.{Bool, true, false, not, _&&_, _||_}
 use mathlib.Core.Logic.{_↔_, ⊎-elim}
 use mathlib.Core.Path.{_≡_, refl, sym, ap, _∙_}
 use native.Mathlib.Omega.{arith}
-use lib.Dec.{ltb}
 use lib.ListN.{getD}
 use borrow.Author.Tests.{ltb-true, ltb-false, not-false}
 use Rattle.basis.specs.Below.{below}
@@ -14,8 +13,7 @@ use Rattle.basis.proofs.Tests.{not-both, is-false, and-left, and-right, and-bot
 use Rattle.table.specs.Tables.{Table, kindAt, pAt, qAt, firstRoot, bodyAt}
 use Rattle.table.specs.Sound.{Sound}
 use Rattle.table.proofs.Promises.{kind-inside, kind-inner}
-use Rattle.term.specs.Terms.{Node}
-use Rattle.term.specs.Processes.{Process, idle, tick, choice, guarded, call, seq, par, byKind, nodeStep, nodeWith, defined, processAt}
+use Rattle.term.specs.Processes.{Process, idle, byKind, nodeStep, nodeWith, defined, processAt}
 use Rattle.term.specs.Exposure.{canTick, callsBelow, badCall}
 use Rattle.term.specs.Rules.{CanTick, Exposes, NotLower}
 use Rattle.term.proofs.Opened.{node-opened, sound-lower}
@@ -107,14 +105,14 @@ module _ (t : Table) where
         node-opened t (defined t d) n k (kind-inner t sound n (kind-inside t sound n (omega arith)) (omega arith)) (sound-lower t sound n) e
 
     module _ (d : ℕ) where
-      abbrev Low : ℕ → Type 0
-      Low n = callsBelow d (processAt t d n) ≡ true
-
       abbrev ticks : ℕ → Bool
       ticks n = canTick (processAt t d n)
 
       abbrev low : ℕ → Bool
       low n = callsBelow d (processAt t d n)
+
+      abbrev Low : ℕ → Type 0
+      Low n = low n ≡ true
 
       module _ (n : ℕ) where
         low-sequence : kindAt t n ≡ 5 → Low n → Low (pAt t n) × (ticks (pAt t n) ≡ true → Low (qAt t n))

@@ -12,3 +12,4 @@ pub mod Acceptance
 pub mod ByComputing
 pub mod TmpConditions
 pub mod Rules
+pub mod Overfull

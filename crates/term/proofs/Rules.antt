@@ -43,17 +43,16 @@ module _ (t : Table) (n : ℕ) where
   count = length (derivations (nodeProcess t n))
 
   overfull-iff : (overfull t n ≡ true) ↔ Overfull t n
-  overfull-iff =
-      (
-        λ e.
+  overfull-iff = (
+    λ e.
         let f = is-false (few (nodeProcess t n)) (λ g. not-both (and-right here many e) (ap not g)) in
         (leb-true (kindAt t n) 9 (and-left here many e), leb-false count 65535 f),
-        λ w. and-both here many (le-leb (kindAt t n) 9 (w .0)) (ap not (lt-leb count 65535 (w .1))),
-      )
+    λ w. and-both here many (le-leb (kindAt t n) 9 (w .0)) (ap not (lt-leb count 65535 (w .1))),
+  )
 
 module _ (bad-iff : (t : Table) → Shaped t → (n : ℕ) → n < t .sizes .nodes → (badNode t n ≡ true) ↔ Bad t n)
-  (wrong-iff : (t : Table) → Shaped t → ((n : ℕ) → n < t .sizes .nodes → badNode t n ≡ false) → (n : ℕ) → n < t .sizes .nodes → (wrongKey t n ≡ true) ↔ Wrong t n)
-  (good-node : (t : Table) → Shaped t → (n : ℕ) → n < t .sizes .nodes → badNode t n ≡ false → Node t n) where
+    (wrong-iff : (t : Table) → Shaped t → ((n : ℕ) → n < t .sizes .nodes → badNode t n ≡ false) → (n : ℕ) → n < t .sizes .nodes → (wrongKey t n ≡ true) ↔ Wrong t n)
+    (good-node : (t : Table) → Shaped t → (n : ℕ) → n < t .sizes .nodes → badNode t n ≡ false → Node t n) where
   module _ (bytes : List ℕ) (fits : Bool) (scratch : ℕ) where
     abbrev t : Table
     t = tableOf bytes
@@ -65,19 +64,17 @@ module _ (bad-iff : (t : Table) → Shaped t → (n : ℕ) → n < t .sizes .nod
     D = sizesOf bytes .definitions
 
     follows : Follows (tableChecks bytes fits scratch) (tableConditions bytes (fits ≡ false) scratch)
-    follows =
-        (
-          follows-if 1 (ltb (length bytes) 12) (ltb-true (length bytes) 12) (λ e h. absurd (omega (arith, ltb-false (length bytes) 12 e))),
-          λ e1. (
-            follows-if 2 (not (withinLimits (sizesOf bytes))) (λ e l. not-both e (ap not (limits-within (sizesOf bytes) l)))
-                (λ e f. f (within-limits (sizesOf bytes) (not-false (withinLimits (sizesOf bytes)) e))),
-            λ e2. (
-              follows-if 3 (not (eqb (length bytes) (12 + 5 * N))) (λ e l. not-both e (ap not (eq-eqb (length bytes) (12 + 5 * N) l)))
-                  (λ e f. f (eqb-true (length bytes) (12 + 5 * N) (not-false (eqb (length bytes) (12 + 5 * N)) e))),
-              λ e3.
+    follows = (
+      follows-if 1 (ltb (length bytes) 12) (ltb-true (length bytes) 12) (λ e h. absurd (omega (arith, ltb-false (length bytes) 12 e))),
+      λ e1. (
+        follows-if 2 (not (withinLimits (sizesOf bytes))) (λ e l. not-both e (ap not (limits-within (sizesOf bytes) l)))
+            (λ e f. f (within-limits (sizesOf bytes) (not-false (withinLimits (sizesOf bytes)) e))),
+        λ e2. (
+          follows-if 3 (not (eqb (length bytes) (12 + 5 * N))) (λ e l. not-both e (ap not (eq-eqb (length bytes) (12 + 5 * N) l)))
+              (λ e f. f (eqb-true (length bytes) (12 + 5 * N) (not-false (eqb (length bytes) (12 + 5 * N)) e))),
+          λ e3.
               let limits = not-false (withinLimits (sizesOf bytes)) e2 in
-              let size = eqb-true (length bytes) (12 + 5 * N) (not-false (eqb (length bytes) (12 + 5 * N)) e3) in
-              (
+              let size = eqb-true (length bytes) (12 + 5 * N) (not-false (eqb (length bytes) (12 + 5 * N)) e3) in (
                 follows-if 8 (not fits || ltb scratch (2 * N)) lent lent-not,
                 λ e8. (
                   follows-lowest 4 N (badNode t) (bad-iff t (shaped bytes limits size)),
@@ -90,9 +87,9 @@ module _ (bad-iff : (t : Table) → Shaped t → (n : ℕ) → n < t .sizes .nod
                   ),
                 ),
               ),
-            ),
-          ),
-        )
+        ),
+      ),
+    )
       where
         lent : (not fits || ltb scratch (2 * N)) ≡ true → (fits ≡ false) ⊎ (scratch < 2 * N)
         lent e =
@@ -126,29 +123,28 @@ module _ (bad-iff : (t : Table) → Shaped t → (n : ℕ) → n < t .sizes .nod
         }
 
     none : Accepted bytes → fits ≡ true → 2 * N ≤ scratch → None (tableConditions bytes (fits ≡ false) scratch)
-    none a f h =
+    none a f h = (
+      λ place w. absurd (omega (arith, w .1, a .size)),
+      (
+        λ place w. w .1 (a .limits),
         (
-          λ place w. absurd (omega (arith, w .1, a .size)),
+          λ place w. w .1 (a .size),
           (
-            λ place w. w .1 (a .limits),
+            λ place w. ⊎-elim (λ (e : fits ≡ false). not-both f e) (λ (l : scratch < 2 * N). omega arith) (w .1),
             (
-              λ place w. w .1 (a .size),
+              λ place w. ⊎-elim (λ (x : Node t place → ⊥). x (a .nodes place (w .below))) (λ (x : Again t place). a .once place (w .below) x) (w .fault),
               (
-                λ place w. ⊎-elim (λ (e : fits ≡ false). not-both f e) (λ (l : scratch < 2 * N). omega arith) (w .1),
+                λ place w. a .keys place (w .below) (w .fault),
                 (
-                  λ place w. ⊎-elim (λ (x : Node t place → ⊥). x (a .nodes place (w .below))) (λ (x : Again t place). a .once place (w .below) x) (w .fault),
-                  (
-                    λ place w. a .keys place (w .below) (w .fault),
-                    (
-                      λ place w. absurd (omega (arith, a .calls place (w .fault .called) (w .below) (w .fault .exposed), w .fault .not-lower)),
-                      (λ place w. absurd (omega (arith, a .few place (w .below) (w .fault .0), w .fault .1)), tt),
-                    ),
-                  ),
+                  λ place w. absurd (omega (arith, a .calls place (w .fault .called) (w .below) (w .fault .exposed), w .fault .not-lower)),
+                  (λ place w. absurd (omega (arith, a .few place (w .below) (w .fault .0), w .fault .1)), tt),
                 ),
               ),
             ),
           ),
-        )
+        ),
+      ),
+    )
 
     pub judged : Judged bytes fits scratch
     judged =
