@@ -1,4 +1,5 @@
 pub mod Checks
+pub mod Conditions
 pub mod Limits
 pub mod Measuring
 pub mod Operands
