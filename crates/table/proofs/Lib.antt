@@ -1,5 +1,7 @@
 pub mod Checks
 pub mod Conditions
+pub mod Rows
+pub mod Rules
 pub mod Limits
 pub mod Measuring
 pub mod Operands
