@@ -1,29 +1,30 @@
--- What the paper asks of a table, and what checks 2 and 4 ask, are the same.
+-- What the paper asks of a table, and what checks 2, 4 and 5 ask, are the same.
 -- Assumes nothing.
 use Prim.Native.Nat.{ℕ, zero, suc, _<_, _≤_}
-use mathlib.Core.Bool.{Bool, true, false, cond, not, _&&_, _||_}
+use mathlib.Core.Bool.{Bool, true, false, not, _&&_, _||_}
 use mathlib.Core.Path.{_≡_, refl, sym, ap, subst, _∙_}
 use mathlib.Core.Logic.{_↔_, _⊎_, inl, inr, ⊎-elim}
 use native.Mathlib.Omega.{arith}
 use lib.Dec.{ltb, leb, eqb}
-use borrow.Author.Tests.{ltb-true, leb-true, eqb-true, eq-eqb, lt-ltb, le-ltb, le-leb}
+use borrow.Author.Tests.{ltb-true, leb-true, lt-ltb, le-leb}
 use Rattle.basis.proofs.Numbers.{some-at, some-witness}
 use Rattle.basis.proofs.Tests.{either, not-both, is-false, and-left, and-right, and-both, lt-or-le}
 use Rattle.table.specs.declared.Sizes.{Sizes}
 use Rattle.table.specs.declared.Field.{Field}
-use Rattle.table.specs.declared.Field.the-variants.{Never, Zero, Process, Guard}
+use Rattle.table.specs.declared.Field.the-variants.{Zero, Guard}
 use Rattle.table.specs.declared.Fields.{Fields}
 use Rattle.table.specs.Tables.{Table, withinLimits, kindAt, pAt, qAt, firstLinkRoot, firstAgentRoot}
-use Rattle.table.specs.Nodes.{expressionRows, rowOf, isKeyKind, isNode, fields, fieldsOf, fieldsAt, rootNames, inner, fits, fitting, leftNode, rightNode, names, named, namesAgain, badNode}
-use Rattle.table.specs.Rules.{Limits, NamesByP, NamesByQ, inners, bodiesEnd, linksEnd, IsProcess, IsGuard, Row, Root, Node, Names, Again, Bad, Reaches, FromProcess, FromLink, Wrong}
+use Rattle.table.specs.Nodes.{expressionRows, rowOf, isKeyKind, isNode, fields, fieldsOf, fieldsAt, inner, fitting, leftNode, rightNode, names, named, namesAgain, badNode}
+use Rattle.table.specs.Rules.{Limits, NamesByP, NamesByQ, inners, bodiesEnd, linksEnd, Root, Node, Names, Again, Bad, Reaches, FromProcess, FromLink, Wrong}
 use Rattle.table.specs.Reach.{processNode, linkRoot, reaches, reachedFrom, wrongKey}
 use Rattle.table.specs.Sound.{Shaped}
 use Rattle.table.proofs.Limits.{within-limits, limits-within}
 use Rattle.table.proofs.Operands.{left-lower, right-lower, names-lower}
 use Rattle.table.proofs.Reaches.{ByLeft, ByRight, reaches-self, reaches-left, reaches-right, reaches-how, reached-by, reached-which}
-use Rattle.table.proofs.Promises.{not-bad, inner-fields, root-fields}
+use Rattle.table.proofs.Promises.{not-bad}
 use Rattle.table.proofs.Naming.{bad-unfit, bad-fit, bad-again}
-use Rattle.table.proofs.Rows.{and-iff, or-iff, not-iff, ltb-iff, leb-iff, eqb-iff, between-iff, left-iff, right-iff, Says, says-iff, says-row, row-says}
+use Rattle.table.proofs.Rows.{and-iff, or-iff, not-iff, ltb-iff, leb-iff, eqb-iff, between-iff, Says, row-says}
+use Rattle.table.proofs.Fitting.{by-p-iff, by-q-iff, names-iff, root-here, names-link, fit-node}
 
 pub within-iff : (n : Sizes) → (withinLimits n ≡ true) ↔ Limits n
 within-iff n = (within-limits n, limits-within n)
@@ -37,97 +38,6 @@ module _ (t : Table) where
 
   abbrev q : ℕ → ℕ
   q n = qAt t n
-
-  -- NODES. A node fits where its fields say so
-  fit-says : (n : ℕ) {f : Fields} → fieldsAt t n ≡ f → (fitting t n ≡ true) ↔ (Says t n (f .p) (p n) × Says t n (f .q) (q n))
-  unfolding fitting
-  fit-says n e =
-      subst (λ (f : Fields). (fitting t n ≡ true) ↔ (Says t n (f .p) (p n) × Says t n (f .q) (q n))) e
-      (and-iff (fits t n (fieldsAt t n .p) (p n)) (fits t n (fieldsAt t n .q) (q n)) (says-iff t n (fieldsAt t n .p) (p n)) (says-iff t n (fieldsAt t n .q) (q n)))
-
-  fit-row : (n : ℕ) → n < inners t → (fitting t n ≡ true) ↔ Row t n (k n) (p n) (q n)
-  fit-row n h =
-      let s = fit-says n (inner-fields t n h) in
-      (λ e. says-row t n (p n) (q n) (k n) (s .0 e .0) (s .0 e .1), λ r. s .1 (row-says t n r))
-
-  -- what roots name
-  module _ (limits : Limits (t .sizes)) (n : ℕ) where
-    names-body : n < bodiesEnd t → rootNames t n ≡ Process
-    names-body h = rw (lt-ltb n (firstLinkRoot t) (omega (arith, limits .roots)))
-
-    pub names-link : bodiesEnd t ≤ n → n < linksEnd t → rootNames t n ≡ Guard
-    names-link h l = rw (le-ltb n (firstLinkRoot t) (omega (arith, limits .roots)), lt-ltb n (firstAgentRoot t) (omega (arith, limits .roots)))
-
-    names-start : linksEnd t ≤ n → rootNames t n ≡ Process
-    names-start h = rw (le-ltb n (firstLinkRoot t) (omega (arith, limits .roots)), le-ltb n (firstAgentRoot t) (omega (arith, limits .roots)))
-
-    -- of every root, by its part
-    by-part : (A : Field → Type 0) → (n < bodiesEnd t → A Process) → (bodiesEnd t ≤ n → n < linksEnd t → A Guard) → (linksEnd t ≤ n → A Process) → A (rootNames t n)
-    by-part A f g h =
-        ⊎-elim (λ (a : n < bodiesEnd t). subst A (sym (names-body a)) (f a))
-        (λ (a : bodiesEnd t ≤ n).
-        ⊎-elim (λ (b : n < linksEnd t). subst A (sym (names-link a b)) (g a b)) (λ (b : linksEnd t ≤ n). subst A (sym (names-start b)) (h b)) (lt-or-le n (linksEnd t)))
-        (lt-or-le n (bodiesEnd t))
-
-    says-root : k n ≡ 64 → Says t n (rootNames t n) (p n) → q n ≡ 0 → Root t n
-    says-root e w z =
-        record {
-          kind = e;
-          lower = by-part (λ (f : Field). Says t n f (p n) → p n < n) (λ h v. v .0) (λ h l v. v .0) (λ h v. v .0) w;
-          body = λ h. subst (λ (f : Field). Says t n f (p n)) (names-body h) w .1;
-          link = λ h l. subst (λ (f : Field). Says t n f (p n)) (names-link h l) w .1;
-          start = λ h. subst (λ (f : Field). Says t n f (p n)) (names-start h) w .1;
-          nothing = z;
-        }
-
-    root-says : Root t n → Says t n (rootNames t n) (p n)
-    root-says r = by-part (λ (f : Field). Says t n f (p n)) (λ h. (r .lower, r .body h)) (λ h l. (r .lower, r .link h l)) (λ h. (r .lower, r .start h))
-
-    -- the fields of a root
-    pub root-here : inners t ≤ n → k n ≡ 64 → fieldsAt t n ≡ fields (rootNames t n) Zero
-    root-here h e = root-fields t n h ∙ ap (λ (b : Bool). cond b (fields (rootNames t n) Zero) (fields Never Never)) (eq-eqb (k n) 64 e)
-
-    fit-root : inners t ≤ n → (fitting t n ≡ true) ↔ Root t n
-    fit-root h = (λ e. by (eqb (k n) 64) refl (fit-says n (root-fields t n h) .0 e), λ r. fit-says n (root-here h (r .kind)) .1 (root-says r, r .nothing))
-      where
-        by : (b : Bool) → eqb (k n) 64 ≡ b
-            → (let f = cond b (fields (rootNames t n) Zero) (fields Never Never) in Says t n (f .p) (p n) × Says t n (f .q) (q n)) → Root t n
-        by true d w = says-root (eqb-true (k n) 64 d) (w .0) (w .1)
-        by false d w = absurd (w .0)
-
-    pub fit-node : (fitting t n ≡ true) ↔ Node t n
-    fit-node = (
-      λ e. record { inner = λ h. fit-row n h .0 e; root = λ h. fit-root h .0 e },
-      λ w. ⊎-elim (λ (h : n < inners t). fit-row n h .1 (w .inner h)) (λ (h : inners t ≤ n). fit-root h .1 (w .root h)) (lt-or-le n (inners t)),
-    )
-
-  -- NAMING, roots aside
-  module _ (n : ℕ) (h : n < inners t) where
-    pub by-p-iff : (leftNode t n ≡ true) ↔ NamesByP (k n)
-    by-p-iff = rw (inner-fields t n h) (left-iff (k n))
-
-    pub by-q-iff : (rightNode t n ≡ true) ↔ NamesByQ (k n)
-    by-q-iff = rw (inner-fields t n h) (right-iff (k n))
-
-    abbrev Either : ℕ → Type 0
-    Either m = (NamesByP (k n) × (p n ≡ m)) ⊎ (NamesByQ (k n) × (q n ≡ m))
-
-    either-iff : (m : ℕ) → (names t n m ≡ true) ↔ Either m
-    either-iff m =
-        or-iff (leftNode t n && eqb (p n) m) (rightNode t n && eqb (q n) m)
-        (and-iff (leftNode t n) (eqb (p n) m) by-p-iff (eqb-iff (p n) m))
-        (and-iff (rightNode t n) (eqb (q n) m) by-q-iff (eqb-iff (q n) m))
-
-    names-either : {m : ℕ} → Names t n m → Either m
-    names-either (Names.by-p a b) = inl (a, b)
-    names-either (Names.by-q a b) = inr (a, b)
-
-    pub names-iff : (m : ℕ) → (names t n m ≡ true) ↔ Names t n m
-    names-iff m = (
-      λ e.
-          ⊎-elim (λ (w : NamesByP (k n) × (p n ≡ m)). Names.by-p (w .0) (w .1)) (λ (w : NamesByQ (k n) × (q n ≡ m)). Names.by-q (w .0) (w .1)) (either-iff m .0 e),
-      λ w. either-iff m .1 (names-either w),
-    )
 
   -- a lower node names m
   abbrev Named : ℕ → ℕ → Type 0
@@ -148,10 +58,10 @@ module _ (t : Table) where
     named-iff m = (
       λ e.
           let w = some-witness (λ (j : ℕ). inner t j && names t j m) n e in
-          (w .0, w .1, names-iff (w .0) (omega (arith, w .1)) m .0 (and-right (inner t (w .0)) (names t (w .0) m) (w .2))),
+          (w .0, w .1, names-iff t (w .0) (omega (arith, w .1)) m .0 (and-right (inner t (w .0)) (names t (w .0) m) (w .2))),
       λ w.
           some-at (λ (j : ℕ). inner t j && names t j m) n (w .0) (w .1)
-          (and-both (inner t (w .0)) (names t (w .0) m) (lt-ltb (w .0) (inners t) (omega (arith, w .1))) (names-iff (w .0) (omega (arith, w .1)) m .1 (w .2))),
+          (and-both (inner t (w .0)) (names t (w .0) m) (lt-ltb (w .0) (inners t) (omega (arith, w .1))) (names-iff t (w .0) (omega (arith, w .1)) m .1 (w .2))),
     )
 
     abbrev L : Bool
@@ -163,10 +73,10 @@ module _ (t : Table) where
     ways-iff : (((L && named t n (p n)) || ((R && named t n (q n)) || (L && (R && eqb (p n) (q n))))) ≡ true) ↔ Ways n
     ways-iff =
         or-iff (L && named t n (p n)) ((R && named t n (q n)) || (L && (R && eqb (p n) (q n))))
-        (and-iff L (named t n (p n)) (by-p-iff n h) (named-iff (p n)))
+        (and-iff L (named t n (p n)) (by-p-iff t n h) (named-iff (p n)))
         (or-iff (R && named t n (q n)) (L && (R && eqb (p n) (q n)))
-        (and-iff R (named t n (q n)) (by-q-iff n h) (named-iff (q n)))
-        (and-iff L (R && eqb (p n) (q n)) (by-p-iff n h) (and-iff R (eqb (p n) (q n)) (by-q-iff n h) (eqb-iff (p n) (q n)))))
+        (and-iff R (named t n (q n)) (by-q-iff t n h) (named-iff (q n)))
+        (and-iff L (R && eqb (p n) (q n)) (by-p-iff t n h) (and-iff R (eqb (p n) (q n)) (by-q-iff t n h) (eqb-iff (p n) (q n)))))
 
     ways-again : Ways n → Again t n
     ways-again =
@@ -190,8 +100,8 @@ module _ (t : Table) where
   bad-iff limits n h = (
     λ e.
         ⊎-elim (λ (f : fitting t n ≡ true). inr (again-iff n .0 (sym (bad-fit t n f) ∙ e)))
-        (λ (f : fitting t n ≡ false). inl (λ w. not-both (fit-node limits n .1 w) f)) (either (fitting t n)),
-    ⊎-elim (λ (f : Node t n → ⊥). bad-unfit t n (is-false (fitting t n) (λ e. f (fit-node limits n .0 e))))
+        (λ (f : fitting t n ≡ false). inl (λ w. not-both (fit-node t limits n .1 w) f)) (either (fitting t n)),
+    ⊎-elim (λ (f : Node t n → ⊥). bad-unfit t n (is-false (fitting t n) (λ e. f (fit-node t limits n .0 e))))
         (λ (w : Again t n). bad-again t n (again-iff n .1 w)),
   )
 
@@ -204,7 +114,7 @@ module _ (t : Table) where
     fit n h = not-bad t n (good n h) .0
 
     node : (n : ℕ) → n < N → Node t n
-    node n h = fit-node (shaped .limits) n .0 (fit n h)
+    node n h = fit-node t (shaped .limits) n .0 (fit n h)
 
     sorted-inner : (n : ℕ) → n < N → k n < 64 → n < inners t
     sorted-inner n h l = ⊎-elim (λ (a : n < inners t). a) (λ (a : inners t ≤ n). absurd (omega (arith, node n h .root a .kind))) (lt-or-le n (inners t))
@@ -218,20 +128,20 @@ module _ (t : Table) where
         (⊎-elim
         (λ (w : ByLeft t fit n m).
         let d = left-lower t n f (w .0) in
-        Reaches.on (Names.by-p (by-p-iff n h .0 (w .0)) refl) (reaches-fact b (p n) m (omega arith) (omega arith) (w .1)))
+        Reaches.on (Names.by-p (by-p-iff t n h .0 (w .0)) refl) (reaches-fact b (p n) m (omega arith) (omega arith) (w .1)))
         (λ (w : ByRight t fit n m).
         let d = right-lower t n f (w .0) in
-        Reaches.on (Names.by-q (by-q-iff n h .0 (w .0)) refl) (reaches-fact b (q n) m (omega arith) (omega arith) (w .1))))
+        Reaches.on (Names.by-q (by-q-iff t n h .0 (w .0)) refl) (reaches-fact b (q n) m (omega arith) (omega arith) (w .1))))
         (reaches-how t fit n m (omega arith) e)
 
     by-named : (n m : ℕ) → n < inners t → {i : ℕ} → Names t n i → reaches t i m ≡ true → reaches t n m ≡ true
-    by-named n m h (Names.by-p a e) r = reaches-left t fit n m (omega arith) (by-p-iff n h .1 a) (ap (λ (x : ℕ). reaches t x m) e ∙ r)
-    by-named n m h (Names.by-q a e) r = reaches-right t fit n m (omega arith) (by-q-iff n h .1 a) (ap (λ (x : ℕ). reaches t x m) e ∙ r)
+    by-named n m h (Names.by-p a e) r = reaches-left t fit n m (omega arith) (by-p-iff t n h .1 a) (ap (λ (x : ℕ). reaches t x m) e ∙ r)
+    by-named n m h (Names.by-q a e) r = reaches-right t fit n m (omega arith) (by-q-iff t n h .1 a) (ap (λ (x : ℕ). reaches t x m) e ∙ r)
 
     fact-reaches : {n m : ℕ} → n < inners t → Reaches t n m → reaches t n m ≡ true
     fact-reaches {n} h Reaches.itself = reaches-self t fit n (omega arith)
     fact-reaches {n} {m} h (Reaches.on {m = i} w r) =
-        let l = names-lower t n (fit n (omega arith)) i (names-iff n h i .1 w) in
+        let l = names-lower t n (fit n (omega arith)) i (names-iff t n h i .1 w) in
         by-named n m h w (fact-reaches (omega arith) r)
 
     -- from a process node, which is no root
@@ -261,8 +171,8 @@ module _ (t : Table) where
 
       link-fields : fieldsAt t r ≡ fields Guard Zero
       link-fields =
-          root-here (shaped .limits) r (omega (arith, shaped .limits .roots)) (root .kind)
-          ∙ ap (λ (f : Field). fields f Zero) (names-link (shaped .limits) r a b)
+          root-here t (shaped .limits) r (omega (arith, shaped .limits .roots)) (root .kind)
+          ∙ ap (λ (f : Field). fields f Zero) (names-link t (shaped .limits) r a b)
 
       guard-inner : p r < inners t
       guard-inner = let g = root .link a b in sorted-inner (p r) (omega (arith, root .lower)) (omega arith)
