@@ -10,6 +10,5 @@ pub mod Members
 pub mod Inside
 pub mod Acceptance
 pub mod ByComputing
-pub mod TmpConditions
 pub mod Rules
 pub mod Overfull
