@@ -25,5 +25,6 @@ examples =
     }
 
 pub calls-refused : CallsRefused
-unfolding someBelow lowest below firstOf withinLimits processRows guardRows expressionRows rowOf fieldsHere fits named namesAgain fitting badNode reachStep reachedFrom wrongKey keep joins derivations nodeStep nodeWith defined nodeProcess canTick callsBelow
+unfolding someBelow lowest below firstOf withinLimits processRows guardRows expressionRows rowOf fieldsHere fits named
+    namesAgain fitting badNode reachStep reachedFrom wrongKey keep joins derivations nodeStep nodeWith defined nodeProcess canTick callsBelow
 calls-refused = record { lowest-definition = refl; right-exposed = refl; right-hidden = refl }

@@ -45,7 +45,8 @@ unfolding judgeBy
 judge-by bytes = refl
 
 doubled-counted : judgeBy (countedOver (tableOf doubled)) doubled ≡ refuses 7 1
-unfolding judgeBy countedOver someBelow lowest below firstOf withinLimits processRows guardRows expressionRows rowOf fieldsHere fits named namesAgain fitting badNode reachStep reachedFrom wrongKey nodeStep nodeWith defined nodeProcess canTick callsBelow actionCount tickCount
+unfolding judgeBy countedOver someBelow lowest below firstOf withinLimits processRows guardRows expressionRows rowOf fieldsHere fits
+    named namesAgain fitting badNode reachStep reachedFrom wrongKey nodeStep nodeWith defined nodeProcess canTick callsBelow actionCount tickCount
 doubled-counted = refl
 
 pub counts-refused : CountsRefused
