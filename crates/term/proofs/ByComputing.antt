@@ -1,4 +1,5 @@
--- The examples hold, by computing the definitions.
+-- The examples hold, by computing the definitions. (Files are checked by name: an edit of a definition meets its example here, before the laws.)
+-- Assumes nothing.
 use mathlib.Core.Path.{refl}
 use Rattle.basis.specs.Numbers.{someBelow, lowest}
 use Rattle.basis.specs.Below.{below}
