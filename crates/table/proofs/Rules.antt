@@ -17,7 +17,7 @@ use Rattle.table.specs.Tables.{Table, withinLimits, kindAt, pAt, qAt, fi
 use Rattle.table.specs.Nodes.{expressionRows, rowOf, isKeyKind, isNode, fields, fieldsOf, fieldsAt, inner, fitting, leftNode, rightNode, names, named, namesAgain, badNode}
 use Rattle.table.specs.Rules.{Limits, NamesByP, NamesByQ, inners, bodiesEnd, linksEnd, Root, Node, Names, Again, Bad, Reaches, FromProcess, FromLink, Wrong}
 use Rattle.table.specs.Reach.{processNode, linkRoot, reaches, reachedFrom, wrongKey}
-use Rattle.table.specs.Sound.{Shaped}
+use Rattle.table.specs.Sound.{Shaped, Ruled}
 use Rattle.table.proofs.Limits.{within-limits, limits-within}
 use Rattle.table.proofs.Operands.{left-lower, right-lower, names-lower}
 use Rattle.table.proofs.Reaches.{ByLeft, ByRight, reaches-self, reaches-left, reaches-right, reaches-how, reached-by, reached-which}
@@ -264,3 +264,6 @@ module _ (t : Table) where
             let w = wrong-tested v in
             and-both (isKeyKind (k n)) _ (between-iff 33 35 (k n) .1 (w .0, w .1)) (tests-iff (omega arith) .1 (w .2)),
       )
+
+pub ruled : (t : Table) → Ruled t
+ruled t = record { limits = within-iff (t .sizes); bad = bad-iff t; wrong = wrong-iff t }
