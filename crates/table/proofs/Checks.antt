@@ -11,7 +11,7 @@ use Rattle.basis.specs.Numbers.{lowest}
 use Rattle.basis.proofs.Numbers.{lowest-before, lowest-none}
 use Rattle.table.specs.Checks.{Check, passes, refuses, Refusal, firstOf, passed}
 
-refused : {number place : ℕ} → refuses number place ≡ passes → ⊥
+pub refused : {number place : ℕ} → refuses number place ≡ passes → ⊥
 refused e = let z : _≡_ {A = ℕ} 0 1 = cc in omega arith
 
 pub passed-passes : (c : Check) → passed c ≡ true → c ≡ passes

@@ -1,7 +1,10 @@
 pub mod Checks
+pub mod Conditions
 pub mod Tables
 pub mod Nodes
 pub mod Reach
+pub mod Rules
 pub mod Sound
 pub mod Measuring
 pub mod Marks
+pub mod Examples

@@ -4,5 +4,7 @@ pub mod Exposure
 pub mod Acceptance
 pub mod Choices
 pub mod Accepted
+pub mod Rules
 pub mod Parts
 pub mod Examples
+pub mod Refused
