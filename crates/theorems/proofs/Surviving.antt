@@ -2,32 +2,93 @@
 -- Assumes nothing.
 use Prim.Native.Nat.{ℕ, _<_, _≤_}
 use mathlib.Core.Path.{_≡_, refl, sym, ap, subst, _∙_}
-use mathlib.Core.Logic.{⊎-elim}
+use mathlib.Core.Logic.{inl, inr, ⊎-elim}
 use mathlib.Core.Option.{Option, none, some}
 use mathlib.Core.List.{List, [], _∷_, _++_}
 use native.Mathlib.Omega.{arith}
+use lib.Dec.{ltb→lt}
 use borrow.Author.Tests.{eq-eqb, ne-eqb}
 use Rattle.basis.proofs.Tests.{same-or-other}
-use Rattle.agreement.specs.Machine.{afterSteps}
-use Rattle.agreement.proofs.Machine.{afterSteps-append}
-use Rattle.table.specs.Checks.{Check, passes, refuses}
+use Rattle.agreement.specs.Machine.{afterSteps, turnsOf}
+use Rattle.agreement.specs.Order.{NotOlder}
+use Rattle.agreement.specs.View.{View}
+use Rattle.agreement.proofs.Machine.{afterSteps-append, view-steps, fresh-steps}
+use Rattle.agreement.proofs.Stamps.{stamp-order}
+use Rattle.agreement.proofs.Turns.{never-older}
+use Rattle.table.specs.Checks.{Check, passes, refuses, firstOf}
 use Rattle.table.specs.Tables.{tableOf}
-use Rattle.state.specs.Layout.{stampOf}
+use Rattle.term.specs.Acceptance.{tableChecks}
+use Rattle.term.proofs.Acceptance.{accepted-passes}
+use Rattle.state.specs.declared.Entry.{Entry}
+use Rattle.state.specs.Layout.{isWhole, stampOf}
+use Rattle.state.specs.Entries.{entryOf, newer}
 use Rattle.state.specs.WellFormed.{loaded}
+use Rattle.state.proofs.Formed.{ProperFacts}
+use Rattle.steps.specs.Tallies.{noTally}
+use Rattle.steps.specs.Steps.{Outcome, loadOf}
+use Rattle.steps.specs.Runs.{Progress}
 use Rattle.steps.specs.Shelves.{placeLimit, nameOf, savedOf}
 use Rattle.steps.specs.Kept.{Free, Held, OnlyAt, IsName}
+use Rattle.steps.proofs.Steps.{outcome-check, outcome-refused, load-accepted, accepted-load, state-checks, step-in, done-step, step-refused}
+use Rattle.steps.proofs.Proper.{load-proper, step-checked}
 use Rattle.steps.proofs.Shelves.{Own, own-held, own-saved}
 use Rattle.steps.proofs.Points.{saves, restores, drops}
-use Rattle.theorems.specs.Lists.{Step, next, stateAfter}
+use Rattle.theorems.specs.Lists.{Step, Line, outcomeOf, next, stateFrom, stateOf}
+use Rattle.theorems.specs.Run.{Run}
+use Rattle.theorems.specs.Demand2.{Bytes}
 use Rattle.theorems.specs.Demand3.{Demand-3}
-use Rattle.theorems.specs.Surviving.{Call, Element, step, save, restore, drop, checkOf, nextBuffers, keeping, keptOr, nextLines, Course, nextCourse, courseAfter, DoneRestore, Surviving, NoNames, Surviving-holds}
+use Rattle.theorems.specs.Surviving.{Scheduled, Call, Element, step, run, load, save, restore, drop, checkOf, nextBuffers, Lines, lines, more, stepsIn, keeping, keptOr, nextLines, Course, nextCourse, courseAfter, stateNext, DoneRestore, DoneLoad, Surviving, NoNames, Surviving-holds}
+use Rattle.theorems.proofs.Views.{stampIn}
+use Rattle.theorems.proofs.Lists.{machine, view-there}
+use Rattle.theorems.proofs.Run.{run-is}
 use Rattle.theorems.proofs.Demand3.{demand-3}
 
-none-not : {l : List Step} → none ≡ some l → ⊥
+-- STEPS FROM ANY STATE
+module _ (bytes : List ℕ) where
+  -- no agent's entry is older after them
+  not-older : (s : List ℕ) (xs : List Step) (a k : ℕ) → k < tableOf bytes .sizes .stigmergy → NotOlder newer (entryOf (stateFrom bytes s xs) a k) (entryOf s a k)
+  not-older s xs a k h =
+      let M = machine bytes in
+      let was : View Entry = M .view s k in
+      let is : View Entry = M .view (stateFrom bytes s xs) k in
+      let e = ap (λ (v : View Entry). v .entry a) (view-steps M s xs k tt) in
+      let n = never-older newer (stamp-order stampIn) (turnsOf (M .next) (M .turn) s xs k) was a (fresh-steps M s xs k tt) in
+      let m : NotOlder newer (is .entry a) (was .entry a) = subst (λ (r : Entry). NotOlder newer r (was .entry a)) (sym e) n in
+      subst (λ (v : View Entry). NotOlder newer (v .entry a) (entryOf s a k)) (view-there bytes (stateFrom bytes s xs) k h)
+      (subst (λ (v : View Entry). NotOlder newer (is .entry a) (v .entry a)) (view-there bytes s k h) m)
+
+  -- a state of words of 32 bits that is well formed leads to such states
+  module _ (small : Bytes bytes) where
+    next-proper : (s : List ℕ) (x : Step) → ProperFacts (tableOf bytes) s → ProperFacts (tableOf bytes) (next bytes s x)
+    next-proper s x p = by (outcomeOf bytes s x .check) refl
+      where
+        by : (c : Check) → outcomeOf bytes s x .check ≡ c → ProperFacts (tableOf bytes) (next bytes s x)
+        by passes e =
+            let d = done-step bytes s (x .scratch) (x .kind) (x .agent) (x .number) e in
+            let c = state-checks bytes s (x .scratch) .1 (d .accepted, d .formed) in
+            subst (λ (o : Outcome). ProperFacts (tableOf bytes) (o .state)) (sym (step-in bytes s (x .scratch) (x .kind) (x .agent) (x .number) c))
+            (step-checked bytes small s (p .small) (x .scratch) c (x .kind) (x .agent) (x .number))
+        by (refuses n place) e =
+            subst (λ (o : Outcome). ProperFacts (tableOf bytes) (o .state)) (sym (step-refused bytes s (x .scratch) (x .kind) (x .agent) (x .number) e)) p
+
+    steps-proper : (s : List ℕ) (xs : List Step) → ProperFacts (tableOf bytes) s → ProperFacts (tableOf bytes) (stateFrom bytes s xs)
+    steps-proper s [] p = p
+    steps-proper s (x ∷ xs) p = steps-proper (next bytes s x) xs (next-proper s x p)
+
+-- a refused load leaves the state as it came
+load-refused : (bytes was : List ℕ) (scratch n place : ℕ) → loadOf bytes was scratch .check ≡ refuses n place → loadOf bytes was scratch .state ≡ was
+load-refused bytes was scratch n place e =
+    let c = firstOf (tableChecks bytes (isWhole was) scratch) in
+    ap (λ (o : Outcome). o .state) (outcome-refused was noTally (loaded (tableOf bytes)) c (sym (outcome-check was noTally (loaded (tableOf bytes)) c) ∙ e))
+
+none-not : {l : Line} → none ≡ some l → ⊥
 none-not e = let z : _≡_ {A = ℕ} 0 1 = cc in omega arith
 
+some-same : {l k : Line} → some l ≡ some k → l ≡ k
+some-same e = cc
+
 -- what is kept under a name, and under another
-module _ (name : ℕ) (o : Option (List Step)) (kept : ℕ → Option (List Step)) (n : ℕ) where
+module _ (name : ℕ) (o : Option Line) (kept : ℕ → Option Line) (n : ℕ) where
   keeping-same : n ≡ name → keeping name o kept n ≡ o
   keeping-same e = rw (eq-eqb n name e)
 
@@ -35,37 +96,37 @@ module _ (name : ℕ) (o : Option (List Step)) (kept : ℕ → Option (List Step
   keeping-other d = rw (ne-eqb n name d)
 
 -- THE SHELF: every held state is what the line kept under its name gives, and a line is kept under held names alone
-record Shelved (bytes shelf : List ℕ) (kept : ℕ → Option (List Step)) : Type 0 where
-  held : (i : ℕ) → i < placeLimit → (Free shelf i → ⊥) → (l : List Step) × (kept (nameOf shelf i) ≡ some l) × (savedOf shelf i ≡ stateAfter bytes l)
-  named : (name : ℕ) (l : List Step) → kept name ≡ some l → IsName name × Held shelf name
+record Shelved (bytes shelf : List ℕ) (kept : ℕ → Option Line) : Type 0 where
+  held : (i : ℕ) → i < placeLimit → (Free shelf i → ⊥) → (l : Line) × (kept (nameOf shelf i) ≡ some l) × (savedOf shelf i ≡ stateOf bytes l)
+  named : (name : ℕ) (l : Line) → kept name ≡ some l → IsName name × Held shelf name
 
 -- what comes to a place, and what is kept under its name: both, or neither
-record Fresh (bytes : List ℕ) (name word : ℕ) (state : List ℕ) (o : Option (List Step)) : Type 0 where
-  held : (word ≡ 0 → ⊥) → (l : List Step) × (o ≡ some l) × (word ≡ name) × (state ≡ stateAfter bytes l)
-  kept : (l : List Step) → o ≡ some l → word ≡ name
+record Fresh (bytes : List ℕ) (name word : ℕ) (state : List ℕ) (o : Option Line) : Type 0 where
+  held : (word ≡ 0 → ⊥) → (l : Line) × (o ≡ some l) × (word ≡ name) × (state ≡ stateOf bytes l)
+  kept : (l : Line) → o ≡ some l → word ≡ name
 
-module _ (bytes shelf after : List ℕ) (name i word : ℕ) (state : List ℕ) (o : Option (List Step)) (kept : ℕ → Option (List Step)) where
+module _ (bytes shelf after : List ℕ) (name i word : ℕ) (state : List ℕ) (o : Option Line) (kept : ℕ → Option Line) where
   changed : IsName name → Own shelf name i → OnlyAt shelf i word state after → Fresh bytes name word state o → Shelved bytes shelf kept
       → Shelved bytes after (keeping name o kept)
   changed is own only fresh old = record { held = held; named = named }
     where
       held : (j : ℕ) → j < placeLimit → (Free after j → ⊥)
-          → (l : List Step) × (keeping name o kept (nameOf after j) ≡ some l) × (savedOf after j ≡ stateAfter bytes l)
+          → (l : Line) × (keeping name o kept (nameOf after j) ≡ some l) × (savedOf after j ≡ stateOf bytes l)
       held j h f = ⊎-elim here other (same-or-other j i)
         where
-          here : j ≡ i → (l : List Step) × (keeping name o kept (nameOf after j) ≡ some l) × (savedOf after j ≡ stateAfter bytes l)
+          here : j ≡ i → (l : Line) × (keeping name o kept (nameOf after j) ≡ some l) × (savedOf after j ≡ stateOf bytes l)
           here e =
               let n : nameOf after j ≡ word = ap (nameOf after) e ∙ only .name in
               let w = fresh .held (λ z. f (n ∙ z)) in
               (w .0, keeping-same name o kept (nameOf after j) (n ∙ w .2) ∙ w .1, ap (savedOf after) e ∙ only .state ∙ w .3)
 
-          other : (j ≡ i → ⊥) → (l : List Step) × (keeping name o kept (nameOf after j) ≡ some l) × (savedOf after j ≡ stateAfter bytes l)
+          other : (j ≡ i → ⊥) → (l : Line) × (keeping name o kept (nameOf after j) ≡ some l) × (savedOf after j ≡ stateOf bytes l)
           other d =
               let n = only .names j h d in
               let w = old .held j h (λ z. f (n ∙ z)) in
               (w .0, keeping-other name o kept (nameOf after j) (λ e. own .alone j h d (sym n ∙ e)) ∙ ap kept n ∙ w .1, only .states j h d ∙ w .2)
 
-      named : (n : ℕ) (l : List Step) → keeping name o kept n ≡ some l → IsName n × Held after n
+      named : (n : ℕ) (l : Line) → keeping name o kept n ≡ some l → IsName n × Held after n
       named n l f = ⊎-elim here other (same-or-other n name)
         where
           here : n ≡ name → IsName n × Held after n
@@ -82,31 +143,87 @@ module _ (bytes shelf after : List ℕ) (name i word : ℕ) (state : List ℕ) (
               (λ (z : nameOf shelf i ≡ name). d (sym m ∙ ap (nameOf shelf) e ∙ z)) (own .was) in
               (w .0, (w .1 .0, record { place = h .place; named = only .names (w .1 .0) (h .place) apart ∙ m }))
 
+-- every line starts at what load leaves
+record Starts (bytes : List ℕ) (l : Lines) : Type 0 where
+  line : l .line .start ≡ loaded (tableOf bytes)
+  kept : (name : ℕ) (k : Line) → l .kept name ≡ some k → k .start ≡ loaded (tableOf bytes)
+
+module _ (bytes : List ℕ) (l : Lines) (s : Starts bytes l) where
+  -- where one more line is kept, or none
+  starts-keeping : (name : ℕ) (o : Option Line) → ((k : Line) → o ≡ some k → k .start ≡ loaded (tableOf bytes)) → Starts bytes (lines (l .line) (keeping name o (l .kept)))
+  starts-keeping name o h = record {
+    line = s .line;
+    kept = λ n k e.
+        ⊎-elim (λ (d : n ≡ name). h k (sym (keeping-same name o (l .kept) n d) ∙ e)) (λ (d : n ≡ name → ⊥). s .kept n k (sym (keeping-other name o (l .kept) n d) ∙ e))
+        (same-or-other n name);
+  }
+
+  -- the line that a restore takes back
+  starts-kept : (o : Option Line) (name : ℕ) → l .kept name ≡ o → keptOr o (l .line) .start ≡ loaded (tableOf bytes)
+  starts-kept (some k) name e = s .kept name k e
+  starts-kept none name e = s .line
+
+  starts-next : (c : Check) (e : Element) → Starts bytes (nextLines bytes c l e)
+  starts-next c (step x) = record { line = s .line; kept = s .kept }
+  starts-next passes (run r) = record { line = s .line; kept = s .kept }
+  starts-next passes (load scratch) = record { line = refl; kept = s .kept }
+  starts-next passes (save q) = starts-keeping (q .name) (some (l .line)) (λ k e. ap (λ (k : Line). k .start) (sym (some-same e)) ∙ s .line)
+  starts-next passes (restore q) = record { line = starts-kept (l .kept (q .name)) (q .name) refl; kept = s .kept }
+  starts-next passes (drop q) = starts-keeping (q .name) none (λ k e. absurd (none-not e))
+  starts-next (refuses n place) (run r) = s
+  starts-next (refuses n place) (load scratch) = s
+  starts-next (refuses n place) (save q) = s
+  starts-next (refuses n place) (restore q) = s
+  starts-next (refuses n place) (drop q) = s
+
 -- STATE AND SHELF follow the lines
 record Follows (bytes : List ℕ) (c : Course) : Type 0 where
-  state : c .buffers .state ≡ stateAfter bytes (c .lines .line)
+  state : c .buffers .state ≡ stateOf bytes (c .lines .line)
   shelf : Shelved bytes (c .buffers .shelf) (c .lines .kept)
 
-module _ (bytes : List ℕ) where
-  grown : (l : List Step) (x : Step) → stateAfter bytes (l ++ (x ∷ [])) ≡ next bytes (stateAfter bytes l) x
-  grown l x = afterSteps-append (next bytes) (loaded (tableOf bytes)) l (x ∷ [])
+module _ (bytes : List ℕ) (small : Bytes bytes) (begun : ProperFacts (tableOf bytes) (loaded (tableOf bytes))) where
+  grown : (l : Line) (xs : List Step) → stateOf bytes (more l xs) ≡ stateFrom bytes (stateOf bytes l) xs
+  grown l xs = afterSteps-append (next bytes) (l .start) (l .steps) xs
 
-  module _ (c : Course) (f : Follows bytes c) where
+  module _ (c : Course) (f : Follows bytes c) (start : Starts bytes (c .lines)) where
     abbrev state : List ℕ
     state = c .buffers .state
 
     abbrev shelf : List ℕ
     shelf = c .buffers .shelf
 
-    abbrev line : List Step
+    abbrev line : Line
     line = c .lines .line
 
-    abbrev kept : ℕ → Option (List Step)
+    abbrev kept : ℕ → Option Line
     kept = c .lines .kept
 
     -- after an element that came to this check
     abbrev by : Check → Element → Course
-    by k e = record { buffers = nextBuffers bytes (c .buffers) e; lines = nextLines k (c .lines) e }
+    by k e = record { buffers = nextBuffers bytes (c .buffers) e; lines = nextLines bytes k (c .lines) e }
+
+    proper : ProperFacts (tableOf bytes) state
+    proper =
+        subst (ProperFacts (tableOf bytes)) (sym (f .state))
+        (steps-proper bytes small (line .start) (line .steps) (subst (ProperFacts (tableOf bytes)) (sym (start .line)) begun))
+
+    runs : (r : Scheduled) → Run bytes state (r .scratch) (r .schedule) (r .answers)
+    runs r = run-is bytes state (r .scratch) (r .schedule) (r .answers) small (proper .small)
+
+    -- a refused run leaves the state as it came
+    run-stays : (r : Scheduled) (n place : ℕ) → checkOf bytes (c .buffers) (run r) ≡ refuses n place → nextBuffers bytes (c .buffers) (run r) .state ≡ state
+    run-stays r n place e = ap (λ (p : Progress). p .state) (runs r .run-refused n place e)
+
+    after-run : (r : Scheduled) (k : Check) → checkOf bytes (c .buffers) (run r) ≡ k → Follows bytes (by k (run r))
+    after-run r passes e = record {
+      state = runs r .run-done e .state ∙ ap (λ (s : List ℕ). stateFrom bytes s (stepsIn r)) (f .state) ∙ sym (grown line (stepsIn r));
+      shelf = f .shelf;
+    }
+    after-run r (refuses n place) e = record { state = run-stays r n place e ∙ f .state; shelf = f .shelf }
+
+    after-load : (scratch : ℕ) (k : Check) → checkOf bytes (c .buffers) (load scratch) ≡ k → Follows bytes (by k (load scratch))
+    after-load scratch passes e = record { state = ap (λ (o : Outcome). o .state) (accepted-load bytes state scratch (load-accepted bytes state scratch e)); shelf = f .shelf }
+    after-load scratch (refuses n place) e = record { state = load-refused bytes state scratch n place e ∙ f .state; shelf = f .shelf }
 
     after-save : (q : Call) (k : Check) → checkOf bytes (c .buffers) (save q) ≡ k → Follows bytes (by k (save q))
     after-save q passes e =
@@ -129,7 +246,7 @@ module _ (bytes : List ℕ) where
         let n = w .1 .named in
         let h = f .shelf .held (w .0) (w .1 .place) (λ z. let y = sym n ∙ z in let p = u .2 .0 in omega arith) in
         let l : kept (q .name) ≡ some (h .0) = ap kept (sym n) ∙ h .1 in
-        record { state = w .2 ∙ h .2 ∙ ap (λ (o : Option (List Step)). stateAfter bytes (keptOr o line)) (sym l); shelf = f .shelf }
+        record { state = w .2 ∙ h .2 ∙ ap (λ (o : Option Line). stateOf bytes (keptOr o line)) (sym l); shelf = f .shelf }
     after-restore q (refuses n place) e = record { state = restores bytes (q .scratch) shelf (q .name) state .refused n place e ∙ f .state; shelf = f .shelf }
 
     after-drop : (q : Call) (k : Check) → checkOf bytes (c .buffers) (drop q) ≡ k → Follows bytes (by k (drop q))
@@ -146,48 +263,75 @@ module _ (bytes : List ℕ) where
     after-drop q (refuses n place) e = record { state = f .state; shelf = rw (drops bytes (q .scratch) shelf (q .name) .refused n place e) (f .shelf) }
 
     follows-next : (e : Element) → Follows bytes (nextCourse bytes c e)
-    follows-next (step x) = record { state = ap (λ (s : List ℕ). next bytes s x) (f .state) ∙ sym (grown line x); shelf = f .shelf }
+    follows-next (step x) = record { state = ap (λ (s : List ℕ). next bytes s x) (f .state) ∙ sym (grown line (x ∷ [])); shelf = f .shelf }
+    follows-next (run r) = after-run r (checkOf bytes (c .buffers) (run r)) refl
+    follows-next (load scratch) = after-load scratch (checkOf bytes (c .buffers) (load scratch)) refl
     follows-next (save q) = after-save q (checkOf bytes (c .buffers) (save q)) refl
     follows-next (restore q) = after-restore q (checkOf bytes (c .buffers) (restore q)) refl
     follows-next (drop q) = after-drop q (checkOf bytes (c .buffers) (drop q)) refl
 
-  follows : (c : Course) → Follows bytes c → (es : List Element) → Follows bytes (afterSteps (nextCourse bytes) c es)
-  follows c f [] = f
-  follows c f (e ∷ es) = follows (nextCourse bytes c e) (follows-next c f e) es
+    -- the words of an entry are older only after a restore or a load that is done
+    module _ (a k : ℕ) (l : k < tableOf bytes .sizes .stigmergy) where
+      abbrev NotOlderIn : List ℕ → Type 0
+      NotOlderIn s = NotOlder newer (entryOf s a k) (entryOf state a k)
+
+      abbrev Stays : Element → Type 0
+      Stays e = NotOlderIn (nextBuffers bytes (c .buffers) e .state)
+
+      unchanged : {s : List ℕ} → s ≡ state → NotOlderIn s
+      unchanged e = inl (ap (λ (s : List ℕ). entryOf s a k) e)
+
+      stays-run : (r : Scheduled) (d : Check) → checkOf bytes (c .buffers) (run r) ≡ d → Stays (run r)
+      stays-run r passes e = subst NotOlderIn (sym (runs r .run-done e .state)) (not-older bytes state (stepsIn r) a k l)
+      stays-run r (refuses n place) e = unchanged (run-stays r n place e)
+
+      stays-load : (scratch : ℕ) (d : Check) → checkOf bytes (c .buffers) (load scratch) ≡ d → (d ≡ passes → ⊥) → Stays (load scratch)
+      stays-load scratch passes e n = absurd (n refl)
+      stays-load scratch (refuses m place) e n = unchanged (load-refused bytes state scratch m place e)
+
+      stays-restore : (q : Call) (d : Check) → checkOf bytes (c .buffers) (restore q) ≡ d → (d ≡ passes → ⊥) → Stays (restore q)
+      stays-restore q passes e n = absurd (n refl)
+      stays-restore q (refuses m place) e n = unchanged (restores bytes (q .scratch) shelf (q .name) state .refused m place e)
+
+  follows : (c : Course) → Follows bytes c → Starts bytes (c .lines) → (es : List Element)
+      → Follows bytes (afterSteps (nextCourse bytes) c es) × Starts bytes (afterSteps (nextCourse bytes) c es .lines)
+  follows c f s [] = (f, s)
+  follows c f s (e ∷ es) = follows (nextCourse bytes c e) (follows-next c f s e) (starts-next bytes (c .lines) s (checkOf bytes (c .buffers) e) e) es
 
   module _ (demand : (xs : List Step) → Demand-3 bytes xs) (lent : List ℕ) (free : NoNames lent) (es : List Element) where
     abbrev course : Course
     course = courseAfter bytes lent es
 
-    there : Follows bytes course
+    there : Follows bytes course × Starts bytes (course .lines)
     there =
         follows (courseAfter bytes lent [])
-        (record { state = refl; shelf = record { held = λ i h n. absurd (n (free i h)); named = λ name l e. absurd (none-not e) } }) es
+        (record { state = refl; shelf = record { held = λ i h n. absurd (n (free i h)); named = λ name l e. absurd (none-not e) } })
+        (record { line = refl; kept = λ name l e. absurd (none-not e) }) es
 
-    stays : (e : Element) → (DoneRestore bytes lent es e → ⊥) → (a k : ℕ) → a < tableOf bytes .sizes .agents → k < tableOf bytes .sizes .stigmergy →
-        stampOf (course .buffers .state) a k ≤ stampOf (nextBuffers bytes (course .buffers) e .state) a k
-    stays (step x) n a k h l =
-        let line = course .lines .line in
-        let g = demand (line ++ (x ∷ [])) .never-fall line (x ∷ []) refl a k h l in
-        subst (λ (s : List ℕ). stampOf s a k ≤ stampOf (next bytes s x) a k) (sym (there .state)) (subst (λ (s : List ℕ). stampOf (stateAfter bytes line) a k ≤ stampOf s a k) (grown line x) g)
-    stays (save q) n a k h l = omega arith
-    stays (restore q) n a k h l = if-refused (checkOf bytes (course .buffers) (restore q)) refl
-      where
-        if-refused : (c : Check) → checkOf bytes (course .buffers) (restore q) ≡ c
-            → stampOf (course .buffers .state) a k ≤ stampOf (nextBuffers bytes (course .buffers) (restore q) .state) a k
-        if-refused passes e = absurd (n e)
-        if-refused (refuses m place) e = rw (restores bytes (q .scratch) (course .buffers .shelf) (q .name) (course .buffers .state) .refused m place e) (omega arith)
-    stays (drop q) n a k h l = omega arith
+    older : (e : Element) → (DoneRestore bytes lent es e → ⊥) → (DoneLoad bytes lent es e → ⊥) →
+        (a k : ℕ) → a < tableOf bytes .sizes .agents → k < tableOf bytes .sizes .stigmergy →
+        NotOlder newer (entryOf (stateNext bytes lent es e) a k) (entryOf (course .buffers .state) a k)
+    older (step x) n m a k h l = not-older bytes (course .buffers .state) (x ∷ []) a k l
+    older (run r) n m a k h l = stays-run course (there .0) (there .1) a k l r (checkOf bytes (course .buffers) (run r)) refl
+    older (load scratch) n m a k h l = stays-load course (there .0) (there .1) a k l scratch (checkOf bytes (course .buffers) (load scratch)) refl (λ e. m (tt, e))
+    older (save q) n m a k h l = inl refl
+    older (restore q) n m a k h l = stays-restore course (there .0) (there .1) a k l q (checkOf bytes (course .buffers) (restore q)) refl (λ e. n (tt, e))
+    older (drop q) n m a k h l = inl refl
 
     survives : Surviving bytes lent es
     survives =
         record {
-          state = there .state;
-          held = there .shelf .held;
-          kept = there .shelf .named;
-          demand-3 = demand (course .lines .line);
-          fall = stays;
+          state = there .0 .state;
+          held = there .0 .shelf .held;
+          kept = there .0 .shelf .named;
+          starts = there .1 .line;
+          kept-starts = there .1 .kept;
+          demand-3 = demand (course .lines .line .steps);
+          older = older;
+          fall = λ e load restore a k h l. ⊎-elim (λ f. omega (arith, ap stampIn f)) (λ t. omega (arith, ltb→lt)) (older e restore (λ d. load (d .0)) a k h l);
         }
 
 pub surviving : Surviving-holds
-surviving bytes lent scratch e shelf free es = survives bytes (demand-3 bytes lent scratch e .1) shelf free es
+surviving bytes lent scratch small e shelf free es =
+    let a = load-accepted bytes lent scratch e in
+    survives bytes small (load-proper bytes (isWhole lent) scratch (accepted-passes bytes (isWhole lent) scratch a)) (demand-3 bytes lent scratch e .1) shelf free es
