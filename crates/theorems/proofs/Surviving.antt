@@ -1,85 +1,41 @@
 -- Surviving lines: state and shelf are what the lines give, so demand 3 holds along them.
 -- Assumes nothing.
-use Prim.Native.Nat.{ℕ, _<_, _≤_}
+use Prim.Native.Nat.{ℕ, _<_}
 use mathlib.Core.Path.{_≡_, refl, sym, ap, subst, _∙_}
-use mathlib.Core.Logic.{inl, inr, ⊎-elim}
+use mathlib.Core.Logic.{inl, ⊎-elim}
 use mathlib.Core.Option.{Option, none, some}
 use mathlib.Core.List.{List, [], _∷_, _++_}
 use native.Mathlib.Omega.{arith}
 use lib.Dec.{ltb→lt}
 use borrow.Author.Tests.{eq-eqb, ne-eqb}
 use Rattle.basis.proofs.Tests.{same-or-other}
-use Rattle.agreement.specs.Machine.{afterSteps, turnsOf}
+use Rattle.agreement.specs.Machine.{afterSteps}
 use Rattle.agreement.specs.Order.{NotOlder}
-use Rattle.agreement.specs.View.{View}
-use Rattle.agreement.proofs.Machine.{afterSteps-append, view-steps, fresh-steps}
-use Rattle.agreement.proofs.Stamps.{stamp-order}
-use Rattle.agreement.proofs.Turns.{never-older}
-use Rattle.table.specs.Checks.{Check, passes, refuses, firstOf}
+use Rattle.agreement.proofs.Machine.{afterSteps-append}
+use Rattle.table.specs.Checks.{Check, passes, refuses}
 use Rattle.table.specs.Tables.{tableOf}
-use Rattle.term.specs.Acceptance.{tableChecks}
 use Rattle.term.proofs.Acceptance.{accepted-passes}
-use Rattle.state.specs.declared.Entry.{Entry}
-use Rattle.state.specs.Layout.{isWhole, stampOf}
+use Rattle.state.specs.Layout.{isWhole}
 use Rattle.state.specs.Entries.{entryOf, newer}
 use Rattle.state.specs.WellFormed.{loaded}
 use Rattle.state.proofs.Formed.{ProperFacts}
-use Rattle.steps.specs.Tallies.{noTally}
-use Rattle.steps.specs.Steps.{Outcome, loadOf}
+use Rattle.steps.specs.Steps.{Outcome}
 use Rattle.steps.specs.Runs.{Progress}
 use Rattle.steps.specs.Shelves.{placeLimit, nameOf, savedOf}
 use Rattle.steps.specs.Kept.{Free, Held, OnlyAt, IsName}
-use Rattle.steps.proofs.Steps.{outcome-check, outcome-refused, load-accepted, accepted-load, state-checks, step-in, done-step, step-refused}
-use Rattle.steps.proofs.Proper.{load-proper, step-checked}
+use Rattle.steps.proofs.Steps.{load-accepted, accepted-load}
+use Rattle.steps.proofs.Proper.{load-proper}
 use Rattle.steps.proofs.Shelves.{Own, own-held, own-saved}
 use Rattle.steps.proofs.Points.{saves, restores, drops}
-use Rattle.theorems.specs.Lists.{Step, Line, outcomeOf, next, stateFrom, stateOf}
+use Rattle.theorems.specs.Lists.{Step, Line, next, stateFrom, stateOf}
 use Rattle.theorems.specs.Run.{Run}
 use Rattle.theorems.specs.Demand2.{Bytes}
 use Rattle.theorems.specs.Demand3.{Demand-3}
 use Rattle.theorems.specs.Surviving.{Scheduled, Call, Element, step, run, load, save, restore, drop, checkOf, nextBuffers, Lines, lines, more, stepsIn, keeping, keptOr, nextLines, Course, nextCourse, courseAfter, stateNext, DoneRestore, DoneLoad, Surviving, NoNames, Surviving-holds}
 use Rattle.theorems.proofs.Views.{stampIn}
-use Rattle.theorems.proofs.Lists.{machine, view-there}
+use Rattle.theorems.proofs.Reached.{not-older, steps-proper, load-refused}
 use Rattle.theorems.proofs.Run.{run-is}
 use Rattle.theorems.proofs.Demand3.{demand-3}
-
--- STEPS FROM ANY STATE
-module _ (bytes : List ℕ) where
-  -- no agent's entry is older after them
-  not-older : (s : List ℕ) (xs : List Step) (a k : ℕ) → k < tableOf bytes .sizes .stigmergy → NotOlder newer (entryOf (stateFrom bytes s xs) a k) (entryOf s a k)
-  not-older s xs a k h =
-      let M = machine bytes in
-      let was : View Entry = M .view s k in
-      let is : View Entry = M .view (stateFrom bytes s xs) k in
-      let e = ap (λ (v : View Entry). v .entry a) (view-steps M s xs k tt) in
-      let n = never-older newer (stamp-order stampIn) (turnsOf (M .next) (M .turn) s xs k) was a (fresh-steps M s xs k tt) in
-      let m : NotOlder newer (is .entry a) (was .entry a) = subst (λ (r : Entry). NotOlder newer r (was .entry a)) (sym e) n in
-      subst (λ (v : View Entry). NotOlder newer (v .entry a) (entryOf s a k)) (view-there bytes (stateFrom bytes s xs) k h)
-      (subst (λ (v : View Entry). NotOlder newer (is .entry a) (v .entry a)) (view-there bytes s k h) m)
-
-  -- a state of words of 32 bits that is well formed leads to such states
-  module _ (small : Bytes bytes) where
-    next-proper : (s : List ℕ) (x : Step) → ProperFacts (tableOf bytes) s → ProperFacts (tableOf bytes) (next bytes s x)
-    next-proper s x p = by (outcomeOf bytes s x .check) refl
-      where
-        by : (c : Check) → outcomeOf bytes s x .check ≡ c → ProperFacts (tableOf bytes) (next bytes s x)
-        by passes e =
-            let d = done-step bytes s (x .scratch) (x .kind) (x .agent) (x .number) e in
-            let c = state-checks bytes s (x .scratch) .1 (d .accepted, d .formed) in
-            subst (λ (o : Outcome). ProperFacts (tableOf bytes) (o .state)) (sym (step-in bytes s (x .scratch) (x .kind) (x .agent) (x .number) c))
-            (step-checked bytes small s (p .small) (x .scratch) c (x .kind) (x .agent) (x .number))
-        by (refuses n place) e =
-            subst (λ (o : Outcome). ProperFacts (tableOf bytes) (o .state)) (sym (step-refused bytes s (x .scratch) (x .kind) (x .agent) (x .number) e)) p
-
-    steps-proper : (s : List ℕ) (xs : List Step) → ProperFacts (tableOf bytes) s → ProperFacts (tableOf bytes) (stateFrom bytes s xs)
-    steps-proper s [] p = p
-    steps-proper s (x ∷ xs) p = steps-proper (next bytes s x) xs (next-proper s x p)
-
--- a refused load leaves the state as it came
-load-refused : (bytes was : List ℕ) (scratch n place : ℕ) → loadOf bytes was scratch .check ≡ refuses n place → loadOf bytes was scratch .state ≡ was
-load-refused bytes was scratch n place e =
-    let c = firstOf (tableChecks bytes (isWhole was) scratch) in
-    ap (λ (o : Outcome). o .state) (outcome-refused was noTally (loaded (tableOf bytes)) c (sym (outcome-check was noTally (loaded (tableOf bytes)) c) ∙ e))
 
 none-not : {l : Line} → none ≡ some l → ⊥
 none-not e = let z : _≡_ {A = ℕ} 0 1 = cc in omega arith
@@ -270,7 +226,7 @@ module _ (bytes : List ℕ) (small : Bytes bytes) (begun : ProperFacts (tableOf 
     follows-next (restore q) = after-restore q (checkOf bytes (c .buffers) (restore q)) refl
     follows-next (drop q) = after-drop q (checkOf bytes (c .buffers) (drop q)) refl
 
-    -- the words of an entry are older only after a restore or a load that is done
+    -- an entry is older only after a restore or a load that is done
     module _ (a k : ℕ) (l : k < tableOf bytes .sizes .stigmergy) where
       abbrev NotOlderIn : List ℕ → Type 0
       NotOlderIn s = NotOlder newer (entryOf s a k) (entryOf state a k)
