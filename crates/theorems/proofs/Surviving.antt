@@ -31,7 +31,7 @@ use Rattle.theorems.specs.Lists.{Step, Line, next, stateFrom, stateOf}
 use Rattle.theorems.specs.Run.{Run}
 use Rattle.theorems.specs.Demand2.{Bytes}
 use Rattle.theorems.specs.Demand3.{Demand-3}
-use Rattle.theorems.specs.Surviving.{Scheduled, Call, Element, step, run, load, save, restore, drop, checkOf, nextBuffers, Lines, lines, more, stepsIn, keeping, keptOr, nextLines, Course, nextCourse, courseAfter, stateNext, DoneRestore, DoneLoad, Surviving, NoNames, Surviving-holds}
+use Rattle.theorems.specs.Surviving.{Scheduled, Call, Element, step, run, load, save, restore, drop, checkOf, nextBuffers, Lines, lines, more, stepsIn, keeping, keptOr, nextLines, Course, nextCourse, courseAfter, IsRestore, IsLoad, Surviving, NoNames, Surviving-holds}
 use Rattle.theorems.proofs.Views.{stampIn}
 use Rattle.theorems.proofs.Reached.{not-older, steps-proper, load-refused}
 use Rattle.theorems.proofs.Run.{run-is}
@@ -103,34 +103,6 @@ module _ (bytes shelf after : List ℕ) (name i word : ℕ) (state : List ℕ) (
 record Starts (bytes : List ℕ) (l : Lines) : Type 0 where
   line : l .line .start ≡ loaded (tableOf bytes)
   kept : (name : ℕ) (k : Line) → l .kept name ≡ some k → k .start ≡ loaded (tableOf bytes)
-
-module _ (bytes : List ℕ) (l : Lines) (s : Starts bytes l) where
-  -- where one more line is kept, or none
-  starts-keeping : (name : ℕ) (o : Option Line) → ((k : Line) → o ≡ some k → k .start ≡ loaded (tableOf bytes)) → Starts bytes (lines (l .line) (keeping name o (l .kept)))
-  starts-keeping name o h = record {
-    line = s .line;
-    kept = λ n k e.
-        ⊎-elim (λ (d : n ≡ name). h k (sym (keeping-same name o (l .kept) n d) ∙ e)) (λ (d : n ≡ name → ⊥). s .kept n k (sym (keeping-other name o (l .kept) n d) ∙ e))
-        (same-or-other n name);
-  }
-
-  -- the line that a restore takes back
-  starts-kept : (o : Option Line) (name : ℕ) → l .kept name ≡ o → keptOr o (l .line) .start ≡ loaded (tableOf bytes)
-  starts-kept (some k) name e = s .kept name k e
-  starts-kept none name e = s .line
-
-  starts-next : (c : Check) (e : Element) → Starts bytes (nextLines bytes c l e)
-  starts-next c (step x) = record { line = s .line; kept = s .kept }
-  starts-next passes (run r) = record { line = s .line; kept = s .kept }
-  starts-next passes (load scratch) = record { line = refl; kept = s .kept }
-  starts-next passes (save q) = starts-keeping (q .name) (some (l .line)) (λ k e. ap (λ (k : Line). k .start) (sym (some-same e)) ∙ s .line)
-  starts-next passes (restore q) = record { line = starts-kept (l .kept (q .name)) (q .name) refl; kept = s .kept }
-  starts-next passes (drop q) = starts-keeping (q .name) none (λ k e. absurd (none-not e))
-  starts-next (refuses n place) (run r) = s
-  starts-next (refuses n place) (load scratch) = s
-  starts-next (refuses n place) (save q) = s
-  starts-next (refuses n place) (restore q) = s
-  starts-next (refuses n place) (drop q) = s
 
 -- STATE AND SHELF follow the lines
 record Follows (bytes : List ℕ) (c : Course) : Type 0 where
@@ -234,25 +206,59 @@ module _ (bytes : List ℕ) (small : Bytes bytes) (begun : ProperFacts (tableOf 
       abbrev Stays : Element → Type 0
       Stays e = NotOlderIn (nextBuffers bytes (c .buffers) e .state)
 
-      unchanged : {s : List ℕ} → s ≡ state → NotOlderIn s
-      unchanged e = inl (ap (λ (s : List ℕ). entryOf s a k) e)
+      -- so it is where a done element stays so, and a refused one leaves the state as it came
+      stays : (e : Element) → (checkOf bytes (c .buffers) e ≡ passes → Stays e)
+          → ((n place : ℕ) → checkOf bytes (c .buffers) e ≡ refuses n place → nextBuffers bytes (c .buffers) e .state ≡ state)
+          → (d : Check) → checkOf bytes (c .buffers) e ≡ d → Stays e
+      stays e f g passes d = f d
+      stays e f g (refuses n place) d = inl (ap (λ (s : List ℕ). entryOf s a k) (g n place d))
 
-      stays-run : (r : Scheduled) (d : Check) → checkOf bytes (c .buffers) (run r) ≡ d → Stays (run r)
-      stays-run r passes e = subst NotOlderIn (sym (runs r .run-done e .state)) (not-older bytes state (stepsIn r) a k l)
-      stays-run r (refuses n place) e = unchanged (run-stays r n place e)
+      not-older-next : (e : Element) → (IsRestore e × (checkOf bytes (c .buffers) e ≡ passes) → ⊥)
+          → (IsLoad e × (checkOf bytes (c .buffers) e ≡ passes) → ⊥) → Stays e
+      not-older-next (step x) m n = not-older bytes state (x ∷ []) a k l
+      not-older-next (run r) m n =
+          stays (run r) (λ e. subst NotOlderIn (sym (runs r .run-done e .state)) (not-older bytes state (stepsIn r) a k l)) (run-stays r) (checkOf bytes (c .buffers) (run r)) refl
+      not-older-next (load scratch) m n =
+          stays (load scratch) (λ e. absurd (n (tt, e))) (load-refused bytes state scratch) (checkOf bytes (c .buffers) (load scratch)) refl
+      not-older-next (save q) m n = inl refl
+      not-older-next (restore q) m n =
+          stays (restore q) (λ e. absurd (m (tt, e))) (restores bytes (q .scratch) shelf (q .name) state .refused) (checkOf bytes (c .buffers) (restore q)) refl
+      not-older-next (drop q) m n = inl refl
 
-      stays-load : (scratch : ℕ) (d : Check) → checkOf bytes (c .buffers) (load scratch) ≡ d → (d ≡ passes → ⊥) → Stays (load scratch)
-      stays-load scratch passes e n = absurd (n refl)
-      stays-load scratch (refuses m place) e n = unchanged (load-refused bytes state scratch m place e)
+-- AND THE LINES still start there
+module _ (bytes : List ℕ) (l : Lines) (s : Starts bytes l) where
+  -- where one more line is kept, or none
+  starts-keeping : (name : ℕ) (o : Option Line) → ((k : Line) → o ≡ some k → k .start ≡ loaded (tableOf bytes)) → Starts bytes (lines (l .line) (keeping name o (l .kept)))
+  starts-keeping name o h = record {
+    line = s .line;
+    kept = λ n k e.
+        ⊎-elim (λ (d : n ≡ name). h k (sym (keeping-same name o (l .kept) n d) ∙ e)) (λ (d : n ≡ name → ⊥). s .kept n k (sym (keeping-other name o (l .kept) n d) ∙ e))
+        (same-or-other n name);
+  }
 
-      stays-restore : (q : Call) (d : Check) → checkOf bytes (c .buffers) (restore q) ≡ d → (d ≡ passes → ⊥) → Stays (restore q)
-      stays-restore q passes e n = absurd (n refl)
-      stays-restore q (refuses m place) e n = unchanged (restores bytes (q .scratch) shelf (q .name) state .refused m place e)
+  -- the line that a restore takes back
+  starts-kept : (o : Option Line) (name : ℕ) → l .kept name ≡ o → keptOr o (l .line) .start ≡ loaded (tableOf bytes)
+  starts-kept (some k) name e = s .kept name k e
+  starts-kept none name e = s .line
 
+  starts-next : (c : Check) (e : Element) → Starts bytes (nextLines bytes c l e)
+  starts-next c (step x) = record { line = s .line; kept = s .kept }
+  starts-next passes (run r) = record { line = s .line; kept = s .kept }
+  starts-next passes (load scratch) = record { line = refl; kept = s .kept }
+  starts-next passes (save q) = starts-keeping (q .name) (some (l .line)) (λ k e. ap (λ (k : Line). k .start) (sym (some-same e)) ∙ s .line)
+  starts-next passes (restore q) = record { line = starts-kept (l .kept (q .name)) (q .name) refl; kept = s .kept }
+  starts-next passes (drop q) = starts-keeping (q .name) none (λ k e. absurd (none-not e))
+  starts-next (refuses n place) (run r) = record { line = s .line; kept = s .kept }
+  starts-next (refuses n place) (load scratch) = s
+  starts-next (refuses n place) (save q) = s
+  starts-next (refuses n place) (restore q) = s
+  starts-next (refuses n place) (drop q) = s
+
+module _ (bytes : List ℕ) (small : Bytes bytes) (begun : ProperFacts (tableOf bytes) (loaded (tableOf bytes))) where
   follows : (c : Course) → Follows bytes c → Starts bytes (c .lines) → (es : List Element)
       → Follows bytes (afterSteps (nextCourse bytes) c es) × Starts bytes (afterSteps (nextCourse bytes) c es .lines)
   follows c f s [] = (f, s)
-  follows c f s (e ∷ es) = follows (nextCourse bytes c e) (follows-next c f s e) (starts-next bytes (c .lines) s (checkOf bytes (c .buffers) e) e) es
+  follows c f s (e ∷ es) = follows (nextCourse bytes c e) (follows-next bytes small begun c f s e) (starts-next bytes (c .lines) s (checkOf bytes (c .buffers) e) e) es
 
   module _ (demand : (xs : List Step) → Demand-3 bytes xs) (lent : List ℕ) (free : NoNames lent) (es : List Element) where
     abbrev course : Course
@@ -264,16 +270,6 @@ module _ (bytes : List ℕ) (small : Bytes bytes) (begun : ProperFacts (tableOf 
         (record { state = refl; shelf = record { held = λ i h n. absurd (n (free i h)); named = λ name l e. absurd (none-not e) } })
         (record { line = refl; kept = λ name l e. absurd (none-not e) }) es
 
-    older : (e : Element) → (DoneRestore bytes lent es e → ⊥) → (DoneLoad bytes lent es e → ⊥) →
-        (a k : ℕ) → a < tableOf bytes .sizes .agents → k < tableOf bytes .sizes .stigmergy →
-        NotOlder newer (entryOf (stateNext bytes lent es e) a k) (entryOf (course .buffers .state) a k)
-    older (step x) n m a k h l = not-older bytes (course .buffers .state) (x ∷ []) a k l
-    older (run r) n m a k h l = stays-run course (there .0) (there .1) a k l r (checkOf bytes (course .buffers) (run r)) refl
-    older (load scratch) n m a k h l = stays-load course (there .0) (there .1) a k l scratch (checkOf bytes (course .buffers) (load scratch)) refl (λ e. m (tt, e))
-    older (save q) n m a k h l = inl refl
-    older (restore q) n m a k h l = stays-restore course (there .0) (there .1) a k l q (checkOf bytes (course .buffers) (restore q)) refl (λ e. n (tt, e))
-    older (drop q) n m a k h l = inl refl
-
     survives : Surviving bytes lent es
     survives =
         record {
@@ -283,8 +279,9 @@ module _ (bytes : List ℕ) (small : Bytes bytes) (begun : ProperFacts (tableOf 
           starts = there .1 .line;
           kept-starts = there .1 .kept;
           demand-3 = demand (course .lines .line .steps);
-          older = older;
-          fall = λ e load restore a k h l. ⊎-elim (λ f. omega (arith, ap stampIn f)) (λ t. omega (arith, ltb→lt)) (older e restore (λ d. load (d .0)) a k h l);
+          older = λ e m n a k h l. not-older-next bytes small begun course (there .0) (there .1) a k l e m n;
+          fall = λ e m n a k h l.
+              ⊎-elim (λ f. omega (arith, ap stampIn f)) (λ t. omega (arith, ltb→lt)) (not-older-next bytes small begun course (there .0) (there .1) a k l e n (λ d. m (d .0)));
         }
 
 pub surviving : Surviving-holds
