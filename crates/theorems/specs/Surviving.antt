@@ -156,14 +156,14 @@ module _ (bytes shelf : List ℕ) (es : List Element) where
   abbrev pub keptLine : ℕ → Option Line
   keptLine = courseAfter bytes shelf es .lines .kept
 
-  -- element e comes next: it is done; the state after it
+  -- ELEMENT e COMES NEXT. It is done; the state after it
   abbrev pub IsDone : Element → Type 0
   IsDone e = checkOf bytes (courseAfter bytes shelf es .buffers) e ≡ passes
 
   abbrev pub stateNext : Element → List ℕ
   stateNext e = nextBuffers bytes (courseAfter bytes shelf es .buffers) e .state
 
-  -- and is a restore that is done, or a load
+  -- it is a restore that is done; it is a load that is done
   abbrev pub DoneRestore : Element → Type 0
   DoneRestore e = IsRestore e × IsDone e
 
@@ -187,7 +187,7 @@ module _ (bytes shelf : List ℕ) (es : List Element) where
     pub older : (e : Element) → (DoneRestore e → ⊥) → (DoneLoad e → ⊥) →
         (a k : ℕ) → a < tableOf bytes .sizes .agents → k < tableOf bytes .sizes .stigmergy →
         NotOlder newer (entryOf (stateNext e) a k) (entryOf stateThen a k)
-    -- of lists without load: stamps fall only at a restore that is done. What is asked is that e is no load; what came before it may be any list
+    -- of lists without load: stamps fall only at a restore that is done. That no element is a load is asked of e alone, whatever came before it
     pub fall : (e : Element) → (IsLoad e → ⊥) → (DoneRestore e → ⊥) →
         (a k : ℕ) → a < tableOf bytes .sizes .agents → k < tableOf bytes .sizes .stigmergy →
         stampOf stateThen a k ≤ stampOf (stateNext e) a k
