@@ -101,7 +101,8 @@ impl List {
             Element::Run(ref steps, room) => {
                 answers = vec![99; room];
                 let schedule = schedule::write(steps);
-                brief(reference::run(table, state, scratch, &schedule, &mut answers)).0
+                let answer = reference::run(table, state, scratch, &schedule, &mut answers);
+                brief(answer).0
             }
             Element::Load => brief(reference::load(table, state, scratch)).0,
             Element::Shelf(call, name) => {
@@ -368,7 +369,11 @@ fn a_list_by_hand() {
         // A load keeps the shelf; a run without room for its answers adds nothing, and one with room its done steps.
         (Element::Load, vec![], vec![6]),
         (Element::Run(vec![act], 0), vec![], vec![6]),
-        (Element::Run(vec![propagate, act, act], 3), vec![act], vec![6]),
+        (
+            Element::Run(vec![propagate, act, act], 3),
+            vec![act],
+            vec![6],
+        ),
         (
             Element::Shelf(ShelfCall::Restore, 6),
             vec![act, propagate],
