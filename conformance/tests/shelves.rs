@@ -45,8 +45,11 @@ impl Seen {
 }
 
 /// What elements of lists come to: done, and refusals of calls on the shelf.
-const COUNTED: [&str; 10] = [
+const COUNTED: [&str; 13] = [
     "step",
+    "run",
+    "load",
+    "load with which stamps fall",
     "save under a new name",
     "save under a held name",
     "save on a full shelf",
@@ -61,11 +64,16 @@ const COUNTED: [&str; 10] = [
 type Counted = BTreeMap<&'static str, usize>;
 
 /// What an element came to, on a shelf of these names.
-fn counted(element: Element, refusal: u8, names: &[u32], falls: bool) -> &'static str {
+fn counted(element: &Element, refusal: u8, names: &[u32], falls: bool) -> &'static str {
     match (element, refusal) {
         (Element::Step(_), 0) => "step",
         (Element::Step(_), _) => "refused step",
-        (Element::Shelf(ShelfCall::Save, name), 0) if !names.contains(&name) => {
+        (Element::Run(..), 0) => "run",
+        (Element::Run(..), _) => "refused run",
+        (Element::Load, 0) if falls => "load with which stamps fall",
+        (Element::Load, 0) => "load",
+        (Element::Load, _) => "refused load",
+        (Element::Shelf(ShelfCall::Save, name), 0) if !names.contains(name) => {
             "save under a new name"
         }
         (Element::Shelf(ShelfCall::Save, _), 0) if names.contains(&0) => "save under a held name",
@@ -109,22 +117,30 @@ impl List {
     }
 
     /// The library's answer to an element: its refusal, or 0.
-    fn perform(&mut self, element: Element, scratch: usize, which: &str) -> u8 {
+    fn perform(&mut self, element: &Element, scratch: usize, which: &str) -> u8 {
         let (table, state) = (self.table.clone(), self.state.clone());
-        let refusal = match element {
-            Element::Step(step) => {
-                let case = Case {
-                    table,
-                    state,
-                    fill: 0,
-                    scratch,
-                    call: Call::Step(step),
-                };
-                let given = call_on_state(&case);
-                assert!(given == expected(&case), "{which}: {step:?}");
-                self.state = given.state.clone();
-                given.refusal() as u8
-            }
+        let mut answers = Vec::new();
+        let mut on_state = |call: Call| {
+            let case = Case {
+                table: table.clone(),
+                state: state.clone(),
+                fill: 0,
+                scratch,
+                call,
+            };
+            let given = call_on_state(&case);
+            assert!(given == expected(&case), "{which}: {element:?}");
+            self.state = given.state.clone();
+            answers = given.answers.clone();
+            given.refusal() as u8
+        };
+        let refusal = match *element {
+            Element::Step(step) => on_state(Call::Step(step)),
+            Element::Run(ref steps, room) => on_state(Call::Run {
+                schedule: schedule::write(steps),
+                answers: room,
+            }),
+            Element::Load => on_state(Call::Load),
             Element::Shelf(call, name) => {
                 let case = ShelfCase {
                     call,
@@ -141,7 +157,7 @@ impl List {
             }
         };
         if refusal == 0 {
-            self.lines.add(element);
+            self.lines.add(element, &answers);
         }
         refusal
     }
@@ -203,20 +219,24 @@ fn rehearse(index: u64, seen: &mut Counted) {
         } else {
             2 * nodes
         };
-        let refusal = list.perform(element, scratch, &format!("list {index}, element {i}"));
+        let refusal = list.perform(&element, scratch, &format!("list {index}, element {i}"));
         let falls = fallen(&before, &list.world()) > 0;
         let restored = matches!(element, Element::Shelf(ShelfCall::Restore, _)) && refusal == 0;
-        assert!(restored || !falls, "a stamp fell in list {index} at {i}");
+        let loaded = matches!(element, Element::Load) && refusal == 0;
+        assert!(
+            restored || loaded || !falls,
+            "a stamp fell in list {index} at {i}"
+        );
         assert!(!restored || list.holds(), "list {index} at {i}");
         *seen
-            .entry(counted(element, refusal, &names, falls))
+            .entry(counted(&element, refusal, &names, falls))
             .or_default() += 1;
     }
     assert!(list.holds(), "list {index}");
 }
 
 #[test]
-fn lists_of_steps_saves_restores_and_drops() {
+fn lists_of_steps_runs_loads_saves_restores_and_drops() {
     let mut seen = Counted::default();
     for index in 0..240 {
         rehearse(index, &mut seen);

@@ -1,5 +1,5 @@
-//! Lists of steps, saves, restores and drops, and the line of steps that
-//! survives in them.
+//! Lists of steps, runs, loads, saves, restores and drops, and the line of steps
+//! that survives in them.
 
 use std::collections::BTreeMap;
 
@@ -9,9 +9,13 @@ use crate::step::Step;
 use crate::syntax::Key;
 use crate::table::MAX_KEYS;
 
-#[derive(Clone, Copy, Debug, PartialEq, Eq)]
+#[derive(Clone, Debug, PartialEq, Eq)]
 pub enum Element {
     Step(Step),
+    /// A schedule of these steps, with room for so many answers.
+    Run(Vec<Step>, usize),
+    /// Of the same table.
+    Load,
     /// With its name.
     Shelf(ShelfCall, u32),
 }
@@ -25,10 +29,16 @@ pub struct Lines {
 }
 
 impl Lines {
-    /// An element was done. (A refused one changes no line.)
-    pub fn add(&mut self, done: Element) {
-        match done {
+    /// An element was done; of a run, with the answers to its steps. (A refused one changes no line.)
+    pub fn add(&mut self, done: &Element, answers: &[u8]) {
+        match *done {
             Element::Step(step) => self.now.push(step),
+            Element::Run(ref steps, _) => {
+                let answered = steps.iter().zip(answers);
+                let done = answered.filter(|(_, &answer)| answer == 0);
+                self.now.extend(done.map(|(step, _)| step));
+            }
+            Element::Load => self.now.clear(),
             Element::Shelf(ShelfCall::Save, name) => {
                 self.saved.insert(name, self.now.clone());
             }

@@ -1,6 +1,7 @@
-//! Lists of steps, saves, restores and drops from load and a shelf of no names:
-//! the state is the one that the surviving line gives from load, and so is every
-//! saved one; demand 3 holds along that line; stamps fall at restores alone.
+//! Lists of steps, runs, loads, saves, restores and drops from load and a shelf of
+//! no names: the state is the one that the surviving line gives from load, and so
+//! is every saved one; demand 3 holds along that line; stamps fall at restores and
+//! loads alone.
 
 mod common;
 
@@ -13,6 +14,7 @@ use reference::generate::fleets::{accepted, Scale};
 use reference::generate::shelves::{empty, Elements};
 use reference::history::{History, Said, Watch};
 use reference::rng::Rng;
+use reference::schedule;
 use reference::shelf::{state_at, PLACES, SHELF_WORDS};
 use reference::shelf_cases::{ShelfCall, ShelfCase};
 use reference::state::World;
@@ -43,12 +45,17 @@ struct Seen {
     saves: [usize; 2],
     restores: usize,
     drops: usize,
-    /// Restores with which stamps fell.
-    falls: usize,
+    /// Runs, and those with done and refused steps.
+    runs: [usize; 2],
+    loads: usize,
+    /// Restores to a line that a load had ended.
+    reloaded: usize,
+    /// Restores with which stamps fell, and loads.
+    falls: [usize; 2],
     /// Restores to a longer line than the one that they end.
     forward: usize,
-    /// Refusals 8, 21 and 22, and those of steps.
-    refused: [usize; 4],
+    /// Refusals 8, 20, 21 and 22, and those of steps.
+    refused: [usize; 5],
 }
 
 /// A list on lent state and shelf.
@@ -60,6 +67,8 @@ struct List {
     lines: Lines,
     /// Of the surviving line.
     watch: Watch,
+    /// Whether a load has ended a line since the last restore.
+    reloaded: bool,
 }
 
 impl List {
@@ -71,6 +80,7 @@ impl List {
             shelf,
             lines: Lines::default(),
             watch,
+            reloaded: false,
             table,
         }
     }
@@ -79,14 +89,22 @@ impl List {
         World::decode(&self.state, &self.fleet).expect("the state is well formed")
     }
 
-    /// Makes the call, and says its refusal, or 0.
-    fn call(&mut self, element: Element, scratch: usize) -> u8 {
-        match element {
+    /// Makes the call, and says its refusal, or 0, with a run's answers.
+    fn call(&mut self, element: &Element, scratch: usize) -> (u8, Vec<u8>) {
+        let (table, state) = (&self.table, &mut self.state);
+        let mut answers = Vec::new();
+        let refusal = match *element {
             Element::Step(s) => {
-                let (table, state) = (&self.table, &mut self.state);
                 let answer = reference::step(table, state, scratch, s.kind, s.agent, s.number);
                 brief(answer).0
             }
+            Element::Run(ref steps, room) => {
+                answers = vec![99; room];
+                let schedule = schedule::write(steps);
+                let answer = reference::run(table, state, scratch, &schedule, &mut answers);
+                brief(answer).0
+            }
+            Element::Load => brief(reference::load(table, state, scratch)).0,
             Element::Shelf(call, name) => {
                 let case = ShelfCase {
                     call,
@@ -100,34 +118,49 @@ impl List {
                 (self.state, self.shelf) = (outcome.state.clone(), outcome.shelf.clone());
                 outcome.refusal()
             }
-        }
+        };
+        (refusal, answers)
     }
 
     /// The next element, and what must hold of it.
-    fn perform(&mut self, element: Element, scratch: usize, seen: &mut Seen) {
+    fn perform(&mut self, element: &Element, scratch: usize, seen: &mut Seen) {
         let (before, shelf) = (self.world(), self.shelf.clone());
-        let refusal = self.call(element, scratch);
+        let (refusal, answers) = self.call(element, scratch);
         let after = self.world();
         if refusal > 0 {
             assert_eq!((&before, &shelf), (&after, &self.shelf), "{element:?}");
             let which = match refusal {
                 8 => 0,
-                21 => 1,
-                22 => 2,
-                _ => 3,
+                20 => 1,
+                21 => 2,
+                22 => 3,
+                _ => 4,
             };
             seen.refused[which] += 1;
             return;
         }
         let ended = self.lines.now.len();
-        self.lines.add(element);
+        self.lines.add(element, &answers);
         let falls = fallen(&before, &after);
-        match element {
+        match *element {
             Element::Step(step) => {
                 assert_eq!((&shelf, falls), (&self.shelf, 0));
                 let answer = self.watch.note(&before, SCRATCH, step);
                 answer.expect("it is done");
                 seen.steps += 1;
+            }
+            Element::Run(ref steps, _) => {
+                assert_eq!((&shelf, falls), (&self.shelf, 0));
+                self.run_holds(before, steps, &answers, &after);
+                let some = |done: bool| answers.iter().any(|&answer| (answer == 0) == done);
+                seen.runs[usize::from(some(true) && some(false))] += 1;
+            }
+            Element::Load => {
+                assert_eq!((&shelf, &self.state), (&self.shelf, &start(&self.table)));
+                self.watch = after_steps(&self.table, &[]).1;
+                self.reloaded = true;
+                seen.loads += 1;
+                seen.falls[1] += usize::from(falls > 0);
             }
             Element::Shelf(ShelfCall::Save, name) => {
                 assert_eq!(before, after);
@@ -142,7 +175,8 @@ impl List {
                 seen.regained += usize::from(regained);
                 self.watch = watch;
                 seen.restores += 1;
-                seen.falls += usize::from(falls > 0);
+                seen.reloaded += usize::from(std::mem::take(&mut self.reloaded));
+                seen.falls[0] += usize::from(falls > 0);
                 seen.forward += usize::from(self.lines.now.len() > ended);
             }
             Element::Shelf(ShelfCall::Drop, _) => {
@@ -156,6 +190,20 @@ impl List {
             seen.restored += self.watch.said.kept.apart - apart;
         }
         self.holds().unwrap();
+    }
+
+    /// A run answers what its steps answer in turn, and leaves what they leave.
+    fn run_holds(&mut self, before: World, steps: &[Step], answers: &[u8], after: &World) {
+        let mut world = before;
+        for (&step, &answer) in steps.iter().zip(answers) {
+            if answer == 0 {
+                let noted = self.watch.note(&world, SCRATCH, step);
+                noted.expect("it is done");
+            }
+            assert_eq!(brief(world.step(&self.fleet, step)).0, answer);
+            self.watch.after(&world).unwrap();
+        }
+        assert_eq!(world, *after);
     }
 
     /// State and saved states are what their lines give from load.
@@ -190,7 +238,7 @@ fn rehearse(rng: &mut Rng, table: Vec<u8>, length: usize, seen: &mut Seen) {
         } else {
             SCRATCH
         };
-        list.perform(element, scratch, seen);
+        list.perform(&element, scratch, seen);
     }
     seen.writes += list.watch.history.writes.len();
     seen.said += list.watch.said;
@@ -242,6 +290,9 @@ fn the_state_is_that_of_the_surviving_line() {
         saves: [new, again],
         restores,
         drops,
+        runs,
+        loads,
+        reloaded,
         falls,
         forward,
         refused,
@@ -255,12 +306,18 @@ fn the_state_is_that_of_the_surviving_line() {
         (again, 400),
         (restores, 300),
         (drops, 100),
-        (falls, 100),
+        (runs[0], 100),
+        (runs[1], 100),
+        (loads, 100),
+        (reloaded, 50),
+        (falls[0], 100),
+        (falls[1], 50),
         (forward, 50),
         (refused[0], 100),
-        (refused[1], 300),
-        (refused[2], 30),
-        (refused[3], 100),
+        (refused[1], 30),
+        (refused[2], 300),
+        (refused[3], 30),
+        (refused[4], 100),
     ] {
         assert!(count > least, "{seen:?}");
     }
@@ -309,14 +366,28 @@ fn a_list_by_hand() {
             vec![act, propagate],
             vec![6],
         ),
+        // A load keeps the shelf; a run without room for its answers adds nothing, and one with room its done steps.
+        (Element::Load, vec![], vec![6]),
+        (Element::Run(vec![act], 0), vec![], vec![6]),
+        (
+            Element::Run(vec![propagate, act, act], 3),
+            vec![act],
+            vec![6],
+        ),
+        (
+            Element::Shelf(ShelfCall::Restore, 6),
+            vec![act, propagate],
+            vec![6],
+        ),
     ] {
-        list.perform(element, SCRATCH, &mut seen);
+        list.perform(&element, SCRATCH, &mut seen);
         assert_eq!(list.lines.now, line, "{element:?}");
         assert!(list.lines.saved.keys().copied().eq(names), "{element:?}");
     }
     assert_eq!((seen.steps, seen.saves), (3, [2, 1]));
-    assert_eq!((seen.restores, seen.falls, seen.forward), (3, 1, 1));
-    assert_eq!((seen.drops, seen.refused), (1, [0, 1, 0, 1]));
+    assert_eq!((seen.runs, seen.loads, seen.reloaded), ([0, 1], 1, 1));
+    assert_eq!((seen.restores, seen.falls, seen.forward), (4, [1, 1], 2));
+    assert_eq!((seen.drops, seen.refused), (1, [0, 1, 1, 0, 1]));
 }
 
 /// What holds only while nobody else writes to state or shelf does not hold
@@ -332,7 +403,7 @@ fn each_point_can_fail() {
             Element::Shelf(ShelfCall::Save, 6),
             Element::Step(Step::propagate(0, 0)),
         ] {
-            list.perform(element, SCRATCH, &mut seen);
+            list.perform(&element, SCRATCH, &mut seen);
         }
         assert_eq!(seen.steps, 2);
         list
@@ -346,8 +417,9 @@ fn each_point_can_fail() {
     let mut list = sound();
     list.shelf.copy_within(state_at(1), state_at(0).start);
     assert!(list.holds().is_err());
-    assert_eq!(list.call(Element::Shelf(ShelfCall::Restore, 5), SCRATCH), 0);
-    list.lines.add(Element::Shelf(ShelfCall::Restore, 5));
+    let restore = Element::Shelf(ShelfCall::Restore, 5);
+    assert_eq!(list.call(&restore, SCRATCH), (0, vec![]));
+    list.lines.add(&restore, &[]);
     list.shelf[0] = 0;
     list.lines.saved.remove(&5);
     assert!(list.holds().is_err(), "the line is empty, the state is not");

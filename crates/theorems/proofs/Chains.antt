@@ -16,7 +16,7 @@ use Rattle.state.specs.Entries.{entryOf}
 use Rattle.state.specs.WellFormed.{loaded}
 use Rattle.steps.specs.Shelves.{savedOf}
 use Rattle.steps.proofs.Steps.{load-accepted}
-use Rattle.theorems.specs.Lists.{Step, stateAfter}
+use Rattle.theorems.specs.Lists.{Step, Line, stateFrom, stateAfter, stateOf}
 use Rattle.theorems.specs.Demand3.{HeldBeforeSteps}
 use Rattle.theorems.specs.Contact.{HeldBeforePropagates, InContact}
 use Rattle.theorems.specs.Surviving.{Element, shelfThen, survivingLine, Surviving}
@@ -96,16 +96,17 @@ module _ (bytes : List ℕ) (few : tableOf bytes .sizes .stigmergy ≤ keyLimit)
 
 -- state and held states are those that their lines give
 module _ (bytes shelf : List ℕ) (es : List Element) (survives : Surviving bytes shelf es) (all : (xs : List Step) → Chains bytes (stateAfter bytes xs) xs) where
-  moved : (s : List ℕ) (l : List Step) → s ≡ stateAfter bytes l → Chains bytes s l
-  moved s l e = subst (λ (s : List ℕ). Chains bytes s l) (sym e) (all l)
+  moved : (s : List ℕ) (l : Line) → s ≡ stateOf bytes l → l .start ≡ loaded (tableOf bytes) → Chains bytes s (l .steps)
+  moved s l e f = subst (λ (s : List ℕ). Chains bytes s (l .steps)) (sym (e ∙ ap (λ (u : List ℕ). stateFrom bytes u (l .steps)) f)) (all (l .steps))
 
   chains-surviving : Chains-surviving bytes shelf es
   chains-surviving = record {
-    now = moved _ (survivingLine bytes shelf es) (survives .state);
-    held = λ i h n. let w = survives .held i h n in (w .0, w .1, moved (savedOf (shelfThen bytes shelf es) i) (w .0) (w .2));
+    now = moved _ (survivingLine bytes shelf es) (survives .state) (survives .starts);
+    held = λ i h n. let w = survives .held i h n in
+        (w .0, w .1, moved (savedOf (shelfThen bytes shelf es) i) (w .0) (w .2) (survives .kept-starts _ (w .0) (w .1)));
   }
 
 pub chains-hold : Chains-hold
 chains-hold bytes lent scratch e =
     let few = load-accepted bytes lent scratch e .table .sound .shaped .limits .stigmergy in
-    (chains bytes few, λ shelf free es. chains-surviving bytes shelf es (surviving bytes lent scratch e shelf free es) (chains bytes few))
+    (chains bytes few, λ small shelf free es. chains-surviving bytes shelf es (surviving bytes lent scratch small e shelf free es) (chains bytes few))

@@ -25,6 +25,7 @@ pub mod Contact
 pub mod SteadyLinks
 pub mod Demand3
 pub mod Instance3
+pub mod Reached
 pub mod Surviving
 pub mod InstanceSurviving
 pub mod Chains

@@ -15,7 +15,8 @@ use Rattle.state.specs.Entries.{entry, entryOf}
 use Rattle.state.specs.WellFormed.{loaded}
 use Rattle.steps.specs.Steps.{loadOf}
 use Rattle.steps.specs.Shelves.{placeLimit, nameOf, savedOf}
-use Rattle.theorems.specs.Lists.{Step, stateAfter}
+use Rattle.theorems.specs.Lists.{Step, Line, stateAfter}
+use Rattle.theorems.specs.Demand2.{Bytes}
 use Rattle.theorems.specs.Demand3.{HeldBeforeSteps}
 use Rattle.theorems.specs.Contact.{HeldBeforePropagates, InContact}
 use Rattle.theorems.specs.Surviving.{Element, stateThen, shelfThen, survivingLine, keptLine, NoNames}
@@ -53,17 +54,17 @@ module _ (bytes s : List ℕ) where
     pub two : (a b k : ℕ) → a < tableOf bytes .sizes .agents → b < tableOf bytes .sizes .agents → k < tableOf bytes .sizes .stigmergy →
         HeldBeforeSteps bytes xs k a b → HeldBeforeSteps bytes xs k b a → Silent s k a → Silent s k b → entryOf s a k ≡ entryOf s b k
 
--- ALONG SURVIVING LINES, after any list of steps, saves, restores and drops
+-- ALONG SURVIVING LINES, after any list of steps, runs, loads, saves, restores and drops
 pub record Chains-surviving (bytes shelf : List ℕ) (es : List Element) : Type 0 where
   -- the state, by the steps of the surviving line
-  pub now : Chains bytes (stateThen bytes shelf es) (survivingLine bytes shelf es)
+  pub now : Chains bytes (stateThen bytes shelf es) (survivingLine bytes shelf es .steps)
   -- every held state, by the steps of the line kept under its name
   pub held : (i : ℕ) → i < placeLimit → (nameOf (shelfThen bytes shelf es) i ≡ 0 → ⊥) →
-      (l : List Step) × (keptLine bytes shelf es (nameOf (shelfThen bytes shelf es) i) ≡ some l) × Chains bytes (savedOf (shelfThen bytes shelf es) i) l
+      (l : Line) × (keptLine bytes shelf es (nameOf (shelfThen bytes shelf es) i) ≡ some l) × Chains bytes (savedOf (shelfThen bytes shelf es) i) (l .steps)
 
 -- for every table that load accepts: after every list of steps, and after every list of elements from a shelf of no names
 abbrev pub Chains-hold : Type 0
 Chains-hold =
     (bytes lent : List ℕ) (scratch : ℕ) → loadOf bytes lent scratch .check ≡ passes →
     ((xs : List Step) → Chains bytes (stateAfter bytes xs) xs)
-    × ((shelf : List ℕ) → NoNames shelf → (es : List Element) → Chains-surviving bytes shelf es)
+    × (Bytes bytes → (shelf : List ℕ) → NoNames shelf → (es : List Element) → Chains-surviving bytes shelf es)

@@ -7,11 +7,10 @@ use mathlib.Core.List.{List, [], _∷_, _++_}
 use lib.ListN.{length, getD}
 use Rattle.basis.specs.Numbers.{howMany, forEach}
 use Rattle.basis.specs.Bytes.{u16At}
-use Rattle.agreement.specs.Machine.{afterSteps}
 use Rattle.table.specs.Checks.{passes, refuses, firstOf, passed, numberOf}
 use Rattle.steps.specs.Steps.{Outcome, stateChecks}
 use Rattle.steps.specs.Runs.{Progress, runOf}
-use Rattle.theorems.specs.Lists.{Step, outcomeOf, next}
+use Rattle.theorems.specs.Lists.{Step, outcomeOf, stateFrom}
 
 -- A schedule has its 16-bit size n, then n kinds of a byte, then n operands (agent, number; 16 bits each)
 abbrev pub size : List ℕ → ℕ
@@ -29,7 +28,7 @@ module _ (schedule : List ℕ) (scratch : ℕ) where
 module _ (bytes s : List ℕ) (scratch : ℕ) (schedule : List ℕ) where
   -- the state that the steps before step i leave
   abbrev pub stateBefore : ℕ → List ℕ
-  stateBefore i = afterSteps (next bytes) s (firstSteps schedule scratch i)
+  stateBefore i = stateFrom bytes s (firstSteps schedule scratch i)
 
   -- step i, a single call in that state
   abbrev pub outcomeAt : ℕ → Outcome

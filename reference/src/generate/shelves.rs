@@ -1,5 +1,5 @@
-//! Calls on shelves, sound and damaged; and lists of steps, saves, restores and
-//! drops.
+//! Calls on shelves, sound and damaged; and lists of steps, runs, loads, saves,
+//! restores and drops.
 
 use std::collections::BTreeSet;
 
@@ -118,8 +118,8 @@ fn name(rng: &mut Rng, shelf: &[u32]) -> u32 {
 /// How the elements of a list are drawn.
 pub struct Elements {
     names: Vec<u32>,
-    /// Of steps, saves, restores and drops.
-    weights: [usize; 4],
+    /// Of steps, runs, loads, saves, restores and drops.
+    weights: [usize; 6],
 }
 
 impl Elements {
@@ -128,7 +128,7 @@ impl Elements {
         let names = *rng.pick(&[1, 3, 6, 12, 20]);
         Elements {
             names: (0..names).map(|_| 1 + rng.below(255) as u32).collect(),
-            weights: [20, 8, 5, *rng.pick(&[1, 6])],
+            weights: [60, 8, 1, 24, 15, *rng.pick(&[3, 18])],
         }
     }
 
@@ -136,7 +136,9 @@ impl Elements {
     pub fn draw(&self, rng: &mut Rng, fleet: &Fleet, world: &World) -> Element {
         match rng.weighted(&self.weights) {
             0 => Element::Step(step(rng, fleet, world)),
-            call => Element::Shelf(SHELF_CALLS[call - 1], self.name(rng)),
+            1 => run(rng, fleet, world),
+            2 => Element::Load,
+            call => Element::Shelf(SHELF_CALLS[call - 3], self.name(rng)),
         }
     }
 
@@ -154,4 +156,21 @@ fn step(rng: &mut Rng, fleet: &Fleet, world: &World) -> Step {
         Some(step) if rng.chance(85) => step,
         _ => any(rng, fleet),
     }
+}
+
+/// A run from this world, at times without room for all answers.
+fn run(rng: &mut Rng, fleet: &Fleet, world: &World) -> Element {
+    let mut world = world.clone();
+    let mut steps = Vec::new();
+    for _ in 0..rng.below(6) {
+        let next = step(rng, fleet, &world);
+        let _ = world.step(fleet, next);
+        steps.push(next);
+    }
+    let room = if rng.chance(15) {
+        rng.below(steps.len() + 1)
+    } else {
+        steps.len()
+    };
+    Element::Run(steps, room)
 }
