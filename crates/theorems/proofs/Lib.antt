@@ -12,6 +12,7 @@ pub mod Acting
 pub mod Offers
 pub mod Ready
 pub mod Run
+pub mod Demand1
 pub mod Demand2
 pub mod DoneSteps
 pub mod Instance
