@@ -16,6 +16,7 @@ pub mod Demand1
 pub mod Demand2
 pub mod DoneSteps
 pub mod Instance
+pub mod InstanceRefusals
 pub mod Instances
 pub mod Views
 pub mod ActViews
