@@ -25,36 +25,38 @@ use Rattle.steps.proofs.Steps.{outcome-refused, step-refused}
 use Rattle.steps.proofs.Previews.{on-a-copy}
 use Rattle.steps.proofs.Points.{kept}
 use Rattle.steps.proofs.Orders.{in-order}
-use Rattle.theorems.specs.Demand1.{Placed, bad-node, wrong-key, bad-definition, overfull-node, nowhere, Answered, done, refused, stepNumbers, AsItCame, Demand-1}
+use Rattle.theorems.specs.Demand1.{Placed, bad-node, wrong-key, bad-definition, overfull-node, nowhere}
+use Rattle.theorems.specs.Demand1.{Answered, done, refused, stepNumbers, AsItCame, Demand-1}
 
 -- lines after 7, which have no place
 abbrev noPlaces : List Refusal → Bool
 noPlaces [] = true
 noPlaces (r ∷ rs) = (ltb 7 (r .number) && eqb (r .place) 0) && noPlaces rs
 
-module _ (bytes : List ℕ) (Kept : Type 0) where
+module _ (bytes : List ℕ) (Unchanged : Type 0) where
   -- lines answer with one of their numbers, if each that refuses has the paper's place
   data AllPlaced : List Refusal → Type 0 where
     none : AllPlaced []
     line : {r : Refusal} {rs : List Refusal} → (r .when ≡ true → Placed bytes (r .number) (r .place)) → AllPlaced rs → AllPlaced (r ∷ rs)
 
-  one-more : {n : ℕ} {ns : List ℕ} {c : Check} → Answered bytes ns Kept c → Answered bytes (n ∷ ns) Kept c
+  one-more : {n : ℕ} {ns : List ℕ} {c : Check} → Answered bytes ns Unchanged c → Answered bytes (n ∷ ns) Unchanged c
   one-more done = done
   one-more (refused m p k) = refused (List·Memᴰ·tail m) p k
 
-  first-answered : {rs : List Refusal} → AllPlaced rs → ((n place : ℕ) → firstOf rs ≡ refuses n place → Kept) → Answered bytes (numbers rs) Kept (firstOf rs)
-  first-answered none k = subst (Answered bytes [] Kept) (sym none-passes) done
+  first-answered : {rs : List Refusal} → AllPlaced rs → ((n place : ℕ) → firstOf rs ≡ refuses n place → Unchanged)
+      → Answered bytes (numbers rs) Unchanged (firstOf rs)
+  first-answered none k = subst (Answered bytes [] Unchanged) (sym none-passes) done
   first-answered (line {r = r} {rs = rs} p ps) k = by (r .when) refl (first-answered ps)
     where
       by : (b : Bool) → r .when ≡ b
-          → (((n place : ℕ) → firstOf rs ≡ refuses n place → Kept) → Answered bytes (numbers rs) Kept (firstOf rs))
-          → Answered bytes (numbers (r ∷ rs)) Kept (firstOf (r ∷ rs))
+          → (((n place : ℕ) → firstOf rs ≡ refuses n place → Unchanged) → Answered bytes (numbers rs) Unchanged (firstOf rs))
+          → Answered bytes (numbers (r ∷ rs)) Unchanged (firstOf (r ∷ rs))
       by true d later =
           let e = first-refuses r rs d in
-          subst (Answered bytes (numbers (r ∷ rs)) Kept) (sym e) (refused (List·Memᴰ·head refl) (p d) (k (r .number) (r .place) e))
+          subst (Answered bytes (numbers (r ∷ rs)) Unchanged) (sym e) (refused (List·Memᴰ·head refl) (p d) (k (r .number) (r .place) e))
       by false d later =
           let e = first-later r rs d in
-          subst (Answered bytes (numbers (r ∷ rs)) Kept) (sym e) (one-more (later (λ n place f. k n place (e ∙ f))))
+          subst (Answered bytes (numbers (r ∷ rs)) Unchanged) (sym e) (one-more (later (λ n place f. k n place (e ∙ f))))
 
   -- the lines of a table, and others after them
   others-placed : (rs : List Refusal) → noPlaces rs ≡ true → AllPlaced rs
@@ -80,9 +82,9 @@ module _ (bytes : List ℕ) (Kept : Type 0) where
 
   -- THE LAW of a call, from its own checks
   answered : {c : Check} (fits : Bool) (scratch : ℕ) (own : List Refusal) → c ≡ firstOf (tableChecks bytes fits scratch ++ own) → noPlaces own ≡ true
-      → ((n place : ℕ) → c ≡ refuses n place → Kept) → Answered bytes (1 ∷ 2 ∷ 3 ∷ 8 ∷ 4 ∷ 5 ∷ 6 ∷ 7 ∷ numbers own) Kept c
+      → ((n place : ℕ) → c ≡ refuses n place → Unchanged) → Answered bytes (1 ∷ 2 ∷ 3 ∷ 8 ∷ 4 ∷ 5 ∷ 6 ∷ 7 ∷ numbers own) Unchanged c
   answered fits scratch own e p k =
-      subst (Answered bytes (1 ∷ 2 ∷ 3 ∷ 8 ∷ 4 ∷ 5 ∷ 6 ∷ 7 ∷ numbers own) Kept) (sym e)
+      subst (Answered bytes (1 ∷ 2 ∷ 3 ∷ 8 ∷ 4 ∷ 5 ∷ 6 ∷ 7 ∷ numbers own) Unchanged) (sym e)
       (first-answered (table-placed fits scratch own p) (λ n place f. k n place (e ∙ f)))
 
 -- lines after one that refuses are not looked at
@@ -94,17 +96,18 @@ cut rs r qs d = by (firstOf rs) refl
     by (refuses n place) e = append-refuses rs (r ∷ qs) e ∙ sym (append-refuses rs (r ∷ []) e)
 
 -- A STEP, of any kind, and a preview
-module _ (bytes was : List ℕ) (othersFit : Bool) (scratch : ℕ) (Kept : Type 0) {c : Check} where
+module _ (bytes was : List ℕ) (othersFit : Bool) (scratch : ℕ) (Unchanged : Type 0) {c : Check} where
   step-answered : (kind x number : ℕ) → c ≡ firstOf (stateChecksWith othersFit bytes was scratch ++ stepChecks (tableOf bytes) was kind x number)
-      → ((n place : ℕ) → c ≡ refuses n place → Kept) → Answered bytes (stepNumbers kind) Kept c
+      → ((n place : ℕ) → c ≡ refuses n place → Unchanged) → Answered bytes (stepNumbers kind) Unchanged c
   step-answered zero x number e k =
-      answered bytes Kept (othersFit && isWhole was) scratch (refuseIf 9 _ ∷ stepChecks (tableOf bytes) was 0 x number) e refl k
+      answered bytes Unchanged (othersFit && isWhole was) scratch (refuseIf 9 _ ∷ stepChecks (tableOf bytes) was 0 x number) e refl k
   step-answered (suc zero) x number e k =
-      answered bytes Kept (othersFit && isWhole was) scratch (refuseIf 9 _ ∷ stepChecks (tableOf bytes) was 1 x number) e refl k
+      answered bytes Unchanged (othersFit && isWhole was) scratch (refuseIf 9 _ ∷ stepChecks (tableOf bytes) was 1 x number) e refl k
   step-answered (suc (suc zero)) x number e k =
-      answered bytes Kept (othersFit && isWhole was) scratch (refuseIf 9 _ ∷ stepChecks (tableOf bytes) was 2 x number) e refl k
+      answered bytes Unchanged (othersFit && isWhole was) scratch (refuseIf 9 _ ∷ stepChecks (tableOf bytes) was 2 x number) e refl k
   step-answered (suc (suc (suc kind))) x number e k =
-      answered bytes Kept (othersFit && isWhole was) scratch (refuseIf 9 _ ∷ out ∷ []) (e ∙ cut (stateChecksWith othersFit bytes was scratch) out _ is-out) refl k
+      answered bytes Unchanged (othersFit && isWhole was) scratch (refuseIf 9 _ ∷ out ∷ [])
+      (e ∙ cut (stateChecksWith othersFit bytes was scratch) out _ is-out) refl k
     where
       out : Refusal
       out = refuseIf 10 (outOfRange (tableOf bytes) (suc (suc (suc kind))) x number)
@@ -116,7 +119,8 @@ module _ (bytes was : List ℕ) (othersFit : Bool) (scratch : ℕ) (Kept : Type 
 as-it-came : {o : Outcome} {n place : ℕ} {was : List ℕ} → o ≡ refusedAt n place was → AsItCame o was
 as-it-came e = record { state = ap (λ (o : Outcome). o .state) e; counts = ap (λ (o : Outcome). o .tally) e }
 
-run-refused : (bytes was : List ℕ) (scratch : ℕ) (schedule answers : List ℕ) (n place : ℕ) → runOf bytes was scratch schedule answers .check ≡ refuses n place
+run-refused : (bytes was : List ℕ) (scratch : ℕ) (schedule answers : List ℕ) (n place : ℕ)
+    → runOf bytes was scratch schedule answers .check ≡ refuses n place
     → runOf bytes was scratch schedule answers .progress ≡ begun was answers
 unfolding runOf
 run-refused bytes was scratch schedule answers n place e = rw (runOf, e)
