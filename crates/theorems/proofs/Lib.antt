@@ -12,9 +12,11 @@ pub mod Acting
 pub mod Offers
 pub mod Ready
 pub mod Run
+pub mod Demand1
 pub mod Demand2
 pub mod DoneSteps
 pub mod Instance
+pub mod InstanceRefusals
 pub mod Instances
 pub mod Views
 pub mod ActViews

@@ -1,5 +1,6 @@
 pub mod Lists
 pub mod Run
+pub mod Demand1
 pub mod Demand2
 pub mod Demand3
 pub mod Contact
