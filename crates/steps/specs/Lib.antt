@@ -8,4 +8,5 @@ pub mod Shelves
 pub mod Points
 pub mod Kept
 pub mod Orders
+pub mod Refusals
 pub mod Examples

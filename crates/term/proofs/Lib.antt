@@ -6,6 +6,7 @@ pub mod Opened
 pub mod Calls
 pub mod Exposed
 pub mod Members
+pub mod Subterms
 pub mod Inside
 pub mod Acceptance
 pub mod Examples

@@ -1,0 +1,67 @@
+-- The limit of derivations: the test looks at every subterm.
+-- Assumes nothing.
+use Prim.Native.Nat.{ℕ, _<_, _≤_}
+use mathlib.Core.Bool.{Bool, true, false, _&&_}
+use mathlib.Core.Logic.{⊎-elim}
+use mathlib.Core.Path.{_≡_, refl}
+use native.Mathlib.Omega.{arith}
+use lib.ListN.{length}
+use borrow.Author.Tests.{leb-true, leb-false}
+use Rattle.basis.proofs.Tests.{either, and-left, and-right, and-fails, not-both}
+use Rattle.table.specs.Tables.{Table}
+use Rattle.term.specs.Terms.{Term, Seq, Par, Tick, Idle, Node, Subterm, whole, seq-left, seq-right, par-left, par-right}
+use Rattle.term.specs.Processes.{derivations, few, process, allFew}
+
+module _ (t : Table) where
+  abbrev pub Few : Term → Type 0
+  Few P = length (derivations (process t P)) ≤ 65535
+
+  -- a subterm of R with over 65,535
+  pub record Many (R : Term) : Type 0 where
+    pub part : Term
+    pub within : Subterm part R
+    pub many : 65535 < length (derivations (process t part))
+
+  few-whole : (P : Term) → allFew t P ≡ true → Few P
+  unfolding allFew process derivations
+  few-whole (Seq P Q) e = leb-true _ 65535 (and-left (few (process t (Seq P Q))) (allFew t P && allFew t Q) e)
+  few-whole (Par P Q) e = leb-true _ 65535 (and-left (few (process t (Par P Q))) (allFew t P && allFew t Q) e)
+  few-whole Tick e = omega arith
+  few-whole Idle e = omega arith
+  few-whole (Node n) e = leb-true _ 65535 e
+
+  parts : (a b c : Bool) → (a && (b && c)) ≡ true → (b ≡ true) × (c ≡ true)
+  parts a b c e = (and-left b c (and-right a (b && c) e), and-right b c (and-right a (b && c) e))
+
+  pub few-part : {P R : Term} → Subterm P R → allFew t R ≡ true → Few P
+  unfolding allFew
+  few-part {P} whole e = few-whole P e
+  few-part (seq-left {Q = Q} {R = R} m) e = few-part m (parts (few (process t (Seq Q R))) (allFew t Q) (allFew t R) e .0)
+  few-part (seq-right {Q = Q} {R = R} m) e = few-part m (parts (few (process t (Seq Q R))) (allFew t Q) (allFew t R) e .1)
+  few-part (par-left {Q = Q} {R = R} m) e = few-part m (parts (few (process t (Par Q R))) (allFew t Q) (allFew t R) e .0)
+  few-part (par-right {Q = Q} {R = R} m) e = few-part m (parts (few (process t (Par Q R))) (allFew t Q) (allFew t R) e .1)
+
+  -- one of the three tests fails
+  of-three : {C : Type 0} (a b c : Bool) → (a ≡ false → C) → (b ≡ false → C) → (c ≡ false → C) → (a && (b && c)) ≡ false → C
+  of-three a b c f g h e = ⊎-elim f (λ (d : (b && c) ≡ false). ⊎-elim g h (and-fails b c d)) (and-fails a (b && c) e)
+
+  pub some-many : (R : Term) → allFew t R ≡ false → Many R
+  unfolding allFew process
+  some-many (Seq Q R) e =
+      of-three (few (process t (Seq Q R))) (allFew t Q) (allFew t R)
+      (λ d. record { part = Seq Q R; within = whole; many = leb-false _ 65535 d })
+      (λ d. let m = some-many Q d in record { part = m .part; within = seq-left (m .within); many = m .many })
+      (λ d. let m = some-many R d in record { part = m .part; within = seq-right (m .within); many = m .many }) e
+  some-many (Par Q R) e =
+      of-three (few (process t (Par Q R))) (allFew t Q) (allFew t R)
+      (λ d. record { part = Par Q R; within = whole; many = leb-false _ 65535 d })
+      (λ d. let m = some-many Q d in record { part = m .part; within = par-left (m .within); many = m .many })
+      (λ d. let m = some-many R d in record { part = m .part; within = par-right (m .within); many = m .many }) e
+  some-many Tick e = absurd (not-both refl e)
+  some-many Idle e = absurd (not-both refl e)
+  some-many (Node n) e = record { part = Node n; within = whole; many = leb-false _ 65535 e }
+
+  pub few-all : (R : Term) → ((P : Term) → Subterm P R → Few P) → allFew t R ≡ true
+  few-all R h =
+      ⊎-elim (λ (e : allFew t R ≡ true). e) (λ (e : allFew t R ≡ false). let m = some-many R e in absurd (omega (arith, m .many, h (m .part) (m .within))))
+      (either (allFew t R))
