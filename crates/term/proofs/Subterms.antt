@@ -16,12 +16,6 @@ module _ (t : Table) where
   abbrev pub Few : Term → Type 0
   Few P = length (derivations (process t P)) ≤ 65535
 
-  -- a subterm of R with over 65,535
-  pub record Many (R : Term) : Type 0 where
-    pub part : Term
-    pub within : Subterm part R
-    pub many : 65535 < length (derivations (process t part))
-
   few-whole : (P : Term) → allFew t P ≡ true → Few P
   unfolding allFew process derivations
   few-whole (Seq P Q) e = leb-true _ 65535 (and-left (few (process t (Seq P Q))) (allFew t P && allFew t Q) e)
@@ -45,23 +39,20 @@ module _ (t : Table) where
   of-three : {C : Type 0} (a b c : Bool) → (a ≡ false → C) → (b ≡ false → C) → (c ≡ false → C) → (a && (b && c)) ≡ false → C
   of-three a b c f g h e = ⊎-elim f (λ (d : (b && c) ≡ false). ⊎-elim g h (and-fails b c d)) (and-fails a (b && c) e)
 
-  pub some-many : (R : Term) → allFew t R ≡ false → Many R
+  -- and finds one that has more
+  pub some-many : (R : Term) → allFew t R ≡ false → (P : Term) × Subterm P R × (65535 < length (derivations (process t P)))
   unfolding allFew process
   some-many (Seq Q R) e =
-      of-three (few (process t (Seq Q R))) (allFew t Q) (allFew t R)
-      (λ d. record { part = Seq Q R; within = whole; many = leb-false _ 65535 d })
-      (λ d. let m = some-many Q d in record { part = m .part; within = seq-left (m .within); many = m .many })
-      (λ d. let m = some-many R d in record { part = m .part; within = seq-right (m .within); many = m .many }) e
+      of-three (few (process t (Seq Q R))) (allFew t Q) (allFew t R) (λ d. (Seq Q R, whole, leb-false _ 65535 d))
+      (λ d. let m = some-many Q d in (m .0, seq-left (m .1), m .2)) (λ d. let m = some-many R d in (m .0, seq-right (m .1), m .2)) e
   some-many (Par Q R) e =
-      of-three (few (process t (Par Q R))) (allFew t Q) (allFew t R)
-      (λ d. record { part = Par Q R; within = whole; many = leb-false _ 65535 d })
-      (λ d. let m = some-many Q d in record { part = m .part; within = par-left (m .within); many = m .many })
-      (λ d. let m = some-many R d in record { part = m .part; within = par-right (m .within); many = m .many }) e
+      of-three (few (process t (Par Q R))) (allFew t Q) (allFew t R) (λ d. (Par Q R, whole, leb-false _ 65535 d))
+      (λ d. let m = some-many Q d in (m .0, par-left (m .1), m .2)) (λ d. let m = some-many R d in (m .0, par-right (m .1), m .2)) e
   some-many Tick e = absurd (not-both refl e)
   some-many Idle e = absurd (not-both refl e)
-  some-many (Node n) e = record { part = Node n; within = whole; many = leb-false _ 65535 e }
+  some-many (Node n) e = (Node n, whole, leb-false _ 65535 e)
 
   pub few-all : (R : Term) → ((P : Term) → Subterm P R → Few P) → allFew t R ≡ true
   few-all R h =
-      ⊎-elim (λ (e : allFew t R ≡ true). e) (λ (e : allFew t R ≡ false). let m = some-many R e in absurd (omega (arith, m .many, h (m .part) (m .within))))
+      ⊎-elim (λ (e : allFew t R ≡ true). e) (λ (e : allFew t R ≡ false). let m = some-many R e in absurd (omega (arith, m .2, h (m .0) (m .1))))
       (either (allFew t R))
