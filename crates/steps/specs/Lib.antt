@@ -10,3 +10,4 @@ pub mod Kept
 pub mod Orders
 pub mod Refusals
 pub mod Examples
+pub mod ShelfExamples
