@@ -1,5 +1,8 @@
 pub mod Checks
 pub mod Conditions
+pub mod Rows
+pub mod Fitting
+pub mod Rules
 pub mod Limits
 pub mod Measuring
 pub mod Operands

@@ -1,7 +1,7 @@
 -- The ascending pass: marks show what lower nodes name.
 -- Assumes nothing.
 use Prim.Native.Nat.{ℕ, _+_, _<_}
-use mathlib.Core.Bool.{Bool, true, false, _&&_, _||_, or-comm}
+use mathlib.Core.Bool.{Bool, true, false, not, _&&_, _||_, or-comm}
 use mathlib.Core.Path.{_≡_, refl, sym, ap, _∙_}
 use mathlib.Core.List.{List}
 use native.Mathlib.Omega.{arith}
@@ -10,7 +10,7 @@ use lib.ListN.{length, set, length-set}
 use Rattle.basis.specs.KeySets.{has, plusIf}
 use Rattle.basis.proofs.KeySets.{has-plus}
 use Rattle.basis.proofs.Numbers.{some-more, some-none}
-use Rattle.basis.proofs.Tests.{and-right, and-when, is-false}
+use Rattle.basis.proofs.Tests.{and-right, and-when, or-right, is-false}
 use Rattle.table.specs.Tables.{Table, pAt, qAt}
 use Rattle.table.specs.Nodes.{fitting, leftNode, rightNode, names, inner, named, namesAgain, badNode}
 use Rattle.table.specs.Marks.{namedBit, marking, isMarked, changed, Shows, TwoMarks}
@@ -46,9 +46,13 @@ module _ (t : Table) where
   unfolding badNode
   bad-unfit n e = rw (badNode, e)
 
-  bad-fit : (n : ℕ) → fitting t n ≡ true → badNode t n ≡ namesAgain t n
+  pub bad-fit : (n : ℕ) → fitting t n ≡ true → badNode t n ≡ namesAgain t n
   unfolding badNode
   bad-fit n e = rw (badNode, e)
+
+  pub bad-again : (n : ℕ) → namesAgain t n ≡ true → badNode t n ≡ true
+  unfolding badNode
+  bad-again n e = or-right (not (fitting t n)) (namesAgain t n) e
 
   -- the words when the nodes below i have had their turns
   pub record Turned (words : List ℕ) (i : ℕ) : Type 0 where

@@ -51,7 +51,7 @@ module _ (t : Table) where
   unfolding fieldsHere
   inner-fields n h = rw (fieldsHere, lt-ltb n (firstRoot t) h)
 
-  root-fields : (n : ℕ) → firstRoot t ≤ n → fieldsAt t n ≡ cond (eqb (kindAt t n) 64) (fields (rootNames t n) Zero) (fields Never Never)
+  pub root-fields : (n : ℕ) → firstRoot t ≤ n → fieldsAt t n ≡ cond (eqb (kindAt t n) 64) (fields (rootNames t n) Zero) (fields Never Never)
   unfolding fieldsHere
   root-fields n h = rw (fieldsHere, le-ltb n (firstRoot t) h)
 

@@ -7,3 +7,4 @@ pub mod Rules
 pub mod Sound
 pub mod Measuring
 pub mod Marks
+pub mod Examples

@@ -125,9 +125,9 @@ module _ (t : Table) where
     pub last : root < linksEnd
     pub reaches : Reaches (pAt t root) n
 
-  -- 5: of a key node (33 attribute, 34 stigmergy key, 35 environment key) party is 0 where reached from a process node, 1 or 2 where reached from a
-  -- link, and a link reaches no environment key
+  -- 5: of an attribute (33) or a stigmergy key (34) party is 0 where reached from a process node, 1 (sender) or 2 (receiver) where reached from a
+  -- link, and a link reaches no environment key (35)
   pub data Wrong (n : ℕ) : Type 0 where
-    party : 33 ≤ kindAt t n → kindAt t n ≤ 35 → FromProcess n → (qAt t n ≡ 0 → ⊥) → Wrong n
-    no-party : 33 ≤ kindAt t n → kindAt t n ≤ 35 → FromLink n → qAt t n ≡ 0 → Wrong n
+    party : 33 ≤ kindAt t n → kindAt t n ≤ 34 → FromProcess n → (qAt t n ≡ 0 → ⊥) → Wrong n
+    no-party : 33 ≤ kindAt t n → kindAt t n ≤ 34 → FromLink n → (qAt t n ≡ 1 → ⊥) → (qAt t n ≡ 2 → ⊥) → Wrong n
     environment-linked : kindAt t n ≡ 35 → FromLink n → Wrong n

@@ -193,7 +193,7 @@ pub length-derivations : (P : Process) → length (derivations P) ≡ actionCoun
 length-derivations P = ap length (sym (choices-any P)) ∙ length-choices P Any
 
 pub few-count : (P : Process) → few P ≡ leb (actionCount P + tickCount P) 65535
-few-count P = rw (length-derivations P)
+few-count P = ap (λ (n : ℕ). leb n 65535) (length-derivations P)
 
 -- What stands at a place of the list.
 

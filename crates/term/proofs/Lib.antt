@@ -5,8 +5,11 @@ pub mod Words
 pub mod Opened
 pub mod Calls
 pub mod Exposed
+pub mod Exposes
 pub mod Members
 pub mod Subterms
 pub mod Inside
 pub mod Acceptance
-pub mod Examples
+pub mod ByComputing
+pub mod Rules
+pub mod Overfull

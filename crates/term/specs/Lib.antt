@@ -7,3 +7,4 @@ pub mod Accepted
 pub mod Rules
 pub mod Parts
 pub mod Examples
+pub mod Refused
