@@ -129,8 +129,7 @@ module _ (t : Table) (was : List ℕ) (x : ℕ) where
 
   act-follows : (c : ℕ) → Follows (actChecks t was x c) (actConditions t was x c)
   act-follows c =
-      let d = chosen t was x c in
-      (
+      let d = chosen t was x c in (
         unless-not 11 (eqb (zcOf was x) 0 && eqb (zpOf was x) 0) (and-exactly (eqb (zcOf was x) 0) (eqb (zpOf was x) 0) (eq-exactly (zcOf was x) 0) (eq-exactly (zpOf was x) 0)),
         λ e11. (
           where-not 12 (allFew t (termIn was x)) too-many,
