@@ -24,7 +24,8 @@ use Rattle.state.proofs.Places.{Place, Zc, Zp, Clock, Mark, Word, Writer, Waits
 use Rattle.state.proofs.Frames.{SameAt, wordAt, set-other, term-same}
 use Rattle.state.specs.Standing.{HasBlocks}
 use Rattle.state.specs.WellFormed.{Proper}
-use Rattle.state.proofs.Formed.{ResidualFormed, proper-facts, residual-test}
+use Rattle.state.specs.Formed.{ResidualFormed}
+use Rattle.state.proofs.Formed.{proper-facts, residual-test}
 use Rattle.state.proofs.Keep.{residual-kept}
 use Rattle.steps.specs.Acts.{writesEntry, chosen, guardsRead, toConfirm, storeOf, setKey, leave, acted}
 use Rattle.steps.proofs.Steps.{Able, act-able}

@@ -24,7 +24,8 @@ use Rattle.residual.specs.Wholes.{Whole, Taking, Offered, residualTerm}
 use Rattle.state.specs.Layout.{zcAt, zpAt, lengthAt, residualAt, residualWords, zcOf, zpOf, lengthOf, termIn}
 use Rattle.state.specs.Standing.{HasBlocks}
 use Rattle.state.specs.WellFormed.{Proper}
-use Rattle.state.proofs.Formed.{ResidualFormed, proper-facts, residual-test}
+use Rattle.state.specs.Formed.{ResidualFormed}
+use Rattle.state.proofs.Formed.{proper-facts, residual-test}
 use Rattle.evaluation.specs.Situated.{Situated}
 use Rattle.steps.specs.Acts.{chosen}
 use Rattle.steps.proofs.Acts.{chosen-inside}

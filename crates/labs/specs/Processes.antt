@@ -35,14 +35,6 @@ form t Tick = √
 form t Idle = 𝟎
 form t (Node n) = getD (forms n (pAt t n) (qAt t n)) (kindAt t n) 𝟎
 
--- P is R, or a part of it
-pub data Subterm (P : Term) : Term → Type 0 where
-  whole : Subterm P P
-  seq-left : {Q R : Term} → Subterm P Q → Subterm P (Seq Q R)
-  seq-right : {Q R : Term} → Subterm P R → Subterm P (Seq Q R)
-  par-left : {Q R : Term} → Subterm P Q → Subterm P (Par Q R)
-  par-right : {Q R : Term} → Subterm P R → Subterm P (Par Q R)
-
 -- TABLE 14. An action assigns an expression to an attribute, a stigmergy key or an environment key: kinds 2, 3, 4
 pub data Variable : Type 0 where
   attribute stigmergy environment : ℕ → Variable

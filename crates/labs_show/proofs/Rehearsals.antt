@@ -11,7 +11,7 @@ use Rattle.table.specs.Tables.{Table, sizesOf, tableOf}
 use Rattle.table.specs.Sound.{Limits}
 use Rattle.state.specs.Layout.{isWhole}
 use Rattle.state.specs.WellFormed.{loaded}
-use Rattle.state.proofs.Formed.{ProperFacts}
+use Rattle.state.specs.Formed.{ProperFacts}
 use Rattle.term.specs.Acceptance.{tableChecks}
 use Rattle.steps.specs.Tallies.{noTally}
 use Rattle.steps.specs.Steps.{Outcome, loadOf}

@@ -22,7 +22,8 @@ use Rattle.state.specs.Layout.{stateWords, keyLimit, markOf, wordOf, sta
 use Rattle.state.specs.Entries.{clockOf}
 use Rattle.state.proofs.Places.{Place, KeySet, Clock, Agents, Mark, Word, Writer, Waits, Length, Residual, placeAt, Inside, placeKind, placeAgent, place-past, placed}
 use Rattle.state.proofs.Frames.{wordAt, SameAt}
-use Rattle.state.proofs.Formed.{PairFormed, WellFormed, There, highestIn, keysIn}
+use Rattle.state.specs.Formed.{PairFormed, WellFormed, There, highestIn, keysIn}
+use Rattle.state.proofs.Formed.{sets-of}
 
 -- what two states show of a table's fleet is the same: clock, values, stamps, writers of entries, pending keys, residual terms
 pub record ShowSame (t : Table) (s u : List ℕ) : Type 0 where
@@ -91,7 +92,7 @@ module _ (t : Table) (s u : List ℕ) (w : WellFormed t s) (x : WellFormed t u) 
   at (Writer a k) h = owned (Writer a k) (omega arith) (λ l. writer a l k h)
   at (Waits z a) h =
       owned (Waits z a) (omega arith) (λ l.
-      same-keys keyLimit (wordAt s (Waits z a)) (wordAt u (Waits z a)) (w .formed .sets z a l .narrow) (x .formed .sets z a l .narrow) (same .sets z a l))
+      same-keys keyLimit (wordAt s (Waits z a)) (wordAt u (Waits z a)) (sets-of t (clockOf s) s (w .formed) z a l .narrow) (sets-of t (clockOf u) u (x .formed) z a l .narrow) (same .sets z a l))
   at (Length a) h =
       owned (Length a) (omega arith) (λ l.
       w .formed .residuals a l .long ∙ ap (λ (T : Term). length (words T)) (same .terms a l) ∙ sym (x .formed .residuals a l .long))

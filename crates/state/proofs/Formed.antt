@@ -1,4 +1,4 @@
--- Well formed, as facts: what refusal 9 tests, to be read and used part by part.
+-- Refusal 9 tests exactly that a state is well formed, and its facts are read and used part by part.
 -- Assumes nothing.
 use Prim.Native.Nat.{ℕ, _+_, _-_, _^_, _<_, _≤_}
 use mathlib.Core.Bool.{Bool, true, false, cond, not, _&&_, _||_}
@@ -23,69 +23,17 @@ use Rattle.state.specs.declared.Store.{Store}
 use Rattle.state.specs.declared.Store.the-variants.{Environment, Attributes, Entries}
 use Rattle.state.specs.Layout.{stateWords, agentsAt, blockAt, keyLimit, residualWords, markOf, wordOf, stampOf, writerOf, zcOf, zpOf, lengthOf, residualOf, termIn}
 use Rattle.state.specs.Entries.{entryOf, clockOf}
-use Rattle.state.specs.WellFormed.{allZero, writerFormed, pairFormed, pendingFormed, entryFormed, residualFormed, agentFormed, wellFormed, Proper, Words}
+use Rattle.state.specs.WellFormed.{allZero, writerFormed, pairFormed, pendingFormed, entryFormed, residualFormed, agentFormed, wellFormed, Proper}
 use Rattle.state.proofs.Places.{KeySet, Zc, Zp, Waits, Residual}
 use Rattle.state.specs.Standing.{HasBlocks}
+use Rattle.state.specs.Formed.{PairFormed, WriterFormed, SetFormed, ResidualFormed, There, highestIn, keysIn, Formed, WellFormed, ProperFacts, FormedExactly}
 use Rattle.state.proofs.Frames.{wordAt}
 use Rattle.state.proofs.Residuals.{zero-at, at-zero, residual-length, residual-front, residual-rest, residual-reads, term-read}
 
--- pair k of a store of so many keys: no mark is over the highest, absent has value 0, a key that there is not is absent
-pub record PairFormed (s : List ℕ) (store : Store) (highest keys k : ℕ) : Type 0 where
-  pub bound : markOf s store k ≤ highest
-  pub absent : markOf s store k ≡ 0 → wordOf s store k ≡ 0
-  pub unused : keys ≤ k → markOf s store k ≡ 0
-
--- the writer of agent a's entry for k is one of so many agents; where there is no entry, it is 0
-pub record WriterFormed (s : List ℕ) (agents a k : ℕ) : Type 0 where
-  pub none : stampOf s a k ≡ 0 → writerOf s a k ≡ 0
-  pub agent : 0 < stampOf s a k → writerOf s a k < agents
-
--- the set w of agent a: no key from the limit on, and every key has an entry
-pub record SetFormed (s : List ℕ) (a w : ℕ) : Type 0 where
-  pub narrow : w < 2 ^ keyLimit
-  pub entered : (k : ℕ) → k < keyLimit → has w k ≡ true → 0 < stampOf s a k
-
--- agent a's residual is a term over process nodes, and 0 after it
-pub record ResidualFormed (t : Table) (s : List ℕ) (a : ℕ) : Type 0 where
-  pub over : Over t (termIn s a)
-  pub long : lengthOf s a ≡ length (words (termIn s a))
-  pub short : lengthOf s a ≤ residualWords
-  pub reads : (i : ℕ) → i < residualWords → wordAt s (Residual a i) ≡ getD (words (termIn s a)) i 0
-
--- of each store: whether it is there, its highest mark where stamps go up to c, and how many keys it has
-abbrev pub There : Table → Store → Type 0
-There t Environment = Unit {0}
-There t (Attributes a) = a < t .sizes .agents
-There t (Entries a) = a < t .sizes .agents
-
-abbrev pub highestIn : ℕ → Store → ℕ
-highestIn c Environment = 1
-highestIn c (Attributes a) = 1
-highestIn c (Entries a) = c
-
-abbrev pub keysIn : Table → Store → ℕ
-keysIn t Environment = t .sizes .environment
-keysIn t (Attributes a) = t .sizes .attributes
-keysIn t (Entries a) = t .sizes .stigmergy
-
--- well formed but for the clock, with stamps up to c
-pub record Formed (t : Table) (c : ℕ) (s : List ℕ) : Type 0 where
-  pub agents : getD s agentsAt 0 ≡ t .sizes .agents
-  pub pairs : (store : Store) → There t store → (k : ℕ) → k < keyLimit → PairFormed s store (highestIn c store) (keysIn t store) k
-  pub writers : (a : ℕ) → a < t .sizes .agents → (k : ℕ) → k < keyLimit → WriterFormed s (t .sizes .agents) a k
-  pub sets : (z : KeySet) (a : ℕ) → a < t .sizes .agents → SetFormed s a (wordAt s (Waits z a))
-  pub residuals : (a : ℕ) → a < t .sizes .agents → ResidualFormed t s a
-  pub unused : (i : ℕ) → blockAt (t .sizes .agents) ≤ i → getD s i 0 ≡ 0
-
-pub record WellFormed (t : Table) (s : List ℕ) : Type 0 where
-  pub clock : clockOf s ≤ 65535
-  pub formed : Formed t (clockOf s) s
-
--- `Proper`, with the facts of a well-formed state
-pub record ProperFacts (t : Table) (s : List ℕ) : Type 0 where
-  pub whole : length s ≡ stateWords
-  pub small : Words s
-  pub formed : WellFormed t s
+-- Zc or Zp of an agent
+pub sets-of : (t : Table) (c : ℕ) (s : List ℕ) → Formed t c s → (z : KeySet) (a : ℕ) → a < t .sizes .agents → SetFormed s a (wordAt s (Waits z a))
+sets-of t c s f Zc a l = f .to-confirm a l
+sets-of t c s f Zp a l = f .to-propagate a l
 
 -- PAIRS
 module _ (t : Table) (s : List ℕ) (store : Store) (highest keys k : ℕ) where
@@ -246,13 +194,17 @@ module _ (t : Table) (limits : Limits (t .sizes)) (s : List ℕ) (room : HasBloc
           agents = eqb-true (getD s agentsAt 0) n (and-left (eqb (getD s agentsAt 0) n) _ e);
           pairs = pairs (and-left (every (pairFormed s Environment 1 (t .sizes .environment)) keyLimit) _ g) each;
           writers = λ a l k h. writer-read s n a k (entries-tested a (each a l) k h .0);
-          sets = λ z a l. let b = each a l in sets-read t s a (b .toConfirm) (b .toPropagate) (λ k h. entries-tested a b k h .1) z;
+          to-confirm = λ a l. sets a (each a l) Zc;
+          to-propagate = λ a l. sets a (each a l) Zp;
           residuals = λ a l. residual-read t few s room a (omega arith) (each a l .residual);
           unused = λ i l. let j : i ≡ blockAt n + (i - blockAt n) = omega arith in
               ap (λ (m : ℕ). getD s m 0) j ∙ sym (getD-drop (blockAt n) s (i - blockAt n) 0) ∙ zeros (i - blockAt n);
         };
       }
     where
+      sets : (a : ℕ) → Tested a → (z : KeySet) → SetFormed s a (wordAt s (Waits z a))
+      sets a b = sets-read t s a (b .toConfirm) (b .toPropagate) (λ k h. entries-tested a b k h .1)
+
       pairs : every (pairFormed s Environment 1 (t .sizes .environment)) keyLimit ≡ true → ((a : ℕ) → a < t .sizes .agents → Tested a)
           → (store : Store) → There t store → (k : ℕ) → k < keyLimit → PairFormed s store (highestIn (clockOf s) store) (keysIn t store) k
       pairs g each Environment h k l = pair-read t s Environment 1 (t .sizes .environment) k (every-at _ keyLimit g k l)
@@ -268,14 +220,14 @@ module _ (t : Table) (limits : Limits (t .sizes)) (s : List ℕ) (room : HasBloc
     unfolding entryFormed
     entry-test a l k h =
         and-both (writerFormed (t .sizes .agents) (entryOf s a k)) (pendingFormed s a k) (writer-test s (t .sizes .agents) a k (w .formed .writers a l k h))
-        (sets-test t s a (λ z. w .formed .sets z a l) k h)
+        (sets-test t s a (λ z. sets-of t (clockOf s) s (w .formed) z a l) k h)
 
     agent-test : (a : ℕ) → a < t .sizes .agents → agentFormed t s a ≡ true
     unfolding agentFormed
     agent-test a l =
         and-both _ _ (pairs-test (Attributes a) l)
         (and-both _ _ (pairs-test (Entries a) l)
-        (and-both _ _ (and-both _ _ (lt-ltb (zcOf s a) (2 ^ keyLimit) (w .formed .sets Zc a l .narrow)) (lt-ltb (zpOf s a) (2 ^ keyLimit) (w .formed .sets Zp a l .narrow)))
+        (and-both _ _ (and-both _ _ (lt-ltb (zcOf s a) (2 ^ keyLimit) (w .formed .to-confirm a l .narrow)) (lt-ltb (zpOf s a) (2 ^ keyLimit) (w .formed .to-propagate a l .narrow)))
         (and-both _ _ (every-all (entryFormed s (t .sizes .agents) a) keyLimit (entry-test a l))
         (residual-test t few s room a (omega arith) (w .formed .residuals a l)))))
 
@@ -289,8 +241,8 @@ module _ (t : Table) (limits : Limits (t .sizes)) (s : List ℕ) (room : HasBloc
         (and-both _ _ (every-all (agentFormed t s) n agent-test)
         (at-zero (drop (blockAt n) s) (λ i l. getD-drop (blockAt n) s i 0 ∙ w .formed .unused (blockAt n + i) (omega arith))))))
 
-  pub well-formed-iff : (wellFormed t s ≡ true) ↔ WellFormed t s
-  well-formed-iff = (well-formed-read, well-formed-test)
+pub formed-exactly : FormedExactly
+formed-exactly t limits s room = (well-formed-read t limits s room, well-formed-test t limits s room)
 
 -- PROPER WORDS
 module _ (t : Table) (limits : Limits (t .sizes)) (s : List ℕ) where

@@ -20,11 +20,12 @@ use Rattle.state.specs.declared.Store.the-variants.{Environment, Attribu
 use Rattle.state.specs.Layout.{stateWords, blockAt, keyLimit, residualWords, clockAt, stampOf, termIn, put, addKey, dropKey}
 use Rattle.state.specs.declared.Entry.{Entry}
 use Rattle.state.specs.Entries.{putEntry, clockOf}
-use Rattle.state.proofs.Places.{settled, Place, KeySet, Clock, Agents, Mark, Word, Writer, Waits, Length, Residual, placeAt, Inside, placeAgent, placeIndex, storeAgent, same, same-one, place-bound}
+use Rattle.state.proofs.Places.{settled, Place, KeySet, Zc, Zp, Clock, Agents, Mark, Word, Writer, Waits, Length, Residual, placeAt, Inside, placeAgent, placeIndex, storeAgent, same, same-one, place-bound}
 use Rattle.state.specs.Standing.{HasBlocks}
 use Rattle.state.specs.WellFormed.{Words}
 use Rattle.state.proofs.Frames.{wordAt, SameAt, set-small, set-other, set-here, set-settled, set-word, put-other, put-word, put-mark, put-length, put-small, term-same}
-use Rattle.state.proofs.Formed.{PairFormed, WriterFormed, SetFormed, ResidualFormed, There, highestIn, keysIn, Formed, ProperFacts}
+use Rattle.state.specs.Formed.{PairFormed, WriterFormed, SetFormed, ResidualFormed, There, highestIn, keysIn, Formed, ProperFacts}
+use Rattle.state.proofs.Formed.{sets-of}
 
 -- WHAT STAYS where the words stay
 pub pair-kept : (s u : List ℕ) (store : Store) (highest keys k : ℕ) → SameAt u s (Mark store k) → SameAt u s (Word store k) → PairFormed s store highest keys k → PairFormed u store highest keys k
@@ -73,7 +74,15 @@ module _ (t : Table) (limits : Limits (t .sizes)) where
   there-agent (Entries a) h = h
 
   formed-later : (c d : ℕ) (s : List ℕ) → c ≤ d → Formed t c s → Formed t d s
-  formed-later c d s l f = record { agents = f .agents; pairs = pairs; writers = f .writers; sets = f .sets; residuals = f .residuals; unused = f .unused }
+  formed-later c d s l f = record {
+    agents = f .agents;
+    pairs = pairs;
+    writers = f .writers;
+    to-confirm = f .to-confirm;
+    to-propagate = f .to-propagate;
+    residuals = f .residuals;
+    unused = f .unused;
+  }
     where
       pairs : (store : Store) → There t store → (k : ℕ) → k < keyLimit → PairFormed s store (highestIn d store) (keysIn t store) k
       pairs Environment h k i = f .pairs Environment h k i
@@ -101,10 +110,14 @@ module _ (t : Table) (limits : Limits (t .sizes)) where
         agents = still Agents tt refl ∙ f .agents;
         pairs = λ store h k l. pair-kept s changed store (highestIn c store) (keysIn t store) k (still (Mark store k) l refl) (still (Word store k) l refl) (f .pairs store h k l);
         writers = writers;
-        sets = λ z a l. set-kept s changed a (wordAt changed (Waits z a)) (λ k h m. rw (still (Mark (Entries a) k) h refl) m) (sets z a l);
+        to-confirm = held Zc;
+        to-propagate = held Zp;
         residuals = λ a l. residual-kept t s changed a (length-set s (placeAt p) v) (still (Length a) tt refl) (λ i h. still (Residual a i) h refl) (f .residuals a l);
         unused = still-unused s p v inside there (f .unused);
       }
+        where
+          held : (z : KeySet) (a : ℕ) → a < agents → SetFormed changed a (wordAt changed (Waits z a))
+          held z a l = set-kept s changed a (wordAt changed (Waits z a)) (λ k h m. rw (still (Mark (Entries a) k) h refl) m) (sets z a l)
 
     -- the writers, after a change of no mark and no writer
     same-writers : (p : Place) (v : ℕ) → Inside p → ((a k : ℕ) → same (Mark (Entries a) k) p ≡ false) → ((a k : ℕ) → same (Writer a k) p ≡ false)
@@ -114,7 +127,7 @@ module _ (t : Table) (limits : Limits (t .sizes)) where
 
     formed-clock : (v : ℕ) → Formed t c (set s clockAt v)
     formed-clock v = formed-set Clock v tt (omega arith) refl
-        (λ z a l. rw (set-other s Clock v tt (Waits z a) tt refl) (f .sets z a l))
+        (λ z a l. rw (set-other s Clock v tt (Waits z a) tt refl) (sets-of t c s f z a l))
         (same-writers Clock v tt (λ a k. refl) (λ a k. refl))
 
     formed-keys : (z : KeySet) (a w : ℕ) → a < agents → SetFormed s a w → Formed t c (set s (placeAt (Waits z a)) w)
@@ -123,12 +136,12 @@ module _ (t : Table) (limits : Limits (t .sizes)) where
         sets : (y : KeySet) (b : ℕ) → b < agents → SetFormed s b (wordAt (set s (placeAt (Waits z a)) w) (Waits y b))
         sets y b l = rw (set-word s (Waits z a) w tt room (omega arith) (Waits y b) tt)
             (cond-cases (SetFormed s b) (same (Waits y b) (Waits z a))
-            (λ e. subst (λ (d : ℕ). SetFormed s d w) (sym (ap placeAgent (same-one (Waits y b) (Waits z a) e))) g) (λ e. f .sets y b l))
+            (λ e. subst (λ (d : ℕ). SetFormed s d w) (sym (ap placeAgent (same-one (Waits y b) (Waits z a) e))) g) (λ e. sets-of t c s f y b l))
 
     -- the writer of an entry
     formed-writer : (a k w : ℕ) → a < agents → k < keyLimit → 0 < stampOf s a k → w < agents → Formed t c (set s (placeAt (Writer a k)) w)
     formed-writer a k w there key pos below =
-        formed-set (Writer a k) w key there refl (λ z b l. rw (set-other s (Writer a k) w key (Waits z b) tt refl) (f .sets z b l)) writers
+        formed-set (Writer a k) w key there refl (λ z b l. rw (set-other s (Writer a k) w key (Waits z b) tt refl) (sets-of t c s f z b l)) writers
       where
         stays : (b j : ℕ) → j < keyLimit → stampOf (set s (placeAt (Writer a k)) w) b j ≡ stampOf s b j
         stays b j h = set-other s (Writer a k) w key (Mark (Entries b) j) h refl
@@ -185,10 +198,14 @@ module _ (t : Table) (limits : Limits (t .sizes)) where
         agents = put-other store k v m s key Agents tt refl refl ∙ f .agents;
         pairs = pairs;
         writers = writers;
-        sets = λ z a l. rw (put-other store k v m s key (Waits z a) tt refl refl) (set-kept s with-pair a (wordAt s (Waits z a)) (stamps a) (f .sets z a l));
+        to-confirm = held Zc;
+        to-propagate = held Zp;
         residuals = λ a l. residual-kept t s with-pair a (put-length store k v m s) (put-other store k v m s key (Length a) tt refl refl) (λ i h. put-other store k v m s key (Residual a i) h refl refl) (f .residuals a l);
         unused = still-unused (set s (placeAt (Word store k)) v) (Mark store k) m key (there-agent store there) (still-unused s (Word store k) v key (there-agent store there) (f .unused));
       }
+        where
+          held : (z : KeySet) (a : ℕ) → a < agents → SetFormed with-pair a (wordAt with-pair (Waits z a))
+          held z a l = rw (put-other store k v m s key (Waits z a) tt refl refl) (set-kept s with-pair a (wordAt s (Waits z a)) (stamps a) (sets-of t c s f z a l))
 
 -- WHAT STEPS KEEP of the state before, `was`: stamps go up to c, and the clock shows n
 pub record Kept (t : Table) (c n : ℕ) (was s : List ℕ) : Type 0 where
@@ -238,11 +255,11 @@ module _ (t : Table) (limits : Limits (t .sizes)) (was : List ℕ) where
 
     pub kept-add : (z : KeySet) (a k : ℕ) → a < t .sizes .agents → k < keyLimit → 0 < stampOf s a k → Kept t c n was (addKey (placeAt (Waits z a)) k s)
     unfolding addKey
-    kept-add z a k l key pos = kept-keys z a (plus (wordAt s (Waits z a)) k) l (set-plus s a (wordAt s (Waits z a)) (h .formed .sets z a l) k key pos)
+    kept-add z a k l key pos = kept-keys z a (plus (wordAt s (Waits z a)) k) l (set-plus s a (wordAt s (Waits z a)) (sets-of t c s (h .formed) z a l) k key pos)
 
     pub kept-drop : (z : KeySet) (a k : ℕ) → a < t .sizes .agents → Kept t c n was (dropKey (placeAt (Waits z a)) k s)
     unfolding dropKey
-    kept-drop z a k l = kept-keys z a (minus (wordAt s (Waits z a)) k) l (set-minus s a (wordAt s (Waits z a)) (h .formed .sets z a l) k)
+    kept-drop z a k l = kept-keys z a (minus (wordAt s (Waits z a)) k) l (set-minus s a (wordAt s (Waits z a)) (sets-of t c s (h .formed) z a l) k)
 
     pub kept-put : (store : Store) (k v m : ℕ) → There t store → k < keyLimit → k < keysIn t store → 0 < m → m ≤ highestIn c store → v < 2 ^ 32 → m < 2 ^ 32
         → Kept t c n was (put store k v m s)

@@ -25,10 +25,11 @@ use Rattle.state.specs.declared.Store.the-variants.{Entries}
 use Rattle.state.specs.Layout.{stateWords, agentsAt, blockAt, lengthAt, residualAt, residualWords, keyLimit, markOf, writerOf, lengthOf, termIn, valueIn}
 use Rattle.state.specs.Entries.{clockOf}
 use Rattle.state.specs.WellFormed.{started, loaded, Words}
-use Rattle.state.proofs.Places.{Place, KeySet, Clock, Agents, Mark, Word, Writer, Waits, Length, Residual, placeAt, Inside, placeAgent, same, other-agent, past-agent, placed}
+use Rattle.state.proofs.Places.{Place, KeySet, Zc, Zp, Clock, Agents, Mark, Word, Writer, Waits, Length, Residual, placeAt, Inside, placeAgent, same, other-agent, past-agent, placed}
 use Rattle.state.proofs.Frames.{wordAt, SameAt, set-small, set-other, set-here}
 use Rattle.state.proofs.Residuals.{term-read}
-use Rattle.state.proofs.Formed.{WellFormed, ProperFacts, residual-formed}
+use Rattle.state.specs.Formed.{SetFormed, WellFormed, ProperFacts}
+use Rattle.state.proofs.Formed.{residual-formed}
 
 abbrev zeros : ℕ → List ℕ
 zeros n = replicate n 0
@@ -144,6 +145,9 @@ module _ (t : Table) where
         ∙ loaded-zero (p .place) (p .inside) (other-agent (p .place) Agents (λ e. omega arith))
         (λ a l. other-agent (p .place) (Length a) (λ e. omega arith)) (λ a l. other-agent (p .place) (Residual a 0) (λ e. omega arith))
 
+    empty : (z : KeySet) (a : ℕ) → SetFormed (loaded t) a (wordAt (loaded t) (Waits z a))
+    empty z a = rw (loaded-set z a) (record { narrow = omega arith; entered = λ k h e. absurd (not-both e (has-nothing k)) })
+
     formed : WellFormed t (loaded t)
     unfolding words
     formed =
@@ -159,8 +163,8 @@ module _ (t : Table) where
                   unused = λ e. m;
                 };
             writers = λ a l k h. record { none = λ e. loaded-writer a k h; agent = λ i. absurd (omega (arith, loaded-mark (Entries a) k h)) };
-            sets = λ z a l. rw (loaded-set z a)
-                (record { narrow = omega arith; entered = λ k h e. absurd (not-both e (has-nothing k)) });
+            to-confirm = λ a l. empty Zc a;
+            to-propagate = λ a l. empty Zp a;
             residuals = λ a l. residual-formed t (omega arith) (loaded t) (omega (arith, loaded-length)) a (omega arith) (Node (startAt t a)) (starts a l) (loaded-size (omega arith) a l) (omega arith) (loaded-word (omega arith) a l);
             unused = rest;
           };

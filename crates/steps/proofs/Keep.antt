@@ -33,7 +33,8 @@ use Rattle.state.specs.declared.Entry.{Entry}
 use Rattle.state.proofs.Places.{Place, KeySet, Zc, Zp, Clock, Agents, Mark, Word, Writer, Waits, Length, Residual, placeAt, Inside, placeAgent, other-agent, past-agent, placed}
 use Rattle.state.proofs.Frames.{wordAt, SameAt, put-entry-stamp, drop-other}
 use Rattle.state.proofs.Evaluation.{SmallValue, valueOf-small}
-use Rattle.state.proofs.Formed.{ResidualFormed, ProperFacts, There, highestIn, keysIn, residual-formed}
+use Rattle.state.specs.Formed.{SetFormed, ResidualFormed, ProperFacts, There, highestIn, keysIn}
+use Rattle.state.proofs.Formed.{sets-of, residual-formed}
 use Rattle.state.proofs.Keep.{Kept, kept-proper, kept-start, kept-later, kept-clock, kept-keys, kept-add, kept-drop, kept-put, kept-entry, pair-kept, writer-kept, set-kept, residual-kept, set-plusAll}
 use Rattle.steps.specs.Acts.{wordIn, leave, valueFor, writesEntry, guardsRead, labelReads, toConfirm, setKey, acted}
 use Rattle.steps.specs.declared.Response.the-variants.{Takes, Propagates, Ignores}
@@ -64,6 +65,10 @@ module _ (t : Table) (limits : Limits (t .sizes)) (was : List ℕ) where
         else : (a ≡ x → ⊥) → ResidualFormed t left a
         else d = residual-kept t s left a (leave-length x (words T) s) (other (Length a) tt d) (λ i m. other (Residual a i) m d) (h .formed .residuals a l)
 
+    sets : (z : KeySet) (a : ℕ) → a < agents → SetFormed left a (wordAt left (Waits z a))
+    sets z a l = rw (leave-other x (words T) s (Waits z a) tt refl (λ j m. refl))
+        (set-kept s left a (wordAt s (Waits z a)) (λ k i m. rw (leave-other x (words T) s (Mark (Entries a) k) i refl (λ j o. refl)) m) (sets-of t c s (h .formed) z a l))
+
     unused : (i : ℕ) → blockAt agents ≤ i → getD left i 0 ≡ 0
     unused i l =
         let p = placed i in
@@ -80,8 +85,8 @@ module _ (t : Table) (limits : Limits (t .sizes)) (was : List ℕ) where
         pairs = λ store i k l. pair-kept s left store (highestIn c store) (keysIn t store) k
             (leave-other x (words T) s (Mark store k) l refl (λ j m. refl)) (leave-other x (words T) s (Word store k) l refl (λ j m. refl)) (h .formed .pairs store i k l);
         writers = λ a l k i. writer-kept s left agents a k (leave-other x (words T) s (Mark (Entries a) k) i refl (λ j m. refl)) (leave-other x (words T) s (Writer a k) i refl (λ j m. refl)) (h .formed .writers a l k i);
-        sets = λ z a l. rw (leave-other x (words T) s (Waits z a) tt refl (λ j m. refl))
-            (set-kept s left a (wordAt s (Waits z a)) (λ k i m. rw (leave-other x (words T) s (Mark (Entries a) k) i refl (λ j o. refl)) m) (h .formed .sets z a l));
+        to-confirm = sets Zc;
+        to-propagate = sets Zp;
         residuals = residuals;
         unused = unused;
       };
@@ -211,6 +216,6 @@ module _ (t : Table) (sound : Sound t) (bytes : (i : ℕ) → getD (t .operands)
         let b = label-set (d .label) (inside .label) room in
         let c = b .0 in
         let w = plusAll (toConfirm t was x d) keyLimit (zcOf s x) in
-        let gained = set-plusAll s x (zcOf s x) (b .2 .formed .sets Zc x there) (toConfirm t was x d) (λ k l e. b .2 .stamps x k l (ltb-true 0 (stampOf was x k) (and-right (guardsRead t (d .guards) k || labelReads t (d .label) k) (ltb 0 (stampOf was x k)) e))) in
+        let gained = set-plusAll s x (zcOf s x) (b .2 .formed .to-confirm x there) (toConfirm t was x d) (λ k l e. b .2 .stamps x k l (ltb-true 0 (stampOf was x k) (and-right (guardsRead t (d .guards) k || labelReads t (d .label) k) (ltb 0 (stampOf was x k)) e))) in
         let confirmed = kept-keys t limits was c c s (b .2) Zc x w there gained in
         kept-proper t c was (acted t was x d) (b .1) (kept-leave t limits was c c (set s (zcAt x) w) confirmed x there (d .leaving) (inside .leaving) short)

@@ -19,16 +19,19 @@ use Rattle.term.specs.Accepted.{Acceptable}
 use Rattle.term.proofs.Acceptance.{passes-accepted}
 use Rattle.state.specs.Layout.{stateWords, isWhole, dropKey}
 use Rattle.state.specs.WellFormed.{loaded, Words}
+use Rattle.state.specs.Entries.{clockOf}
 use Rattle.state.proofs.Places.{KeySet, Zc, Zp, Waits, placeAt}
 use Rattle.state.proofs.Frames.{wordAt}
-use Rattle.state.proofs.Formed.{ProperFacts, well-formed-read, well-formed-test}
+use Rattle.state.specs.Formed.{ProperFacts}
+use Rattle.state.proofs.Formed.{sets-of, well-formed-read, well-formed-test}
 use Rattle.state.proofs.Load.{loaded-proper}
 use Rattle.steps.specs.Acts.{chosen, actChecks, acted}
 use Rattle.steps.specs.Offers.{offered}
 use Rattle.steps.specs.Runs.{Progress, ran, kindIn, agentIn, numberIn, added}
 use Rattle.term.specs.Acceptance.{tableChecks}
 use Rattle.steps.specs.Steps.{outcome, outOfRange, ownChecks, after, tallyOf, stepIn, stateChecks}
-use Rattle.steps.proofs.Steps.{InRange, in-range, act-able, propagates, confirms, state-checks}
+use Rattle.steps.specs.Refusals.{InRange}
+use Rattle.steps.proofs.Steps.{in-range, act-able, propagates, confirms, state-checks}
 use Rattle.steps.proofs.Acts.{chosen-inside}
 use Rattle.steps.proofs.Keep.{dropped-proper, acted-proper}
 
@@ -46,7 +49,7 @@ module _ (t : Table) (sound : Sound t) (bytes : (i : ℕ) → getD (t .operands)
   -- an offer of a key in one of x's sets
   offer-proper : (z : KeySet) (counts confirming : Bool) (x k : ℕ) → x < t .sizes .agents → k < t .sizes .stigmergy → has (wordAt was (Waits z x)) k ≡ true
       → ProperFacts t (dropKey (placeAt (Waits z x)) k (offered t was x k counts confirming (t .sizes .agents)))
-  offer-proper z counts confirming x k there key e = dropped-proper t bounds was proper x k there key (proper .formed .formed .sets z x there .entered k (omega arith) e) counts confirming z
+  offer-proper z counts confirming x k there key e = dropped-proper t bounds was proper x k there key (sets-of t (clockOf was) was (proper .formed .formed) z x there .entered k (omega arith) e) counts confirming z
 
   after-proper : (kind x number : ℕ) → InRange t kind x number → firstOf (ownChecks t was kind x number) ≡ passes → ProperFacts t (after t was kind x number)
   after-proper zero x c r e = act-proper x c (r .agent-below) e

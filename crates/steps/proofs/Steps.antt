@@ -25,6 +25,7 @@ use Rattle.steps.specs.Acts.{choices, chosen, allHold, lacksValue, write
 use Rattle.term.specs.Acceptance.{tableChecks}
 use Rattle.steps.specs.declared.Tally.{Tally}
 use Rattle.steps.specs.Tallies.{noTally}
+use Rattle.steps.specs.Refusals.{InRange}
 use Rattle.steps.specs.Steps.{Outcome, done, refused, outcome, loadOf, outOfRange, ownChecks, tallyOf, after, stepChecks, stepIn, stateChecksWith, stateChecks, stepWith, stepOf}
 
 module _ (was : List ℕ) (tally : Tally) (s : List ℕ) where
@@ -50,11 +51,6 @@ module _ (bytes was : List ℕ) (scratch : ℕ) where
   accepted-load a = outcome-done was noTally (loaded (tableOf bytes)) (firstOf (tableChecks bytes (isWhole was) scratch)) (accepted-passes bytes (isWhole was) scratch a)
 
 -- 10 has passed
-pub record InRange (t : Table) (kind x number : ℕ) : Type 0 where
-  pub kind-below : kind < 3
-  pub agent-below : x < t .sizes .agents
-  pub key-below : 0 < kind → number < t .sizes .stigmergy
-
 module _ (t : Table) (was : List ℕ) (kind x number : ℕ) where
   pub in-range : outOfRange t kind x number ≡ false ↔ InRange t kind x number
   in-range = (there, back)

@@ -10,7 +10,7 @@ use Rattle.table.specs.Tables.{Table, tableOf}
 use Rattle.term.specs.Acceptance.{tableChecks}
 use Rattle.state.specs.WellFormed.{wellFormed}
 use Rattle.steps.specs.Steps.{stateChecksWith}
-use Rattle.steps.specs.Shelves.{placeLimit, nameLimit, shelfWords, nameOf, savedOf, shelfFormed}
+use Rattle.steps.specs.Shelves.{nameOf, savedOf, shelfFormed}
 use Rattle.steps.specs.Points.{saveOf, restoreOf, dropOf}
 
 module _ (shelf : List ℕ) where
@@ -20,7 +20,7 @@ module _ (shelf : List ℕ) where
 
   -- place i holds the name
   pub record Holds (name i : ℕ) : Type 0 where
-    pub place : i < placeLimit
+    pub place : i < 8
     pub named : nameOf shelf i ≡ name
 
   abbrev pub Held : ℕ → Type 0
@@ -28,31 +28,31 @@ module _ (shelf : List ℕ) where
 
   -- there is a place for the name: it is held, or a place is free
   abbrev pub Room : ℕ → Type 0
-  Room name = Held name ⊎ ((i : ℕ) × (i < placeLimit) × Free i)
+  Room name = Held name ⊎ ((i : ℕ) × (i < 8) × Free i)
 
   -- the name is new, and place i is the lowest free one
   pub record LowestFree (name i : ℕ) : Type 0 where
-    pub place : i < placeLimit
+    pub place : i < 8
     pub free : Free i
     pub lower : (j : ℕ) → j < i → Free j → ⊥
     pub new : Held name → ⊥
 
   -- no name word is over 255, no name is held twice, and held states are well formed
   pub record WellFormed (t : Table) : Type 0 where
-    pub small : (i : ℕ) → i < placeLimit → nameOf shelf i ≤ nameLimit
-    pub once : (i j : ℕ) → i < placeLimit → j < placeLimit → nameOf shelf i ≡ nameOf shelf j → Free i ⊎ (i ≡ j)
-    pub formed : (i : ℕ) → i < placeLimit → (Free i → ⊥) → wellFormed t (savedOf shelf i) ≡ true
+    pub small : (i : ℕ) → i < 8 → nameOf shelf i ≤ 255
+    pub once : (i j : ℕ) → i < 8 → j < 8 → nameOf shelf i ≡ nameOf shelf j → Free i ⊎ (i ≡ j)
+    pub formed : (i : ℕ) → i < 8 → (Free i → ⊥) → wellFormed t (savedOf shelf i) ≡ true
 
   -- after it, place i has this name word and this state, and every other place what it had
   pub record OnlyAt (i word : ℕ) (held after : List ℕ) : Type 0 where
     pub name : nameOf after i ≡ word
     pub state : savedOf after i ≡ held
-    pub names : (j : ℕ) → j < placeLimit → (j ≡ i → ⊥) → nameOf after j ≡ nameOf shelf j
-    pub states : (j : ℕ) → j < placeLimit → (j ≡ i → ⊥) → savedOf after j ≡ savedOf shelf j
+    pub names : (j : ℕ) → j < 8 → (j ≡ i → ⊥) → nameOf after j ≡ nameOf shelf j
+    pub states : (j : ℕ) → j < 8 → (j ≡ i → ⊥) → savedOf after j ≡ savedOf shelf j
     pub words : length after ≡ length shelf
 
 abbrev pub IsName : ℕ → Type 0
-IsName name = (0 < name) × (name ≤ nameLimit)
+IsName name = (0 < name) × (name ≤ 255)
 
 -- table and state are accepted
 abbrev pub StatePasses : List ℕ → ℕ → List ℕ → Type 0
@@ -61,7 +61,7 @@ StatePasses bytes scratch state = firstOf (stateChecksWith true bytes state scra
 -- the table is accepted, and the shelf has its length and is well formed
 pub record Usable (bytes : List ℕ) (scratch : ℕ) (shelf : List ℕ) : Type 0 where
   pub table : firstOf (tableChecks bytes true scratch) ≡ passes
-  pub whole : length shelf ≡ shelfWords
+  pub whole : length shelf ≡ 37656
   pub formed : WellFormed shelf (tableOf bytes)
 
 -- WHEN IT IS DONE, WHAT IT DOES, AND WHICH REFUSAL IS ANSWERED
@@ -74,9 +74,9 @@ module _ (bytes : List ℕ) (scratch : ℕ) (shelf : List ℕ) (name : ℕ) wher
     pub formed : dropOf bytes scratch shelf name .check ≡ passes → WellFormed (dropOf bytes scratch shelf name .words) (tableOf bytes)
     pub refused : (n place : ℕ) → dropOf bytes scratch shelf name .check ≡ refuses n place → dropOf bytes scratch shelf name .words ≡ shelf
     -- 1, 2, 3 or 8: the shelf's length is wrong
-    pub wrong : (length shelf ≡ shelfWords → ⊥) → dropOf bytes scratch shelf name .check ≡ firstOf (tableChecks bytes false scratch)
+    pub wrong : (length shelf ≡ 37656 → ⊥) → dropOf bytes scratch shelf name .check ≡ firstOf (tableChecks bytes false scratch)
     -- 9: the shelf is not well formed
-    pub broken : firstOf (tableChecks bytes true scratch) ≡ passes → length shelf ≡ shelfWords → (WellFormed shelf (tableOf bytes) → ⊥)
+    pub broken : firstOf (tableChecks bytes true scratch) ≡ passes → length shelf ≡ 37656 → (WellFormed shelf (tableOf bytes) → ⊥)
         → dropOf bytes scratch shelf name .check ≡ refuses 9 0
     -- 21: it is no name, or is not held
     pub not-held : Usable bytes scratch shelf → (IsName name × Held shelf name → ⊥) → dropOf bytes scratch shelf name .check ≡ refuses 21 0
@@ -91,9 +91,9 @@ module _ (bytes : List ℕ) (scratch : ℕ) (shelf : List ℕ) (name : ℕ) wher
       pub formed : saveOf bytes state scratch shelf name .check ≡ passes → WellFormed (saveOf bytes state scratch shelf name .words) (tableOf bytes)
       pub refused : (n place : ℕ) → saveOf bytes state scratch shelf name .check ≡ refuses n place → saveOf bytes state scratch shelf name .words ≡ shelf
       -- 1, 2, 3 or 8: the shelf's length is wrong
-      pub wrong : (length shelf ≡ shelfWords → ⊥) → saveOf bytes state scratch shelf name .check ≡ firstOf (tableChecks bytes false scratch)
+      pub wrong : (length shelf ≡ 37656 → ⊥) → saveOf bytes state scratch shelf name .check ≡ firstOf (tableChecks bytes false scratch)
       -- 9: the shelf is not well formed
-      pub broken : StatePasses bytes scratch state → length shelf ≡ shelfWords → (WellFormed shelf (tableOf bytes) → ⊥)
+      pub broken : StatePasses bytes scratch state → length shelf ≡ 37656 → (WellFormed shelf (tableOf bytes) → ⊥)
           → saveOf bytes state scratch shelf name .check ≡ refuses 9 0
       -- 21: it is no name
       pub no-name : StatePasses bytes scratch state → Usable bytes scratch shelf → (IsName name → ⊥)
@@ -109,9 +109,9 @@ module _ (bytes : List ℕ) (scratch : ℕ) (shelf : List ℕ) (name : ℕ) wher
           × (restoreOf bytes state scratch shelf name .words ≡ savedOf shelf i)
       pub refused : (n place : ℕ) → restoreOf bytes state scratch shelf name .check ≡ refuses n place → restoreOf bytes state scratch shelf name .words ≡ state
       -- 1, 2, 3 or 8: the shelf's length is wrong
-      pub wrong : (length shelf ≡ shelfWords → ⊥) → restoreOf bytes state scratch shelf name .check ≡ firstOf (tableChecks bytes false scratch)
+      pub wrong : (length shelf ≡ 37656 → ⊥) → restoreOf bytes state scratch shelf name .check ≡ firstOf (tableChecks bytes false scratch)
       -- 9: the shelf is not well formed
-      pub broken : StatePasses bytes scratch state → length shelf ≡ shelfWords → (WellFormed shelf (tableOf bytes) → ⊥)
+      pub broken : StatePasses bytes scratch state → length shelf ≡ 37656 → (WellFormed shelf (tableOf bytes) → ⊥)
           → restoreOf bytes state scratch shelf name .check ≡ refuses 9 0
       -- 21: it is no name, or is not held
       pub not-held : StatePasses bytes scratch state → Usable bytes scratch shelf → (IsName name × Held shelf name → ⊥)

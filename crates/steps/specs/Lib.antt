@@ -8,4 +8,6 @@ pub mod Shelves
 pub mod Points
 pub mod Kept
 pub mod Orders
+pub mod Refusals
 pub mod Examples
+pub mod ShelfExamples

@@ -7,6 +7,7 @@ pub mod Calls
 pub mod Exposed
 pub mod Exposes
 pub mod Members
+pub mod Subterms
 pub mod Inside
 pub mod Acceptance
 pub mod ByComputing

@@ -12,6 +12,14 @@ pub data Term : Type 0 where
   Tick Idle : Term
   Node : ℕ → Term
 
+-- P is R, or a part of it
+pub data Subterm (P : Term) : Term → Type 0 where
+  whole : Subterm P P
+  seq-left : {Q R : Term} → Subterm P Q → Subterm P (Seq Q R)
+  seq-right : {Q R : Term} → Subterm P R → Subterm P (Seq Q R)
+  par-left : {Q R : Term} → Subterm P Q → Subterm P (Par Q R)
+  par-right : {Q R : Term} → Subterm P R → Subterm P (Par Q R)
+
 abbrev pub seqWord : ℕ
 seqWord = 65535
 

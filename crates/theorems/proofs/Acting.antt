@@ -35,7 +35,7 @@ use Rattle.state.specs.Standing.{HasBlocks}
 use Rattle.state.proofs.Places.{Place, Zc, Zp, Clock, Mark, Word, Writer, Waits, Length, Residual, Inside, placeKind, storeKind, storeAgent, same, same-not}
 use Rattle.state.proofs.Places.{placeAgent as ownerOf}
 use Rattle.state.proofs.Frames.{SameAt, set-other, set-here, value-same, term-same, put-length, put-other, put-valueIn, put-entry-length, put-entry-other, add-length, add-other}
-use Rattle.state.proofs.Formed.{WellFormed}
+use Rattle.state.specs.Formed.{WellFormed}
 use Rattle.steps.specs.Acts.{isAbsent, wordIn, allHold, valueFor, lacksValue, writesEntry, choices, chosen, toConfirm, storeOf, setKey, acted}
 use Rattle.steps.proofs.Steps.{Able}
 use Rattle.steps.proofs.Acts.{action-key, store-attribute, store-environment, set-tick, set-value, set-entry, set-length, acted-length, acted-other, acted-zc, acted-term}
@@ -332,8 +332,8 @@ module _ (t : Table) (ok : Checked t) (s : List ℕ) (narrow : Narrow t s) (room
   enabled {d} m g v =
       record {
         moves = wills-derivable m;
-        confirmed = nothing-zero keyLimit (zcOf s x) (formed .formed .sets Zc x is .narrow) (λ k l. wills-settled m k .0);
-        propagated = nothing-zero keyLimit (zpOf s x) (formed .formed .sets Zp x is .narrow) (λ k l. wills-settled m k .1);
+        confirmed = nothing-zero keyLimit (zcOf s x) (formed .formed .to-confirm x is .narrow) (λ k l. wills-settled m k .0);
+        propagated = nothing-zero keyLimit (zpOf s x) (formed .formed .to-propagate x is .narrow) (λ k l. wills-settled m k .1);
         guards = guards-await t s narrow x (d .guards) .1 g;
         present = v;
       }

@@ -1,41 +1,41 @@
 -- DEMAND 2: a step is done exactly when the rules and the limits allow it, and leaves what they give.
 -- Assumes nothing.
-use Prim.Native.Nat.{ℕ, zero, suc, _<_, _≤_}
-use mathlib.Core.Bool.{Bool, true, false, _&&_}
+use Prim.Native.Nat.{ℕ, zero, suc, _<_}
+use mathlib.Core.Bool.{true, false}
 use mathlib.Core.Logic.{_↔_}
 use mathlib.Core.Path.{_≡_, refl, sym, ap, subst, _∙_}
 use mathlib.Core.List.{List, []}
 use native.Mathlib.Omega.{arith}
-use lib.ListN.{length}
-use borrow.Author.Tests.{le-leb, leb-true}
 use Rattle.basis.specs.KeySets.{has}
 use Rattle.basis.proofs.Lists.{nth-in, nth-is}
-use Rattle.basis.proofs.Tests.{and-left, and-right, and-both}
 use Rattle.table.specs.Checks.{passes, firstOf}
 use Rattle.table.specs.Tables.{Table, tableOf}
 use Rattle.table.specs.Sound.{Limits}
 use Rattle.term.specs.declared.Label.the-variants.{Ticking}
 use Rattle.term.specs.Accepted.{Acceptable, Checked}
-use Rattle.term.specs.Processes.{Derivation, derivation, derivations, few, process, allFew}
-use Rattle.term.specs.Terms.{Term, Seq, Par, Tick, Idle, Node}
+use Rattle.term.specs.Processes.{Derivation, derivation}
+use Rattle.term.specs.Terms.{Idle}
+use Rattle.term.proofs.Subterms.{few-part, few-all}
 use Rattle.state.specs.declared.Store.{Store}
 use Rattle.state.specs.declared.Store.the-variants.{Environment, Attributes, Entries}
 use Rattle.state.specs.Layout.{isWhole, keyLimit, stampOf, writerOf, termIn, valueIn}
 use Rattle.state.specs.WellFormed.{Proper}
 use Rattle.state.specs.Standing.{HasBlocks}
 use Rattle.state.proofs.Places.{KeySet, Zc, Zp, Waits}
+use Rattle.state.specs.Entries.{clockOf}
 use Rattle.state.proofs.Frames.{wordAt}
-use Rattle.state.proofs.Formed.{WellFormed, ProperFacts, There, proper-facts, facts-proper}
+use Rattle.state.specs.Formed.{WellFormed, ProperFacts, There}
+use Rattle.state.proofs.Formed.{sets-of, proper-facts, facts-proper}
 use Rattle.state.proofs.Exact.{show-exact}
 use Rattle.steps.specs.Acts.{choices, chosen, acted}
 use Rattle.steps.specs.declared.Tally.{Tally}
 use Rattle.steps.specs.Steps.{Outcome, done, tallyOf, after, ownChecks, stepOf}
-use Rattle.steps.proofs.Steps.{InRange, Done, act-able, state-checks, step-in, done-step, step-done}
+use Rattle.steps.specs.Refusals.{InRange}
+use Rattle.steps.proofs.Steps.{Done, act-able, state-checks, step-in, done-step, step-done}
 use Rattle.steps.proofs.Proper.{step-checked}
 use Rattle.steps.proofs.Steps.{propagates as may-propagate, confirms as may-confirm}
 use Rattle.labs.specs.Agents.{Agent, Interface, System}
 use Rattle.labs.specs.Expressions.{valueIn as valueOfEntry}
-use Rattle.labs.specs.Processes.{Subterm, whole, seq-left, seq-right, par-left, par-right}
 use Rattle.labs.specs.Reading.{agentOf, systemOf}
 use Rattle.theorems.specs.Demand2.{Allowed, act, propagate, confirm, Same, Ready, Demand-2}
 use Rattle.theorems.proofs.Moves.{trees-listed}
@@ -48,41 +48,6 @@ use Rattle.theorems.proofs.Run.{run-is}
 
 same-refl : {agents : ℕ} {S : System} → Same agents S S
 same-refl = record { environment-same = refl; clock-same = refl; agents-same = λ a l. refl }
-
--- THE LIMIT OF DERIVATIONS: the machine's test looks at every subterm
-module _ (t : Table) where
-  abbrev Few : Term → Type 0
-  Few P = length (derivations (process t P)) ≤ 65535
-
-  few-whole : (P : Term) → allFew t P ≡ true → Few P
-  unfolding allFew process derivations
-  few-whole (Seq P Q) e = leb-true _ 65535 (and-left (few (process t (Seq P Q))) (allFew t P && allFew t Q) e)
-  few-whole (Par P Q) e = leb-true _ 65535 (and-left (few (process t (Par P Q))) (allFew t P && allFew t Q) e)
-  few-whole Tick e = omega arith
-  few-whole Idle e = omega arith
-  few-whole (Node n) e = leb-true _ 65535 e
-
-  parts : (a b c : Bool) → (a && (b && c)) ≡ true → (b ≡ true) × (c ≡ true)
-  parts a b c e = (and-left b c (and-right a (b && c) e), and-right b c (and-right a (b && c) e))
-
-  joined : (T Q R : Term) → Few T → allFew t Q ≡ true → allFew t R ≡ true → (few (process t T) && (allFew t Q && allFew t R)) ≡ true
-  joined T Q R h p q = and-both (few (process t T)) (allFew t Q && allFew t R) (le-leb _ 65535 h) (and-both (allFew t Q) (allFew t R) p q)
-
-  few-part : {P R : Term} → Subterm P R → allFew t R ≡ true → Few P
-  unfolding allFew
-  few-part {P} whole e = few-whole P e
-  few-part (seq-left {Q = Q} {R = R} m) e = few-part m (parts (few (process t (Seq Q R))) (allFew t Q) (allFew t R) e .0)
-  few-part (seq-right {Q = Q} {R = R} m) e = few-part m (parts (few (process t (Seq Q R))) (allFew t Q) (allFew t R) e .1)
-  few-part (par-left {Q = Q} {R = R} m) e = few-part m (parts (few (process t (Par Q R))) (allFew t Q) (allFew t R) e .0)
-  few-part (par-right {Q = Q} {R = R} m) e = few-part m (parts (few (process t (Par Q R))) (allFew t Q) (allFew t R) e .1)
-
-  few-all : (R : Term) → ((P : Term) → Subterm P R → Few P) → allFew t R ≡ true
-  unfolding allFew process
-  few-all (Seq Q R) h = joined (Seq Q R) Q R (h (Seq Q R) whole) (few-all Q (λ P m. h P (seq-left m))) (few-all R (λ P m. h P (seq-right m)))
-  few-all (Par Q R) h = joined (Par Q R) Q R (h (Par Q R) whole) (few-all Q (λ P m. h P (par-left m))) (few-all R (λ P m. h P (par-right m)))
-  few-all Tick h = refl
-  few-all Idle h = refl
-  few-all (Node n) h = le-leb _ 65535 (h (Node n) whole)
 
 module _ (bytes s : List ℕ) (scratch : ℕ) (ready : Ready bytes s scratch) where
   abbrev t : Table
@@ -113,7 +78,7 @@ module _ (bytes s : List ℕ) (scratch : ℕ) (ready : Ready bytes s scratch) wh
   key k l = omega (arith, limits .stigmergy)
 
   pending : (z : KeySet) (x k : ℕ) → x < A → k < t .sizes .stigmergy → has (wordAt s (Waits z x)) k ≡ true → 0 < stampOf s x k
-  pending z x k l i h = formed .formed .sets z x l .entered k (key k i) h
+  pending z x k l i h = sets-of t (clockOf s) s (formed .formed) z x l .entered k (key k i) h
 
   -- A DONE STEP IS ALLOWED
   after-allowed : (kind x number : ℕ) → Done bytes s scratch kind x number →

@@ -16,7 +16,7 @@ use Rattle.table.specs.Tables.{Table, tableOf}
 use Rattle.table.proofs.Checks.{append-passes, append-both}
 use Rattle.state.specs.Layout.{isWhole}
 use Rattle.state.specs.WellFormed.{Words}
-use Rattle.state.proofs.Formed.{ProperFacts}
+use Rattle.state.specs.Formed.{ProperFacts}
 use Rattle.steps.specs.Steps.{Outcome, stateChecks, stepIn}
 use Rattle.steps.specs.Runs.{Progress, begun, added, ran, kindIn, agentIn, numberIn, stepsOf, scheduleChecks, runOf}
 use Rattle.steps.proofs.Steps.{step-in}

@@ -25,7 +25,8 @@ use Rattle.state.specs.Entries.{entry, clockOf, nextStamp, newer}
 use Rattle.state.specs.Standing.{HasBlocks}
 use Rattle.state.proofs.Places.{Zp, Zc, Clock}
 use Rattle.state.proofs.Frames.{put-other, drop-other}
-use Rattle.state.proofs.Formed.{WellFormed, well-formed-read}
+use Rattle.state.specs.Formed.{WellFormed}
+use Rattle.state.proofs.Formed.{well-formed-read}
 use Rattle.steps.specs.Acts.{chosen, wordIn, valueFor, storeOf, setKey}
 use Rattle.steps.specs.Offers.{offered}
 use Rattle.steps.specs.Steps.{after}

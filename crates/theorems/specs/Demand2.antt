@@ -9,7 +9,7 @@ use lib.ListN.{length, getD, getElem?}
 use Rattle.basis.specs.Numbers.{howMany}
 use Rattle.table.specs.Checks.{passes, firstOf}
 use Rattle.table.specs.Tables.{Table, tableOf}
-use Rattle.term.specs.Terms.{Term, words}
+use Rattle.term.specs.Terms.{Term, Subterm, words}
 use Rattle.term.specs.Processes.{Derivation, derivations, process}
 use Rattle.state.specs.declared.Insertion.{Insertion}
 use Rattle.state.specs.Entries.{isAdd, isUpdate}
@@ -19,7 +19,7 @@ use Rattle.steps.specs.declared.Tally.{Tally}
 use Rattle.steps.specs.Steps.{done, stateChecks, loadOf, stepOf}
 use Rattle.labs.specs.Agents.{System}
 use Rattle.labs.specs.Expressions.{_⊨_, φ}
-use Rattle.labs.specs.Processes.{Subterm, Tree, Moves}
+use Rattle.labs.specs.Processes.{Tree, Moves}
 use Rattle.labs.specs.Systems.{Acted, Passed, put, qry, between}
 use Rattle.labs.specs.Reading.{systemOf, initial}
 use Rattle.theorems.specs.Run.{Run}

@@ -9,7 +9,8 @@ use denote.Ref.{now}
 use lib.Dec.{eqb}
 use Rattle.table.specs.Tables.{Table, table}
 use Rattle.steps.specs.Steps.{Outcome, outOfRange, stepIn}
-use Rattle.steps.proofs.Steps.{InRange, in-range}
+use Rattle.steps.specs.Refusals.{InRange}
+use Rattle.steps.proofs.Steps.{in-range}
 use Rattle.offering.specs.Passing.{Passing}
 use Rattle.machine.specs.declared.Judged.{Judged}
 use Rattle.machine.specs.Stepping.{ownStep, offerKind, StepJudged}
