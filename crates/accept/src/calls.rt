@@ -16,7 +16,7 @@ ghost use mathlib.Core.Bool.{true};
 ghost use mathlib.Core.Path.{_≡_};
 ghost use Prim.Native.Nat.{ℕ, _≤_, _<_};
 ghost use lib.ListN.{length};
-ghost use Rattle.table.specs.Tables.{table, firstRoot};
+ghost use Rattle.table.specs.Tables.{Table, table, firstRoot};
 ghost use Rattle.table.specs.Sound.{Sound};
 ghost use Rattle.term.specs.Acceptance.{scratchWords};
 ghost use Rattle.accept.specs.Scratch.{isCounted, Held};
@@ -34,9 +34,11 @@ fn settle(
     level: usize,
     top: usize,
 ) -> bool
-    requires { ⌜ Held (table sizes (now kinds) (now operands)) level (now scratch) ⌝ }
-    requires { ⌜ top < firstRoot (table sizes (now kinds) (now operands)) ⌝ }
-    ensures { λ r. ⌜ Settles (table sizes (now (kinds .entry)) (now (operands .entry))) level top (now (scratch .entry)) (now (scratch .exit)) r ⌝ }
+    ghost { Table }
+    requires { λ t. ⌜ table sizes (now kinds) (now operands) ≡ t ⌝ }
+    requires { λ t. ⌜ Held t level (now scratch) ⌝ }
+    requires { λ t. ⌜ top < firstRoot t ⌝ }
+    ensures { λ t r. ⌜ Settles t level top (now (scratch .entry)) (now (scratch .exit)) r ⌝ }
 {
     if is_counted(scratch, top) {
         return true;
@@ -73,9 +75,11 @@ fn try_count(
     level: usize,
     n: usize,
 )
-    requires { ⌜ Held (table sizes (now kinds) (now operands)) level (now scratch) ⌝ }
-    requires { ⌜ n < firstRoot (table sizes (now kinds) (now operands)) ⌝ }
-    ensures { λ _. ⌜ Held (table sizes (now (kinds .entry)) (now (operands .entry))) level (now (scratch .exit)) ⌝ }
+    ghost { Table }
+    requires { λ t. ⌜ table sizes (now kinds) (now operands) ≡ t ⌝ }
+    requires { λ t. ⌜ Held t level (now scratch) ⌝ }
+    requires { λ t. ⌜ n < firstRoot t ⌝ }
+    ensures { λ t _. ⌜ Held t level (now (scratch .exit)) ⌝ }
 {
     let found = visit(sizes, kinds, operands, scratch, level, n);
     match found {
@@ -96,9 +100,11 @@ fn count_up(
     from: usize,
     to: usize,
 ) -> usize
-    requires { ⌜ Held (table sizes (now kinds) (now operands)) level (now scratch) ⌝ }
-    requires { ⌜ to < firstRoot (table sizes (now kinds) (now operands)) ⌝ }
-    ensures { λ _. ⌜ Held (table sizes (now (kinds .entry)) (now (operands .entry))) level (now (scratch .exit)) ⌝ }
+    ghost { Table }
+    requires { λ t. ⌜ table sizes (now kinds) (now operands) ≡ t ⌝ }
+    requires { λ t. ⌜ Held t level (now scratch) ⌝ }
+    requires { λ t. ⌜ to < firstRoot t ⌝ }
+    ensures { λ t _. ⌜ Held t level (now (scratch .exit)) ⌝ }
 {
     let mut n = from;
     while n <= to {
@@ -111,8 +117,10 @@ fn count_up(
 // The lowest definition that exposes a call that is not lower, and the number of definitions where there is none.
 // Each body is settled in turn, after the nodes up to it have been tried.
 pub fn lowest_bad_call(sizes: Sizes, kinds: &[u8], operands: &[u8], scratch: &mut [u32]) -> usize
-    requires { ⌜ Sound (table sizes (now kinds) (now operands)) × (scratchWords sizes ≤ length (now scratch)) ⌝ }
-    ensures { λ r. ⌜ CallsJudged (table sizes (now (kinds .entry)) (now (operands .entry))) (now (scratch .exit)) r ⌝ }
+    ghost { Table }
+    requires { λ t. ⌜ table sizes (now kinds) (now operands) ≡ t ⌝ }
+    requires { λ t. ⌜ Sound t × (scratchWords sizes ≤ length (now scratch)) ⌝ }
+    ensures { λ t r. ⌜ CallsJudged t (now (scratch .exit)) r ⌝ }
 {
     let roots = first_root(sizes);
     discard(scratch, roots);
@@ -131,10 +139,12 @@ pub fn lowest_bad_call(sizes: Sizes, kinds: &[u8], operands: &[u8], scratch: &mu
 
 // The counts of node n, where the nodes below it and the bodies of all definitions are counted: a visit finds them.
 fn counts_of(sizes: Sizes, kinds: &[u8], operands: &[u8], scratch: &[u32], n: usize) -> Counts
-    requires { ⌜ Held (table sizes (now kinds) (now operands)) (sizes .definitions) (now scratch) ⌝ }
-    requires { ⌜ n < firstRoot (table sizes (now kinds) (now operands)) ⌝ }
-    requires { ⌜ ((k : ℕ) → k < n → isCounted (now scratch) k ≡ true) ⌝ }
-    ensures { λ r. ⌜ Visits (table sizes (now (kinds .entry)) (now (operands .entry))) (sizes .definitions) (now (scratch .entry)) n (Done r) ⌝ }
+    ghost { Table }
+    requires { λ t. ⌜ table sizes (now kinds) (now operands) ≡ t ⌝ }
+    requires { λ t. ⌜ Held t (sizes .definitions) (now scratch) ⌝ }
+    requires { λ t. ⌜ n < firstRoot t ⌝ }
+    requires { λ t. ⌜ ((k : ℕ) → k < n → isCounted (now scratch) k ≡ true) ⌝ }
+    ensures { λ t r. ⌜ Visits t (sizes .definitions) (now (scratch .entry)) n (Done r) ⌝ }
 {
     let found = visit(sizes, kinds, operands, scratch, sizes.definitions, n);
     match found {
@@ -146,10 +156,12 @@ fn counts_of(sizes: Sizes, kinds: &[u8], operands: &[u8], scratch: &[u32], n: us
 
 // Counts node n, if it is not counted yet.
 fn count_at(sizes: Sizes, kinds: &[u8], operands: &[u8], scratch: &mut [u32], n: usize) -> Counts
-    requires { ⌜ Held (table sizes (now kinds) (now operands)) (sizes .definitions) (now scratch) ⌝ }
-    requires { ⌜ n < firstRoot (table sizes (now kinds) (now operands)) ⌝ }
-    requires { ⌜ ((k : ℕ) → k < n → isCounted (now scratch) k ≡ true) ⌝ }
-    ensures { λ r. ⌜ CountsAt (table sizes (now (kinds .entry)) (now (operands .entry))) n (now (scratch .entry)) (now (scratch .exit)) r ⌝ }
+    ghost { Table }
+    requires { λ t. ⌜ table sizes (now kinds) (now operands) ≡ t ⌝ }
+    requires { λ t. ⌜ Held t (sizes .definitions) (now scratch) ⌝ }
+    requires { λ t. ⌜ n < firstRoot t ⌝ }
+    requires { λ t. ⌜ ((k : ℕ) → k < n → isCounted (now scratch) k ≡ true) ⌝ }
+    ensures { λ t r. ⌜ CountsAt t n (now (scratch .entry)) (now (scratch .exit)) r ⌝ }
 {
     if is_counted(scratch, n) {
         return pair(scratch, n);
@@ -162,8 +174,10 @@ fn count_at(sizes: Sizes, kinds: &[u8], operands: &[u8], scratch: &mut [u32], n:
 // The lowest node with over 65,535 derivations, and the number of nodes where there is none. Each node is counted in
 // turn.
 pub fn lowest_overfull(sizes: Sizes, kinds: &[u8], operands: &[u8], scratch: &mut [u32]) -> usize
-    requires { ⌜ Held (table sizes (now kinds) (now operands)) (sizes .definitions) (now scratch) ⌝ }
-    ensures { λ r. ⌜ NodesJudged (table sizes (now (kinds .entry)) (now (operands .entry))) (now (scratch .exit)) r ⌝ }
+    ghost { Table }
+    requires { λ t. ⌜ table sizes (now kinds) (now operands) ≡ t ⌝ }
+    requires { λ t. ⌜ Held t (sizes .definitions) (now scratch) ⌝ }
+    ensures { λ t r. ⌜ NodesJudged t (now (scratch .exit)) r ⌝ }
 {
     let end = first_root(sizes);
     let mut n = 0;

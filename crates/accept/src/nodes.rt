@@ -15,7 +15,7 @@ ghost use mathlib.Core.Bool.{true};
 ghost use mathlib.Core.Path.{_≡_};
 ghost use Prim.Native.Nat.{_+_, _*_, _<_};
 ghost use lib.ListN.{length};
-ghost use Rattle.table.specs.Tables.{table, firstRoot};
+ghost use Rattle.table.specs.Tables.{Table, table, firstRoot};
 ghost use Rattle.accept.specs.Counts.{Capped};
 ghost use Rattle.accept.specs.Scratch.{pairAt, isCounted, Held};
 ghost use Rattle.accept.specs.Calls.{pairVisit, Visits};
@@ -50,9 +50,11 @@ pub fn visit(
     level: usize,
     n: usize,
 ) -> Visit
-    requires { ⌜ Held (table sizes (now kinds) (now operands)) level (now scratch) ⌝ }
-    requires { ⌜ n < firstRoot (table sizes (now kinds) (now operands)) ⌝ }
-    ensures { λ r. ⌜ Visits (table sizes (now (kinds .entry)) (now (operands .entry))) level (now (scratch .entry)) n r ⌝ }
+    ghost { Table }
+    requires { λ t. ⌜ table sizes (now kinds) (now operands) ≡ t ⌝ }
+    requires { λ t. ⌜ Held t level (now scratch) ⌝ }
+    requires { λ t. ⌜ n < firstRoot t ⌝ }
+    ensures { λ t r. ⌜ Visits t level (now (scratch .entry)) n r ⌝ }
 {
     let kind = kinds[n];
     let p = p_at(operands, n);

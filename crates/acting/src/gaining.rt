@@ -10,7 +10,7 @@ use term::Label;
 ghost use mathlib.Core.Path.{_≡_};
 ghost use Prim.Native.Nat.{_^_, _<_};
 ghost use Rattle.basis.specs.KeySets.{plusAll};
-ghost use Rattle.table.specs.Tables.{table, agentLimit};
+ghost use Rattle.table.specs.Tables.{Table, table, agentLimit};
 ghost use Rattle.table.specs.Sound.{Shaped};
 ghost use Rattle.state.specs.Layout.{keyLimit};
 ghost use Rattle.state.specs.Standing.{HasBlocks};
@@ -37,8 +37,10 @@ fn with_entry(state: &[u32], agent: usize, keys: u32) -> u32
 
 // The set with the keys that an action's expression reads; a tick has none.
 fn label_keys(sizes: Sizes, kinds: &[u8], operands: &[u8], label: Label, keys: u32) -> u32
-    requires { ⌜ Shaped (table sizes (now kinds) (now operands)) × LabelKey (table sizes (now kinds) (now operands)) label × (keys < 2 ^ keyLimit) ⌝ }
-    ensures { λ r. ⌜ Adds (labelReads (table sizes (now (kinds .entry)) (now (operands .entry))) label) keys r ⌝ }
+    ghost { Table }
+    requires { λ t. ⌜ table sizes (now kinds) (now operands) ≡ t ⌝ }
+    requires { λ t. ⌜ Shaped t × LabelKey t label × (keys < 2 ^ keyLimit) ⌝ }
+    ensures { λ t r. ⌜ Adds (labelReads t label) keys r ⌝ }
 {
     match label {
         Label::Ticking => keys,
@@ -59,8 +61,10 @@ pub fn gained(
     label: Label,
     asked: u32,
 ) -> u32
-    requires { ⌜ Gaining (table sizes (now kinds) (now operands)) (now state) agent label asked ⌝ }
-    ensures { λ r. ⌜ Gains (table sizes (now (kinds .entry)) (now (operands .entry))) (now (state .entry)) agent label asked r ⌝ }
+    ghost { Table }
+    requires { λ t. ⌜ table sizes (now kinds) (now operands) ≡ t ⌝ }
+    requires { λ t. ⌜ Gaining t (now state) agent label asked ⌝ }
+    ensures { λ t r. ⌜ Gains t (now (state .entry)) agent label asked r ⌝ }
 {
     let keys = label_keys(sizes, kinds, operands, label, asked);
     with_entry(state, agent, keys)

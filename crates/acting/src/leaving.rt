@@ -5,7 +5,7 @@ use state::length_at;
 use state::residual_at;
 use table::Sizes;
 ghost use mathlib.Core.Path.{_≡_};
-ghost use Rattle.table.specs.Tables.{table};
+ghost use Rattle.table.specs.Tables.{Table, table};
 ghost use Rattle.term.specs.Terms.{words};
 ghost use Rattle.choice.specs.Turns.{Prepared};
 ghost use Rattle.steps.specs.Acts.{chosen, leave as leaveIn};
@@ -20,9 +20,11 @@ pub fn leave(
     agent: usize,
     c: u64,
 )
-    requires { ⌜ Prepared (table sizes (now kinds) (now operands)) (now scratch) ⌝ }
-    requires { ⌜ Leaving (table sizes (now kinds) (now operands)) (now state) agent c ⌝ }
-    ensures { λ _. ⌜ now (state .exit) ≡ leaveIn agent (words (chosen (table sizes (now (kinds .entry)) (now (operands .entry))) (now (state .entry)) agent c .leaving)) (now (state .entry)) ⌝ }
+    ghost { Table }
+    requires { λ t. ⌜ table sizes (now kinds) (now operands) ≡ t ⌝ }
+    requires { λ t. ⌜ Prepared t (now scratch) ⌝ }
+    requires { λ t. ⌜ Leaving t (now state) agent c ⌝ }
+    ensures { λ t _. ⌜ now (state .exit) ≡ leaveIn agent (words (chosen t (now (state .entry)) agent c .leaving)) (now (state .entry)) ⌝ }
 {
     let place = length_at(agent);
     let at = residual_at(agent);

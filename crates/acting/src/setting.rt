@@ -13,7 +13,7 @@ use term::Label;
 ghost use mathlib.Core.Path.{_≡_};
 ghost use Prim.Native.Nat.{ℕ, _<_, _≤_};
 ghost use Rattle.basis.specs.Kinds as kinds;
-ghost use Rattle.table.specs.Tables.{table, agentLimit};
+ghost use Rattle.table.specs.Tables.{Table, table, agentLimit};
 ghost use Rattle.term.specs.declared.Label.the-variants.{Acting};
 ghost use Rattle.steps.specs.Acts.{entered, setKey};
 ghost use Rattle.acting.specs.Acting.{Stored, Entering, Setting};
@@ -58,8 +58,10 @@ fn set_key(
     node: usize,
     value: u32,
 )
-    requires { ⌜ Setting (table sizes (now kinds) (now operands)) (now state) agent node value ⌝ }
-    ensures { λ _. ⌜ now (state .exit) ≡ setKey (table sizes (now (kinds .entry)) (now (operands .entry))) (now (state .entry)) agent (Acting node) ⌝ }
+    ghost { Table }
+    requires { λ t. ⌜ table sizes (now kinds) (now operands) ≡ t ⌝ }
+    requires { λ t. ⌜ Setting t (now state) agent node value ⌝ }
+    ensures { λ t _. ⌜ now (state .exit) ≡ setKey t (now (state .entry)) agent (Acting node) ⌝ }
 {
     let key = p_at(operands, node);
     let kind = kinds[node];
@@ -81,8 +83,10 @@ pub fn set_label(
     label: Label,
     value: u32,
 )
-    requires { ⌜ ((n : ℕ) → label ≡ Acting n → Setting (table sizes (now kinds) (now operands)) (now state) agent n value) ⌝ }
-    ensures { λ _. ⌜ now (state .exit) ≡ setKey (table sizes (now (kinds .entry)) (now (operands .entry))) (now (state .entry)) agent label ⌝ }
+    ghost { Table }
+    requires { λ t. ⌜ table sizes (now kinds) (now operands) ≡ t ⌝ }
+    requires { λ t. ⌜ ((n : ℕ) → label ≡ Acting n → Setting t (now state) agent n value) ⌝ }
+    ensures { λ t _. ⌜ now (state .exit) ≡ setKey t (now (state .entry)) agent label ⌝ }
 {
     match label {
         Label::Ticking => {}

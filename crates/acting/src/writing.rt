@@ -8,7 +8,7 @@ use term::Label;
 ghost use mathlib.Core.Path.{_≡_};
 ghost use Prim.Native.Nat.{_<_};
 ghost use lib.ListN.{set};
-ghost use Rattle.table.specs.Tables.{table, agentLimit};
+ghost use Rattle.table.specs.Tables.{Table, table, agentLimit};
 ghost use Rattle.choice.specs.Turns.{Prepared};
 ghost use Rattle.state.specs.Layout.{zcAt};
 ghost use Rattle.state.specs.Standing.{HasBlocks};
@@ -39,11 +39,13 @@ pub fn perform(
     value: u32,
     keys: u32,
 )
-    requires { ⌜ Prepared (table sizes (now kinds) (now operands)) (now scratch) ⌝ }
-    requires { ⌜ Proper (table sizes (now kinds) (now operands)) (now state) ⌝ }
-    requires { ⌜ agent < sizes .agents ⌝ }
-    requires { ⌜ Judges (table sizes (now kinds) (now operands)) (now state) agent c (Allowed label value keys) ⌝ }
-    ensures { λ _. ⌜ now (state .exit) ≡ acted (table sizes (now (kinds .entry)) (now (operands .entry))) (now (state .entry)) agent (chosen (table sizes (now (kinds .entry)) (now (operands .entry))) (now (state .entry)) agent c) ⌝ }
+    ghost { Table }
+    requires { λ t. ⌜ table sizes (now kinds) (now operands) ≡ t ⌝ }
+    requires { λ t. ⌜ Prepared t (now scratch) ⌝ }
+    requires { λ t. ⌜ Proper t (now state) ⌝ }
+    requires { λ t. ⌜ agent < sizes .agents ⌝ }
+    requires { λ t. ⌜ Judges t (now state) agent c (Allowed label value keys) ⌝ }
+    ensures { λ t _. ⌜ now (state .exit) ≡ acted t (now (state .entry)) agent (chosen t (now (state .entry)) agent c) ⌝ }
 {
     let gains = gained(sizes, kinds, operands, state, agent, label, keys);
     set_label(sizes, kinds, operands, state, agent, label, value);

@@ -15,7 +15,7 @@ use term::Mode;
 ghost use mathlib.Core.Path.{_≡_};
 ghost use Prim.Native.Nat.{_-_, _*_, _%_, _<_, _≤_};
 ghost use lib.ListN.{length};
-ghost use Rattle.table.specs.Tables.{table};
+ghost use Rattle.table.specs.Tables.{Table, table};
 ghost use Rattle.choice.specs.Turns.{chosenAt, Prepared, Reached};
 ghost use Rattle.choice.specs.Outcomes.{most, Walked};
 ghost use Rattle.choice.specs.Marking.{onlyTick, hasMark, WithMark, markedGuard, zerosAfter, Next, WalkMarks, Marked};
@@ -88,10 +88,12 @@ pub fn mark_tick(
     marks: &mut [u32],
     goal: Goal,
 )
-    requires { ⌜ Prepared (table sizes (now kinds) (now operands)) (now scratch) ⌝ }
-    requires { ⌜ Reached (table sizes (now kinds) (now operands)) goal ⌝ }
-    requires { ⌜ WalkMarks (table sizes (now kinds) (now operands)) (now marks) ⌝ }
-    ensures { λ r. ⌜ Marked (table sizes (now (kinds .entry)) (now (operands .entry))) (chosenAt (table sizes (now (kinds .entry)) (now (operands .entry))) goal .guards) (now (marks .entry)) (now (marks .exit)) ⌝ }
+    ghost { Table }
+    requires { λ t. ⌜ table sizes (now kinds) (now operands) ≡ t ⌝ }
+    requires { λ t. ⌜ Prepared t (now scratch) ⌝ }
+    requires { λ t. ⌜ Reached t goal ⌝ }
+    requires { λ t. ⌜ WalkMarks t (now marks) ⌝ }
+    ensures { λ t r. ⌜ Marked t (chosenAt t goal .guards) (now (marks .entry)) (now (marks .exit)) ⌝ }
 {
     let n = goal.node;
     let mode = goal.mode;
@@ -128,10 +130,12 @@ pub fn mark_node(
     marks: &mut [u32],
     goal: Goal,
 ) -> Effect
-    requires { ⌜ Prepared (table sizes (now kinds) (now operands)) (now scratch) ⌝ }
-    requires { ⌜ Reached (table sizes (now kinds) (now operands)) goal ⌝ }
-    requires { ⌜ WalkMarks (table sizes (now kinds) (now operands)) (now marks) ⌝ }
-    ensures { λ r. ⌜ Walked (table sizes (now (kinds .entry)) (now (operands .entry))) (chosenAt (table sizes (now (kinds .entry)) (now (operands .entry))) goal) (most (sizes .definitions) (sizes .nodes)) (now (marks .entry)) r (now (marks .exit)) ⌝ }
+    ghost { Table }
+    requires { λ t. ⌜ table sizes (now kinds) (now operands) ≡ t ⌝ }
+    requires { λ t. ⌜ Prepared t (now scratch) ⌝ }
+    requires { λ t. ⌜ Reached t goal ⌝ }
+    requires { λ t. ⌜ WalkMarks t (now marks) ⌝ }
+    ensures { λ t r. ⌜ Walked t (chosenAt t goal) (most (sizes .definitions) (sizes .nodes)) (now (marks .entry)) r (now (marks .exit)) ⌝ }
 {
     let mut at = goal;
     let mut size: usize = 1;

@@ -18,7 +18,7 @@ ghost use mathlib.Core.Path.{_≡_};
 ghost use Prim.Native.Nat.{_+_, _-_, _*_, _<_};
 ghost use lib.ListN.{length};
 ghost use Rattle.basis.specs.Bytes.{u16At};
-ghost use Rattle.table.specs.Tables.{table, rootsOf};
+ghost use Rattle.table.specs.Tables.{Table, table, rootsOf};
 ghost use Rattle.table.specs.Sound.{Limits};
 ghost use Rattle.choice.specs.declared.Kept.the-variants.{Nothing};
 ghost use Rattle.choice.specs.declared.Turn.the-variants.{On};
@@ -99,9 +99,11 @@ fn body_at(sizes: Sizes, operands: &[u8], d: usize) -> usize
 
 // A call goes on in the body of its definition.
 pub fn turn_at(sizes: Sizes, kinds: &[u8], operands: &[u8], scratch: &[u32], goal: Goal) -> Turn
-    requires { ⌜ Prepared (table sizes (now kinds) (now operands)) (now scratch) ⌝ }
-    requires { ⌜ Reached (table sizes (now kinds) (now operands)) goal ⌝ }
-    ensures { λ r. ⌜ Turned (table sizes (now (kinds .entry)) (now (operands .entry))) goal r ⌝ }
+    ghost { Table }
+    requires { λ t. ⌜ table sizes (now kinds) (now operands) ≡ t ⌝ }
+    requires { λ t. ⌜ Prepared t (now scratch) ⌝ }
+    requires { λ t. ⌜ Reached t goal ⌝ }
+    ensures { λ t r. ⌜ Turned t goal r ⌝ }
 {
     let n = goal.node;
     let mode = goal.mode;

@@ -5,8 +5,9 @@ use crate::Kept;
 use crate::Turn;
 use crate::turns::turn_at;
 use table::Sizes;
+ghost use mathlib.Core.Path.{_≡_};
 ghost use mathlib.Core.List.{[], _∷_};
-ghost use Rattle.table.specs.Tables.{table};
+ghost use Rattle.table.specs.Tables.{Table, table};
 ghost use Rattle.term.specs.Terms.{words as wordsOf};
 ghost use Rattle.choice.specs.Turns.{keptBefore, keptAfter, keptSize, chosenAt, Prepared};
 ghost use Rattle.choice.specs.Writing.{Room, RoomFor, Written, Narrowed};
@@ -62,9 +63,11 @@ pub fn write_node(
     gap: Gap,
     goal: Goal,
 ) -> Gap
-    requires { ⌜ Prepared (table sizes (now kinds) (now operands)) (now scratch) ⌝ }
-    requires { ⌜ Room (table sizes (now kinds) (now operands)) goal gap (now words) ⌝ }
-    ensures { λ r. ⌜ Written (now (words .entry)) (gap .front) (gap .back) (wordsOf (chosenAt (table sizes (now (kinds .entry)) (now (operands .entry))) goal .leaving)) r (now (words .exit)) ⌝ }
+    ghost { Table }
+    requires { λ t. ⌜ table sizes (now kinds) (now operands) ≡ t ⌝ }
+    requires { λ t. ⌜ Prepared t (now scratch) ⌝ }
+    requires { λ t. ⌜ Room t goal gap (now words) ⌝ }
+    ensures { λ t r. ⌜ Written (now (words .entry)) (gap .front) (gap .back) (wordsOf (chosenAt t goal .leaving)) r (now (words .exit)) ⌝ }
 {
     let mut rest = gap;
     let mut at = goal;

@@ -4,7 +4,7 @@ ghost use mathlib.Core.Bool.{_&&_};
 ghost use Prim.Native.Nat.{ℕ, _<_, _≤_};
 ghost use lib.ListN.{length};
 ghost use Rattle.basis.specs.KeySets.{has as hasAgent};
-ghost use Rattle.table.specs.Tables.{table};
+ghost use Rattle.table.specs.Tables.{Table, table};
 ghost use Rattle.table.specs.Sound.{Shaped};
 ghost use Rattle.state.specs.Evaluation.{holds as holdsOf, linkHolds};
 ghost use Rattle.state.specs.Walks.{truthBelow};
@@ -117,8 +117,10 @@ pub fn holds(
     receiver: usize,
     node: usize,
 ) -> bool
-    requires { ⌜ Situated (table sizes (now kinds) (now operands)) (now state) sender receiver ⌝ }
-    ensures { λ r. ⌜ r ≡ holdsOf (table sizes (now (kinds .entry)) (now (operands .entry))) (now (state .entry)) sender receiver node ⌝ }
+    ghost { Table }
+    requires { λ t. ⌜ table sizes (now kinds) (now operands) ≡ t ⌝ }
+    requires { λ t. ⌜ Situated t (now state) sender receiver ⌝ }
+    ensures { λ t r. ⌜ r ≡ holdsOf t (now (state .entry)) sender receiver node ⌝ }
 {
     let asked = basis::plus(0, receiver);
     let found = truths_below(kinds, operands, state, sender, asked, sizes.nodes, node);
@@ -135,8 +137,10 @@ pub fn links_hold(
     sender: usize,
     agents: u32,
 ) -> u32
-    requires { ⌜ Shaped (table sizes (now kinds) (now operands)) × Placed (now kinds) (now operands) (now state) sender × (key < sizes .stigmergy) ⌝ }
-    ensures { λ r. ⌜ ((y : ℕ) → hasAgent r y ≡ (hasAgent agents y && linkHolds (table sizes (now (kinds .entry)) (now (operands .entry))) (now (state .entry)) key sender y)) ⌝ }
+    ghost { Table }
+    requires { λ t. ⌜ table sizes (now kinds) (now operands) ≡ t ⌝ }
+    requires { λ t. ⌜ Shaped t × Placed (now kinds) (now operands) (now state) sender × (key < sizes .stigmergy) ⌝ }
+    ensures { λ t r. ⌜ ((y : ℕ) → hasAgent r y ≡ (hasAgent agents y && linkHolds t (now (state .entry)) key sender y)) ⌝ }
 {
     let root = table::first_root(sizes) + sizes.definitions + key;
     let link = table::p_at(operands, root);

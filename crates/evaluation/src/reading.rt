@@ -2,7 +2,7 @@
 ghost use mathlib.Core.Path.{_≡_};
 ghost use Prim.Native.Nat.{_^_, _<_, _≤_};
 ghost use Rattle.basis.specs.KeySets.{plusAll};
-ghost use Rattle.table.specs.Tables.{table};
+ghost use Rattle.table.specs.Tables.{Table, table};
 ghost use Rattle.table.specs.Sound.{Shaped};
 ghost use Rattle.state.specs.Layout.{keyLimit};
 ghost use Rattle.state.specs.Evaluation.{reads};
@@ -12,8 +12,10 @@ use table::Sizes;
 
 // The set with the key that a node is, if it is one.
 fn own_key(sizes: Sizes, kinds: &[u8], operands: &[u8], node: usize, keys: u32) -> u32
-    requires { ⌜ Shaped (table sizes (now kinds) (now operands)) × (node < sizes .nodes) ⌝ }
-    ensures { λ r. ⌜ Adds (isKey (table sizes (now (kinds .entry)) (now (operands .entry))) node) keys r ⌝ }
+    ghost { Table }
+    requires { λ t. ⌜ table sizes (now kinds) (now operands) ≡ t ⌝ }
+    requires { λ t. ⌜ Shaped t × (node < sizes .nodes) ⌝ }
+    ensures { λ t r. ⌜ Adds (isKey t node) keys r ⌝ }
 {
     if kinds[node] != basis::kinds::STIGMERGY {
         return keys;
@@ -34,8 +36,10 @@ fn keys_below(
     node: usize,
     keys: u32,
 ) -> u32
-    requires { ⌜ Shaped (table sizes (now kinds) (now operands)) × (limit ≤ sizes .nodes) ⌝ }
-    ensures { λ r. ⌜ Adds (readsBelow (table sizes (now (kinds .entry)) (now (operands .entry))) limit node) keys r ⌝ }
+    ghost { Table }
+    requires { λ t. ⌜ table sizes (now kinds) (now operands) ≡ t ⌝ }
+    requires { λ t. ⌜ Shaped t × (limit ≤ sizes .nodes) ⌝ }
+    ensures { λ t r. ⌜ Adds (readsBelow t limit node) keys r ⌝ }
 {
     if limit <= node {
         return keys;
@@ -57,8 +61,10 @@ fn keys_below(
 
 // The set with the stigmergy keys that a node reads.
 pub fn keys_read(sizes: Sizes, kinds: &[u8], operands: &[u8], node: usize, keys: u32) -> u32
-    requires { ⌜ Shaped (table sizes (now kinds) (now operands)) × (keys < 2 ^ keyLimit) ⌝ }
-    ensures { λ r. ⌜ r ≡ plusAll (reads (table sizes (now (kinds .entry)) (now (operands .entry))) node) keyLimit keys ⌝ }
+    ghost { Table }
+    requires { λ t. ⌜ table sizes (now kinds) (now operands) ≡ t ⌝ }
+    requires { λ t. ⌜ Shaped t × (keys < 2 ^ keyLimit) ⌝ }
+    ensures { λ t r. ⌜ r ≡ plusAll (reads t node) keyLimit keys ⌝ }
 {
     keys_below(sizes, kinds, operands, sizes.nodes, node, keys)
 }

@@ -2,7 +2,7 @@
 ghost use mathlib.Core.Path.{_≡_};
 ghost use Prim.Native.Nat.{_<_, _≤_};
 ghost use lib.ListN.{length};
-ghost use Rattle.table.specs.Tables.{table, agentLimit};
+ghost use Rattle.table.specs.Tables.{Table, table, agentLimit};
 ghost use Rattle.state.specs.Evaluation.{valueOf};
 ghost use Rattle.state.specs.Walks.{valueBelow};
 ghost use Rattle.evaluation.specs.Situated.{Situated, Placed, InTables};
@@ -62,8 +62,10 @@ pub fn value_of(
     receiver: usize,
     node: usize,
 ) -> Value
-    requires { ⌜ Situated (table sizes (now kinds) (now operands)) (now state) sender receiver ⌝ }
-    ensures { λ r. ⌜ r ≡ valueOf (table sizes (now (kinds .entry)) (now (operands .entry))) (now (state .entry)) sender receiver node ⌝ }
+    ghost { Table }
+    requires { λ t. ⌜ table sizes (now kinds) (now operands) ≡ t ⌝ }
+    requires { λ t. ⌜ Situated t (now state) sender receiver ⌝ }
+    ensures { λ t r. ⌜ r ≡ valueOf t (now (state .entry)) sender receiver node ⌝ }
 {
     value_below(kinds, operands, state, sender, receiver, sizes.nodes, node)
 }

@@ -10,8 +10,9 @@ use state::residual_at;
 use state::zc_at;
 use state::zp_at;
 use table::Sizes;
+ghost use mathlib.Core.Path.{_≡_};
 ghost use Prim.Native.Nat.{_<_};
-ghost use Rattle.table.specs.Tables.{table};
+ghost use Rattle.table.specs.Tables.{Table, table};
 ghost use Rattle.choice.specs.Turns.{Prepared};
 ghost use Rattle.state.specs.WellFormed.{Proper};
 ghost use Rattle.judging.specs.Judging.{Judges};
@@ -28,8 +29,10 @@ fn judge_choice(
     agent: usize,
     c: u64,
 ) -> Judgement
-    requires { ⌜ ResidualGiven (table sizes (now kinds) (now operands)) (now scratch) (now state) agent (now words) ⌝ }
-    ensures { λ r. ⌜ Judges (table sizes (now (kinds .entry)) (now (operands .entry))) (now (state .entry)) agent c r ⌝ }
+    ghost { Table }
+    requires { λ t. ⌜ table sizes (now kinds) (now operands) ≡ t ⌝ }
+    requires { λ t. ⌜ ResidualGiven t (now scratch) (now state) agent (now words) ⌝ }
+    ensures { λ t r. ⌜ Judges t (now (state .entry)) agent c r ⌝ }
 {
     let all = count_choices(sizes, scratch, words);
     if !all.few {
@@ -57,10 +60,12 @@ pub fn judge(
     agent: usize,
     c: u64,
 ) -> Judgement
-    requires { ⌜ Prepared (table sizes (now kinds) (now operands)) (now scratch) ⌝ }
-    requires { ⌜ Proper (table sizes (now kinds) (now operands)) (now state) ⌝ }
-    requires { ⌜ agent < sizes .agents ⌝ }
-    ensures { λ r. ⌜ Judges (table sizes (now (kinds .entry)) (now (operands .entry))) (now (state .entry)) agent c r ⌝ }
+    ghost { Table }
+    requires { λ t. ⌜ table sizes (now kinds) (now operands) ≡ t ⌝ }
+    requires { λ t. ⌜ Prepared t (now scratch) ⌝ }
+    requires { λ t. ⌜ Proper t (now state) ⌝ }
+    requires { λ t. ⌜ agent < sizes .agents ⌝ }
+    ensures { λ t r. ⌜ Judges t (now (state .entry)) agent c r ⌝ }
 {
     let zc = zc_at(agent);
     let zp = zp_at(agent);

@@ -7,7 +7,7 @@ use table::Sizes;
 ghost use mathlib.Core.Path.{_≡_};
 ghost use mathlib.Core.List.{List};
 ghost use Prim.Native.Nat.{ℕ};
-ghost use Rattle.table.specs.Tables.{table};
+ghost use Rattle.table.specs.Tables.{Table, table};
 ghost use Rattle.judging.specs.Guards.{GuardsMarked, GuardsGiven, askedOf};
 
 pub fn ask_guards(
@@ -18,8 +18,10 @@ pub fn ask_guards(
     marks: &[u32],
     agent: usize,
 ) -> Asked
-    requires { ⌜ GuardsGiven (table sizes (now kinds) (now operands)) (now state) agent (now marks) ⌝ }
-    ensures { λ r. ⌜ ((gs : List ℕ) → GuardsMarked (table sizes (now (kinds .entry)) (now (operands .entry))) gs (now (marks .entry))
+    ghost { Table }
+    requires { λ t. ⌜ table sizes (now kinds) (now operands) ≡ t ⌝ }
+    requires { λ t. ⌜ GuardsGiven t (now state) agent (now marks) ⌝ }
+    ensures { λ t r. ⌜ ((gs : List ℕ) → GuardsMarked t gs (now (marks .entry))
         → r ≡ askedOf (table sizes (now (kinds .entry)) (now (operands .entry))) (now (state .entry)) agent gs) ⌝ }
 {
     let mut keys = 0;

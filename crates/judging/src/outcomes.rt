@@ -10,7 +10,7 @@ use term::Label;
 use value::Value;
 ghost use mathlib.Core.Path.{_≡_};
 ghost use Rattle.term.specs.declared.Label.the-variants.{Acting};
-ghost use Rattle.table.specs.Tables.{table};
+ghost use Rattle.table.specs.Tables.{Table, table};
 ghost use Rattle.judging.specs.Outcomes.{sized as sizedOf, Doing, Ended};
 
 // 17, of what is done, the word that it sets, the keys that its guards read and how many words it leaves.
@@ -34,8 +34,10 @@ fn judge_action(
     keys: u32,
     size: usize,
 ) -> Judgement
-    requires { ⌜ Doing (table sizes (now kinds) (now operands)) (now state) agent (Acting n) ⌝ }
-    ensures { λ r. ⌜ Ended (table sizes (now (kinds .entry)) (now (operands .entry))) (now (state .entry)) agent (Acting n) keys size r ⌝ }
+    ghost { Table }
+    requires { λ t. ⌜ table sizes (now kinds) (now operands) ≡ t ⌝ }
+    requires { λ t. ⌜ Doing t (now state) agent (Acting n) ⌝ }
+    ensures { λ t r. ⌜ Ended t (now (state .entry)) agent (Acting n) keys size r ⌝ }
 {
     let q = q_at(operands, n);
     let value = value_of(sizes, kinds, operands, state, agent, agent, q);
@@ -60,8 +62,10 @@ pub fn judge_outcome(
     o: Effect,
     keys: u32,
 ) -> Judgement
-    requires { ⌜ Doing (table sizes (now kinds) (now operands)) (now state) agent (o .label) ⌝ }
-    ensures { λ r. ⌜ Ended (table sizes (now (kinds .entry)) (now (operands .entry))) (now (state .entry)) agent (o .label) keys (o .size) r ⌝ }
+    ghost { Table }
+    requires { λ t. ⌜ table sizes (now kinds) (now operands) ≡ t ⌝ }
+    requires { λ t. ⌜ Doing t (now state) agent (o .label) ⌝ }
+    ensures { λ t r. ⌜ Ended t (now (state .entry)) agent (o .label) keys (o .size) r ⌝ }
 {
     let label = o.label;
     let size = o.size;

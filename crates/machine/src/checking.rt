@@ -7,7 +7,7 @@ use table::Sizes;
 ghost use mathlib.Core.Path.{_≡_};
 ghost use mathlib.Core.List.{List};
 ghost use Prim.Native.Nat.{ℕ, _<_};
-ghost use Rattle.table.specs.Tables.{table};
+ghost use Rattle.table.specs.Tables.{Table, table};
 ghost use Rattle.choice.specs.Turns.{Prepared};
 ghost use Rattle.state.specs.declared.Store.the-variants.{Entries};
 ghost use Rattle.state.specs.Standing.{Pair, HasBlocks};
@@ -41,10 +41,12 @@ fn judge_act(
     agent: usize,
     choice: usize,
 ) -> Judged
-    requires { ⌜ Prepared (table sizes (now kinds) (now operands)) (now scratch) ⌝ }
-    requires { ⌜ Proper (table sizes (now kinds) (now operands)) (now state) ⌝ }
-    requires { ⌜ agent < sizes .agents ⌝ }
-    ensures { λ r. ⌜ StepJudged (table sizes (now (kinds .entry)) (now (operands .entry))) (now (state .entry)) agent choice (ownStep (table sizes (now (kinds .entry)) (now (operands .entry))) (now (state .entry)) 0 agent choice) r ⌝ }
+    ghost { Table }
+    requires { λ t. ⌜ table sizes (now kinds) (now operands) ≡ t ⌝ }
+    requires { λ t. ⌜ Prepared t (now scratch) ⌝ }
+    requires { λ t. ⌜ Proper t (now state) ⌝ }
+    requires { λ t. ⌜ agent < sizes .agents ⌝ }
+    ensures { λ t r. ⌜ StepJudged t (now (state .entry)) agent choice (ownStep t (now (state .entry)) 0 agent choice) r ⌝ }
 {
     let found = judge(sizes, kinds, operands, scratch, state, agent, choice as u64);
     match found {
@@ -75,9 +77,11 @@ pub fn judge_step(
     agent: usize,
     number: usize,
 ) -> Judged
-    requires { ⌜ Prepared (table sizes (now kinds) (now operands)) (now scratch) ⌝ }
-    requires { ⌜ Proper (table sizes (now kinds) (now operands)) (now state) ⌝ }
-    ensures { λ r. ⌜ StepJudged (table sizes (now (kinds .entry)) (now (operands .entry))) (now (state .entry)) agent number (stepIn (table sizes (now (kinds .entry)) (now (operands .entry))) (now (state .entry)) kind agent number) r ⌝ }
+    ghost { Table }
+    requires { λ t. ⌜ table sizes (now kinds) (now operands) ≡ t ⌝ }
+    requires { λ t. ⌜ Prepared t (now scratch) ⌝ }
+    requires { λ t. ⌜ Proper t (now state) ⌝ }
+    ensures { λ t r. ⌜ StepJudged t (now (state .entry)) agent number (stepIn t (now (state .entry)) kind agent number) r ⌝ }
 {
     if out_of_range(sizes, kind, agent, number) {
         return Judged::Refused(10);

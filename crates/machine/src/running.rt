@@ -11,7 +11,7 @@ ghost use mathlib.Core.Path.{_≡_};
 ghost use Prim.Native.Nat.{_+_, _*_, _<_};
 ghost use lib.ListN.{length};
 ghost use Rattle.table.specs.Checks.{numberOf};
-ghost use Rattle.table.specs.Tables.{table};
+ghost use Rattle.table.specs.Tables.{Table, table};
 ghost use Rattle.choice.specs.Turns.{Prepared};
 ghost use Rattle.state.specs.WellFormed.{Proper};
 ghost use Rattle.steps.specs.Steps.{stepIn};
@@ -54,10 +54,12 @@ fn step_at(
     n: usize,
     i: usize,
 ) -> Stepped
-    requires { ⌜ Prepared (table sizes (now kinds) (now operands)) (now scratch) ⌝ }
-    requires { ⌜ Proper (table sizes (now kinds) (now operands)) (now state) ⌝ }
-    requires { ⌜ (length (now schedule) ≡ 2 + 5 * n) × (n ≡ stepsOf (now schedule)) × (i < n) ⌝ }
-    ensures { λ r. ⌜ Steps (stepIn (table sizes (now (kinds .entry)) (now (operands .entry))) (now (state .entry)) (kindIn (now (schedule .entry)) i) (agentIn (now (schedule .entry)) i) (numberIn (now (schedule .entry)) i)) r (now (state .exit)) ⌝ }
+    ghost { Table }
+    requires { λ t. ⌜ table sizes (now kinds) (now operands) ≡ t ⌝ }
+    requires { λ t. ⌜ Prepared t (now scratch) ⌝ }
+    requires { λ t. ⌜ Proper t (now state) ⌝ }
+    requires { λ t. ⌜ (length (now schedule) ≡ 2 + 5 * n) × (n ≡ stepsOf (now schedule)) × (i < n) ⌝ }
+    ensures { λ t r. ⌜ Steps (stepIn t (now (state .entry)) (kindIn (now (schedule .entry)) i) (agentIn (now (schedule .entry)) i) (numberIn (now (schedule .entry)) i)) r (now (state .exit)) ⌝ }
 {
     let kind = schedule[2 + i];
     let at = 2 + n + 4 * i;
@@ -107,10 +109,12 @@ pub fn run_steps(
     n: usize,
     answers: &mut [u8],
 ) -> Totals
-    requires { ⌜ Prepared (table sizes (now kinds) (now operands)) (now scratch) ⌝ }
-    requires { ⌜ Proper (table sizes (now kinds) (now operands)) (now state) ⌝ }
-    requires { ⌜ Runnable (now schedule) (now answers) n ⌝ }
-    ensures { λ r. ⌜ Reports (ran (table sizes (now (kinds .entry)) (now (operands .entry))) (now (schedule .entry)) n (begun (now (state .entry)) (now (answers .entry)))) r (now (state .exit)) (now (answers .exit)) ⌝ }
+    ghost { Table }
+    requires { λ t. ⌜ table sizes (now kinds) (now operands) ≡ t ⌝ }
+    requires { λ t. ⌜ Prepared t (now scratch) ⌝ }
+    requires { λ t. ⌜ Proper t (now state) ⌝ }
+    requires { λ t. ⌜ Runnable (now schedule) (now answers) n ⌝ }
+    ensures { λ t r. ⌜ Reports (ran t (now (schedule .entry)) n (begun (now (state .entry)) (now (answers .entry)))) r (now (state .exit)) (now (answers .exit)) ⌝ }
 {
     let none = no_tally();
     let mut totals = Totals {

@@ -9,7 +9,7 @@ use offering::offer;
 use table::Sizes;
 ghost use mathlib.Core.Path.{_≡_};
 ghost use lib.ListN.{length};
-ghost use Rattle.table.specs.Tables.{table};
+ghost use Rattle.table.specs.Tables.{Table, table};
 ghost use Rattle.choice.specs.Turns.{Prepared};
 ghost use Rattle.state.specs.WellFormed.{Proper};
 ghost use Rattle.steps.specs.Steps.{stepIn};
@@ -38,9 +38,11 @@ fn finish(
     number: usize,
     judged: Judged,
 ) -> Stepped
-    requires { ⌜ Prepared (table sizes (now kinds) (now operands)) (now scratch) ⌝ }
-    requires { ⌜ Finishing (table sizes (now kinds) (now operands)) (now state) agent number judged ⌝ }
-    ensures { λ r. ⌜ Steps (finished (table sizes (now (kinds .entry)) (now (operands .entry))) (now (state .entry)) agent number judged) r (now (state .exit)) ⌝ }
+    ghost { Table }
+    requires { λ t. ⌜ table sizes (now kinds) (now operands) ≡ t ⌝ }
+    requires { λ t. ⌜ Prepared t (now scratch) ⌝ }
+    requires { λ t. ⌜ Finishing t (now state) agent number judged ⌝ }
+    ensures { λ t r. ⌜ Steps (finished t (now (state .entry)) agent number judged) r (now (state .exit)) ⌝ }
 {
     match judged {
         Judged::Refused(refusal) => Stepped::Refused(refusal, 0),
@@ -83,9 +85,11 @@ pub fn step_in(
     agent: usize,
     number: usize,
 ) -> Stepped
-    requires { ⌜ Prepared (table sizes (now kinds) (now operands)) (now scratch) ⌝ }
-    requires { ⌜ Proper (table sizes (now kinds) (now operands)) (now state) ⌝ }
-    ensures { λ r. ⌜ Steps (stepIn (table sizes (now (kinds .entry)) (now (operands .entry))) (now (state .entry)) kind agent number) r (now (state .exit)) ⌝ }
+    ghost { Table }
+    requires { λ t. ⌜ table sizes (now kinds) (now operands) ≡ t ⌝ }
+    requires { λ t. ⌜ Prepared t (now scratch) ⌝ }
+    requires { λ t. ⌜ Proper t (now state) ⌝ }
+    ensures { λ t r. ⌜ Steps (stepIn t (now (state .entry)) kind agent number) r (now (state .exit)) ⌝ }
 {
     let judged = judge_step(sizes, kinds, operands, scratch, state, kind, agent, number);
     finish(
@@ -112,10 +116,12 @@ pub fn preview_in(
     number: usize,
     next: &mut [u32],
 ) -> Stepped
-    requires { ⌜ Prepared (table sizes (now kinds) (now operands)) (now scratch) ⌝ }
-    requires { ⌜ Proper (table sizes (now kinds) (now operands)) (now state) ⌝ }
-    requires { ⌜ length (now state) ≡ length (now next) ⌝ }
-    ensures { λ r. ⌜ Steps (into (now (next .entry)) (stepIn (table sizes (now (kinds .entry)) (now (operands .entry))) (now (state .entry)) kind agent number)) r (now (next .exit)) ⌝ }
+    ghost { Table }
+    requires { λ t. ⌜ table sizes (now kinds) (now operands) ≡ t ⌝ }
+    requires { λ t. ⌜ Prepared t (now scratch) ⌝ }
+    requires { λ t. ⌜ Proper t (now state) ⌝ }
+    requires { λ t. ⌜ length (now state) ≡ length (now next) ⌝ }
+    ensures { λ t r. ⌜ Steps (into (now (next .entry)) (stepIn t (now (state .entry)) kind agent number)) r (now (next .exit)) ⌝ }
 {
     let judged = judge_step(sizes, kinds, operands, scratch, state, kind, agent, number);
     if is_allowed(judged) {

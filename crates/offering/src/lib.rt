@@ -10,9 +10,10 @@ use state::zc_at;
 use state::zp_at;
 use steps::Tally;
 use table::Sizes;
+ghost use mathlib.Core.Path.{_≡_};
 ghost use Prim.Native.Nat.{_<_};
 ghost use mathlib.Core.Bool.{cond};
-ghost use Rattle.table.specs.Tables.{table, agentLimit};
+ghost use Rattle.table.specs.Tables.{Table, table, agentLimit};
 ghost use Rattle.state.specs.Layout.{zcAt, zpAt};
 ghost use Rattle.state.specs.Standing.{Standing};
 ghost use Rattle.steps.specs.Offers.{offerTally, sent};
@@ -42,8 +43,10 @@ pub fn offer(
     counts: bool,
     confirming: bool,
 ) -> Tally
-    requires { ⌜ Passing (table sizes (now kinds) (now operands)) (now state) agent key ⌝ }
-    ensures { λ r. ⌜ Passed (offerTally (table sizes (now (kinds .entry)) (now (operands .entry))) (now (state .entry)) agent key counts (sizes .agents)) (sent (table sizes (now (kinds .entry)) (now (operands .entry))) (now (state .entry)) agent key counts confirming (sizes .agents)) r (now (state .exit)) ⌝ }
+    ghost { Table }
+    requires { λ t. ⌜ table sizes (now kinds) (now operands) ≡ t ⌝ }
+    requires { λ t. ⌜ Passing t (now state) agent key ⌝ }
+    ensures { λ t r. ⌜ Passed (offerTally t (now (state .entry)) agent key counts (sizes .agents)) (sent t (now (state .entry)) agent key counts confirming (sizes .agents)) r (now (state .exit)) ⌝ }
 {
     let tally = offer_all(
         sizes,

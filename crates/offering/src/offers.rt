@@ -13,7 +13,7 @@ use steps::Tally;
 use table::Sizes;
 ghost use mathlib.Core.Path.{_≡_};
 ghost use Prim.Native.Nat.{_≤_};
-ghost use Rattle.table.specs.Tables.{table, agentLimit};
+ghost use Rattle.table.specs.Tables.{Table, table, agentLimit};
 ghost use Rattle.state.specs.declared.Store.the-variants.{Entries};
 ghost use Rattle.state.specs.Standing.{Pair, HasBlocks};
 ghost use Rattle.steps.specs.Offers.{offerTally, offered};
@@ -55,8 +55,10 @@ pub fn offer_all(
     counts: bool,
     confirming: bool,
 ) -> Tally
-    requires { ⌜ Passing (table sizes (now kinds) (now operands)) (now state) agent key ⌝ }
-    ensures { λ r. ⌜ Passed (offerTally (table sizes (now (kinds .entry)) (now (operands .entry))) (now (state .entry)) agent key counts (sizes .agents)) (offered (table sizes (now (kinds .entry)) (now (operands .entry))) (now (state .entry)) agent key counts confirming (sizes .agents)) r (now (state .exit)) ⌝ }
+    ghost { Table }
+    requires { λ t. ⌜ table sizes (now kinds) (now operands) ≡ t ⌝ }
+    requires { λ t. ⌜ Passing t (now state) agent key ⌝ }
+    ensures { λ t r. ⌜ Passed (offerTally t (now (state .entry)) agent key counts (sizes .agents)) (offered t (now (state .entry)) agent key counts confirming (sizes .agents)) r (now (state .exit)) ⌝ }
 {
     let asked = receivers(state, sizes.agents, agent, key, counts, confirming);
     let mut tally = no_tally();

@@ -50,11 +50,13 @@ pub fn collect(
     words: &[u32],
     c: u64,
 ) -> Effect
-    requires { ⌜ Prepared (table sizes (now kinds) (now operands)) (now scratch) ⌝ }
-    requires { ⌜ Whole (table sizes (now kinds) (now operands)) (now words) ⌝ }
-    requires { ⌜ Taking (table sizes (now kinds) (now operands)) (residualTerm (now words)) c ⌝ }
-    requires { ⌜ WalkMarks (table sizes (now kinds) (now operands)) (now marks) ⌝ }
-    ensures { λ r. ⌜ Walked (table sizes (now (kinds .entry)) (now (operands .entry))) (derivationAt (process (table sizes (now (kinds .entry)) (now (operands .entry))) (residualTerm (now (words .entry)))) c) (limitOf (table sizes (now (kinds .entry)) (now (operands .entry))) (residualTerm (now (words .entry)))) (now (marks .entry)) r (now (marks .exit)) ⌝ }
+    ghost { Table }
+    requires { λ t. ⌜ table sizes (now kinds) (now operands) ≡ t ⌝ }
+    requires { λ t. ⌜ Prepared t (now scratch) ⌝ }
+    requires { λ t. ⌜ Whole t (now words) ⌝ }
+    requires { λ t. ⌜ Taking t (residualTerm (now words)) c ⌝ }
+    requires { λ t. ⌜ WalkMarks t (now marks) ⌝ }
+    ensures { λ t r. ⌜ Walked t (derivationAt (process t (residualTerm (now (words .entry)))) c) (limitOf t (residualTerm (now (words .entry)))) (now (marks .entry)) r (now (marks .exit)) ⌝ }
 {
     let roots = first_root(sizes);
     let mut target = whole(0, c);
@@ -94,12 +96,14 @@ pub fn rewrite(
     size: usize,
     c: u64,
 ) -> usize
-    requires { ⌜ Prepared (table sizes (now kinds) (now operands)) (now scratch) ⌝ }
-    requires { ⌜ size ≤ length (now words) ⌝ }
-    requires { ⌜ Whole (table sizes (now kinds) (now operands)) (take size (now words)) ⌝ }
-    requires { ⌜ Taking (table sizes (now kinds) (now operands)) (residualTerm (take size (now words))) c ⌝ }
-    requires { ⌜ length (wordsOf (derivationAt (process (table sizes (now kinds) (now operands)) (residualTerm (take size (now words)))) c .leaving)) ≤ length (now words) ⌝ }
-    ensures { λ r. ⌜ Rewritten (wordsOf (derivationAt (process (table sizes (now (kinds .entry)) (now (operands .entry))) (residualTerm (take size (now (words .entry))))) c .leaving)) (now (words .entry)) r (now (words .exit)) ⌝ }
+    ghost { Table }
+    requires { λ t. ⌜ table sizes (now kinds) (now operands) ≡ t ⌝ }
+    requires { λ t. ⌜ Prepared t (now scratch) ⌝ }
+    requires { λ t. ⌜ size ≤ length (now words) ⌝ }
+    requires { λ t. ⌜ Whole t (take size (now words)) ⌝ }
+    requires { λ t. ⌜ Taking t (residualTerm (take size (now words))) c ⌝ }
+    requires { λ t. ⌜ length (wordsOf (derivationAt (process t (residualTerm (take size (now words)))) c .leaving)) ≤ length (now words) ⌝ }
+    ensures { λ t r. ⌜ Rewritten (wordsOf (derivationAt (process t (residualTerm (take size (now (words .entry))))) c .leaving)) (now (words .entry)) r (now (words .exit)) ⌝ }
 {
     let room = words.len();
     let at = room - size;

@@ -5,7 +5,8 @@ use crate::steps::step_at;
 use choice::marking::mark_tick;
 use table::Sizes;
 use table::first_root;
-ghost use Rattle.table.specs.Tables.{table};
+ghost use mathlib.Core.Path.{_≡_};
+ghost use Rattle.table.specs.Tables.{Table, table};
 ghost use Rattle.term.specs.Terms.{Term};
 ghost use Rattle.choice.specs.Turns.{Prepared};
 ghost use Rattle.choice.specs.Marking.{WalkMarks, Marked};
@@ -21,10 +22,12 @@ pub fn mark_tick_at(
     words: &[u32],
     target: Target,
 )
-    requires { ⌜ Prepared (table sizes (now kinds) (now operands)) (now scratch) ⌝ }
-    requires { ⌜ ((T : Term) × Stands (table sizes (now kinds) (now operands)) T target (now words)) ⌝ }
-    requires { ⌜ WalkMarks (table sizes (now kinds) (now operands)) (now marks) ⌝ }
-    ensures { λ r. ⌜ ((T : Term) → Stands (table sizes (now (kinds .entry)) (now (operands .entry))) T target (now (words .entry)) → Marked (table sizes (now (kinds .entry)) (now (operands .entry))) (going (table sizes (now (kinds .entry)) (now (operands .entry))) T target .guards) (now (marks .entry)) (now (marks .exit))) ⌝ }
+    ghost { Table }
+    requires { λ t. ⌜ table sizes (now kinds) (now operands) ≡ t ⌝ }
+    requires { λ t. ⌜ Prepared t (now scratch) ⌝ }
+    requires { λ t. ⌜ ((T : Term) × Stands t T target (now words)) ⌝ }
+    requires { λ t. ⌜ WalkMarks t (now marks) ⌝ }
+    ensures { λ t r. ⌜ ((T : Term) → Stands t T target (now (words .entry)) → Marked t (going t T target .guards) (now (marks .entry)) (now (marks .exit))) ⌝ }
 {
     let step = step_at(first_root(sizes), scratch, words, target);
     match step {

@@ -10,9 +10,10 @@ use choice::writing::put_last;
 use choice::writing::write_node;
 use table::Sizes;
 use table::first_root;
+ghost use mathlib.Core.Path.{_≡_};
 ghost use Prim.Native.Nat.{_≤_};
 ghost use lib.ListN.{length, drop};
-ghost use Rattle.table.specs.Tables.{table};
+ghost use Rattle.table.specs.Tables.{Table, table};
 ghost use Rattle.term.specs.Terms.{words as wordsOf};
 ghost use Rattle.term.specs.Processes.{derivationAt, process};
 ghost use Rattle.choice.specs.Turns.{Prepared};
@@ -28,12 +29,14 @@ pub fn place(
     at: usize,
     c: u64,
 ) -> Gap
-    requires { ⌜ Prepared (table sizes (now kinds) (now operands)) (now scratch) ⌝ }
-    requires { ⌜ at ≤ length (now words) ⌝ }
-    requires { ⌜ Whole (table sizes (now kinds) (now operands)) (drop at (now words)) ⌝ }
-    requires { ⌜ Taking (table sizes (now kinds) (now operands)) (residualTerm (drop at (now words))) c ⌝ }
-    requires { ⌜ length (wordsOf (derivationAt (process (table sizes (now kinds) (now operands)) (residualTerm (drop at (now words)))) c .leaving)) ≤ length (now words) ⌝ }
-    ensures { λ r. ⌜ Placed (wordsOf (derivationAt (process (table sizes (now (kinds .entry)) (now (operands .entry))) (residualTerm (drop at (now (words .entry))))) c .leaving)) (length (now (words .entry))) r (now (words .exit)) ⌝ }
+    ghost { Table }
+    requires { λ t. ⌜ table sizes (now kinds) (now operands) ≡ t ⌝ }
+    requires { λ t. ⌜ Prepared t (now scratch) ⌝ }
+    requires { λ t. ⌜ at ≤ length (now words) ⌝ }
+    requires { λ t. ⌜ Whole t (drop at (now words)) ⌝ }
+    requires { λ t. ⌜ Taking t (residualTerm (drop at (now words))) c ⌝ }
+    requires { λ t. ⌜ length (wordsOf (derivationAt (process t (residualTerm (drop at (now words)))) c .leaving)) ≤ length (now words) ⌝ }
+    ensures { λ t r. ⌜ Placed (wordsOf (derivationAt (process t (residualTerm (drop at (now (words .entry))))) c .leaving)) (length (now (words .entry))) r (now (words .exit)) ⌝ }
 {
     let roots = first_root(sizes);
     let mut front: usize = 0;

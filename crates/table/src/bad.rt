@@ -1,8 +1,9 @@
 // Refusal 4, and whether 5 is in doubt: the nodes in ascending order, with marks for those that lower nodes name, and
 // for the keys that they reach.
+ghost use mathlib.Core.Path.{_≡_};
 ghost use Prim.Native.Nat.{_≤_};
 ghost use lib.ListN.{length};
-ghost use Rattle.table.specs.Tables.{table};
+ghost use Rattle.table.specs.Tables.{Table, table};
 ghost use Rattle.table.specs.Sound.{Shaped};
 ghost use Rattle.table.specs.Marks.{Bad};
 use super::Scan;
@@ -19,8 +20,10 @@ use super::nodes::look_at;
 // The lowest node with a bad kind or operand, and the number of nodes where there is none: then a key may be wrong only
 // where that is doubtful, since each node has been told what the nodes reach that it names.
 pub fn lowest_bad(sizes: Sizes, kinds: &[u8], operands: &[u8], scratch: &mut [u32]) -> Scan
-    requires { ⌜ Shaped (table sizes (now kinds) (now operands)) × (sizes .nodes ≤ length (now scratch)) ⌝ }
-    ensures { λ r. ⌜ Bad (table sizes (now (kinds .entry)) (now (operands .entry))) r ⌝ }
+    ghost { Table }
+    requires { λ t. ⌜ table sizes (now kinds) (now operands) ≡ t ⌝ }
+    requires { λ t. ⌜ Shaped t × (sizes .nodes ≤ length (now scratch)) ⌝ }
+    ensures { λ t r. ⌜ Bad t r ⌝ }
 {
     let first = first_root(sizes);
     let mut doubtful = false;

@@ -5,7 +5,7 @@ ghost use mathlib.Core.List.{List};
 ghost use Prim.Native.Nat.{ℕ, _<_, _≤_};
 ghost use lib.Dec.{ltb, leb};
 ghost use lib.ListN.{length, getD};
-ghost use Rattle.table.specs.Tables.{table};
+ghost use Rattle.table.specs.Tables.{Table, table};
 ghost use Rattle.table.specs.Nodes.{fits, isNode};
 ghost use Rattle.table.specs.Sound.{Shaped};
 ghost use Rattle.table.specs.Marks.{Looked};
@@ -75,8 +75,10 @@ pub fn is_node(field: Field) -> bool
 }
 
 pub fn look_at(sizes: Sizes, kinds: &[u8], operands: &[u8], node: usize) -> Look
-    requires { ⌜ Shaped (table sizes (now kinds) (now operands)) × (node < sizes .nodes) ⌝ }
-    ensures { λ r. ⌜ Looked (table sizes (now (kinds .entry)) (now (operands .entry))) node r ⌝ }
+    ghost { Table }
+    requires { λ t. ⌜ table sizes (now kinds) (now operands) ≡ t ⌝ }
+    requires { λ t. ⌜ Shaped t × (node < sizes .nodes) ⌝ }
+    ensures { λ t r. ⌜ Looked t node r ⌝ }
 {
     let fields = fields_here(sizes, node, kinds[node]);
     let left = fields.p;

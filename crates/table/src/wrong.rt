@@ -6,7 +6,7 @@ ghost use mathlib.Core.List.{List};
 ghost use Prim.Native.Nat.{ℕ, _<_, _≤_};
 ghost use lib.ListN.{length};
 ghost use Rattle.basis.specs.Numbers.{lowest};
-ghost use Rattle.table.specs.Tables.{table};
+ghost use Rattle.table.specs.Tables.{Table, table};
 ghost use Rattle.table.specs.Nodes.{isKeyKind, badNode};
 ghost use Rattle.table.specs.Reach.{wrongHere, wrongKey};
 ghost use Rattle.table.specs.Sound.{Limits, Shaped};
@@ -54,8 +54,10 @@ fn visit(
     node: usize,
     lowest: usize,
 ) -> usize
-    requires { ⌜ Descends (table sizes (now kinds) (now operands)) (now words) node ⌝ }
-    ensures { λ r. ⌜ Visit (table sizes (now (kinds .entry)) (now (operands .entry))) (now (words .exit)) node lowest r ⌝ }
+    ghost { Table }
+    requires { λ t. ⌜ table sizes (now kinds) (now operands) ≡ t ⌝ }
+    requires { λ t. ⌜ Descends t (now words) node ⌝ }
+    ensures { λ t r. ⌜ Visit t (now (words .exit)) node lowest r ⌝ }
 {
     let word = words[node];
     let left = has(word, LEFT);
@@ -86,11 +88,13 @@ fn show_starts(sizes: Sizes, kinds: &[u8], scratch: &mut [u32])
 
 // The lowest wrong key node, and the number of nodes where there is none.
 fn descend(sizes: Sizes, kinds: &[u8], operands: &[u8], scratch: &mut [u32]) -> usize
-    requires { ⌜ Shaped (table sizes (now kinds) (now operands))
+    ghost { Table }
+    requires { λ t. ⌜ table sizes (now kinds) (now operands) ≡ t ⌝ }
+    requires { λ t. ⌜ Shaped t
         × (sizes .nodes ≤ length (now scratch))
         × ((k : ℕ) → k < sizes .nodes → badNode (table sizes (now kinds) (now operands)) k ≡ false)
         × Shown (table sizes (now kinds) (now operands)) (now scratch) (sizes .nodes) ⌝ }
-    ensures { λ r. ⌜ r ≡ lowest (wrongKey (table sizes (now (kinds .entry)) (now (operands .entry)))) (sizes .nodes) ⌝ }
+    ensures { λ t r. ⌜ r ≡ lowest (wrongKey t) (sizes .nodes) ⌝ }
 {
     let mut lowest = sizes.nodes;
     let mut i = sizes.nodes;
@@ -110,11 +114,13 @@ pub fn lowest_wrong(
     scratch: &mut [u32],
     doubtful: bool,
 ) -> usize
-    requires { ⌜ Shaped (table sizes (now kinds) (now operands))
+    ghost { Table }
+    requires { λ t. ⌜ table sizes (now kinds) (now operands) ≡ t ⌝ }
+    requires { λ t. ⌜ Shaped t
         × (sizes .nodes ≤ length (now scratch))
         × ((k : ℕ) → k < sizes .nodes → badNode (table sizes (now kinds) (now operands)) k ≡ false)
         × (doubtful ≡ false → (k : ℕ) → k < sizes .nodes → wrongKey (table sizes (now kinds) (now operands)) k ≡ false) ⌝ }
-    ensures { λ r. ⌜ r ≡ lowest (wrongKey (table sizes (now (kinds .entry)) (now (operands .entry)))) (sizes .nodes) ⌝ }
+    ensures { λ t r. ⌜ r ≡ lowest (wrongKey t) (sizes .nodes) ⌝ }
 {
     if !doubtful {
         return sizes.nodes;
