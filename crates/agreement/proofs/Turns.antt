@@ -61,6 +61,10 @@ module _ {E : Type 0} (newer : E → E → Bool) (order : Order E newer) where
       not-older-trans _ _ _ (never-older ts (afterTurn newer t v) a (fresh .1))
       (⊎-elim (λ e. inl e) (λ g. inr (g .0)) (entry-moved newer (t .link) (t .move) v a (fresh .0)))
 
+  -- what is newer than b's entry was so before
+  pub was-newer : (t : Turn E) (v : View E) (b : ℕ) (e : E) → Fresh newer (t .move) v → T (newer e (afterTurn newer t v .entry b)) → T (newer e (v .entry b))
+  was-newer t v b e fresh o = ⊎-elim (λ p. rw p at o) (λ g. order .transitive _ _ _ o (g .0)) (entry-moved newer (t .link) (t .move) v b fresh)
+
   -- (iv) for one turn
   pub pair-turn : (t : Turn E) (v : View E) (a b : ℕ) → Fresh newer (t .move) v → (t .move ≡ propagate a → T (t .link a b))
       → NewerWaits newer v a b → NewerWaits newer (afterTurn newer t v) a b
@@ -69,16 +73,12 @@ module _ {E : Type 0} (newer : E → E → Bool) (order : Order E newer) where
       w : View E
       w = afterTurn newer t v
 
-      -- b's entry was not newer than it is
-      was : T (newer (v .entry a) (w .entry b)) → T (newer (v .entry a) (v .entry b))
-      was o = ⊎-elim (λ e. rw e at o) (λ g. order .transitive _ _ _ o (g .0)) (entry-moved newer (t .link) (t .move) v b fresh)
-
       waits : T (w .waits a) ⊎ (t .move ≡ propagate a) → T (w .waits a)
       waits (inl u) = u
       waits (inr e) = absurd (propagate-reaches newer order (t .link) v a b (linked e) (rw e at n))
 
       kept : w .entry a ≡ v .entry a → T (w .waits a)
-      kept e = waits (waits-moved newer (t .link) (t .move) v a (held (was (rw e at n))))
+      kept e = waits (waits-moved newer (t .link) (t .move) v a (held (was-newer t v b (v .entry a) fresh (rw e at n))))
 
   pub pair-turns : (ts : List (Turn E)) (v : View E) (a b : ℕ) → AllFresh newer ts v → PropagateLinked a b ts
       → NewerWaits newer v a b → NewerWaits newer (afterTurns newer ts v) a b
