@@ -32,11 +32,11 @@ use Rattle.steps.specs.Acts.{chosen}
 use Rattle.steps.specs.Steps.{Outcome, after}
 use Rattle.steps.proofs.Steps.{Done, done-step, step-done, step-refused}
 use Rattle.theorems.specs.Lists.{Step, outcomeOf, next, stateAfter}
-use Rattle.theorems.specs.Demand3.{Write, ifDone, adds}
+use Rattle.theorems.specs.Demand3.{Write, entryWritten, ifDone, adds}
 use Rattle.theorems.specs.Contact.{Propagates}
 use Rattle.theorems.proofs.Views.{absent, stampIn, same-entry, seen, links}
 use Rattle.theorems.proofs.ActViews.{actMove}
-use Rattle.theorems.proofs.Turns.{stepMove, stepAdds, after-shows, quiet-past, step-fresh, step-clock, written, adds-numbered, adds-entries}
+use Rattle.theorems.proofs.Turns.{stepMove, stepAdds, after-shows, quiet-past, step-fresh, step-clock, adds-numbered, adds-entries}
 
 -- a quiet move is no propagate, and what is none is none where it is chosen
 quiet-not : (a : ℕ) → _≡_ {A = Move Entry} quiet (propagate a) → ⊥
@@ -144,9 +144,9 @@ module _ (bytes : List ℕ) where
     pub clock-next : clockOf (next bytes s x) ≡ clockOf s + length (adds bytes s x)
     clock-next = decided (λ c u. clockOf u ≡ clockOf s + length (ifDone c new)) (λ d. step-clock bytes s scratch kind agent number d) (λ n place. omega arith)
 
-    pub entries-next : (k : ℕ) → wrote (turn s x k .move) ≡ entriesOf (λ (w : Write). w .key) written k (adds bytes s x)
+    pub entries-next : (k : ℕ) → wrote (turn s x k .move) ≡ entriesOf (λ (w : Write). w .key) entryWritten k (adds bytes s x)
     entries-next k =
-        decided (λ c u. wrote (ifPassed c (moveOf s x k)) ≡ entriesOf (λ (w : Write). w .key) written k (ifDone c new))
+        decided (λ c u. wrote (ifPassed c (moveOf s x k)) ≡ entriesOf (λ (w : Write). w .key) entryWritten k (ifDone c new))
         (λ d. adds-entries bytes s kind agent number k) (λ n place. refl)
 
   -- where the turn is a propagate of key k by agent a, the step is a done propagate of k by a
@@ -177,7 +177,7 @@ module _ (bytes : List ℕ) where
   writes = record {
     Write = Write;
     key = λ w. w .key;
-    entry = written;
+    entry = entryWritten;
     clock = clockOf;
     adds = adds bytes;
     adds-numbered = λ s x h. numbered-next s x;
