@@ -40,6 +40,10 @@ pub same-words : (s : List ℕ) (k : ℕ) (l : List ℕ) → Agree s k l → (a 
 same-words s k l (inl h) a b m n = h .2 a m ∙ sym (h .2 b n)
 same-words s k l (inr h) a b m n = h a m ∙ sym (h b n)
 
+-- a key that does not wait, of words and of the view that they show
+pub not-waiting : (bytes s : List ℕ) (k a : ℕ) → k < tableOf bytes .sizes .stigmergy → Silent s k a → T (machine bytes .view s k .waits a) → ⊥
+not-waiting bytes s k a l silent w = let z = subst (λ (v : View Entry). T (v .waits a)) (view-there bytes s k l) w in rw silent at z
+
 module _ (bytes : List ℕ) (few : tableOf bytes .sizes .stigmergy ≤ keyLimit) where
   -- what an agent has for a key is an entry, or it has none
   present-or-none : (xs : List Step) (k a : ℕ) → k < tableOf bytes .sizes .stigmergy → (0 < stampOf (stateAfter bytes xs) a k) ⊎ (entryOf (stateAfter bytes xs) a k ≡ absent)
@@ -52,7 +56,7 @@ module _ (bytes : List ℕ) (few : tableOf bytes .sizes .stigmergy ≤ keyLimit)
       above e l = omega arith
 
   -- from any moment on
-  agree-since : (before since : List Step) → ChainsAgree bytes (stateAfter bytes (before ++ since)) (InContact bytes before since)
+  pub agree-since : (before since : List Step) → ChainsAgree bytes (stateAfter bytes (before ++ since)) (InContact bytes before since)
   agree-since before since k [] h agents near silent = inr (λ a m. absurd (List·Memᴰ·not-nil m))
   agree-since before since k (b ∷ l) h agents near silent =
       ⊎-elim (λ p. inl (entryOf (stateAfter bytes end) b k, p, as-first)) (λ e. inr (λ a m. as-first a m ∙ e)) (present-or-none end k b h)
@@ -61,7 +65,7 @@ module _ (bytes : List ℕ) (few : tableOf bytes .sizes .stigmergy ≤ keyLimit)
       end = before ++ since
 
       none : NoneWaits (b ∷ l) (machine bytes .view (stateAfter bytes end) k)
-      none c i w = let z = subst (λ (v : View Entry). T (v .waits c)) (view-there bytes (stateAfter bytes end) k h) w in rw (silent c i) at z
+      none c i = not-waiting bytes (stateAfter bytes end) k c h (silent c i)
 
       as-first : (a : ℕ) → List·Memᴰ a (b ∷ l) → entryOf (stateAfter bytes end) a k ≡ entryOf (stateAfter bytes end) b k
       as-first a m =

@@ -24,9 +24,12 @@ pub mod Lists
 pub mod Contact
 pub mod SteadyLinks
 pub mod Demand3
+pub mod Origins
 pub mod Instance3
 pub mod Surviving
 pub mod InstanceSurviving
 pub mod Chains
+pub mod Blame
+pub mod Repair
 pub mod InstanceChains
 pub mod Ranged

@@ -48,7 +48,7 @@ abbrev pub stepAdds : List ℕ → List ℕ → ℕ → ℕ → ℕ → List Wri
 stepAdds bytes s kind x number = cond (eqb kind 0) (writeOf bytes s x (chosen (tableOf bytes) s x number .label)) []
 
 -- a well-formed state, as facts
-formed : (bytes s : List ℕ) (scratch kind x number : ℕ) → Done bytes s scratch kind x number → WellFormed (tableOf bytes) s
+pub formed : (bytes s : List ℕ) (scratch kind x number : ℕ) → Done bytes s scratch kind x number → WellFormed (tableOf bytes) s
 formed bytes s scratch kind x number done = well-formed-read (tableOf bytes) (done .accepted .table .sound .shaped .limits) s (omega (arith, done .whole)) (done .formed)
 
 -- an act's label is of an action node
