@@ -54,6 +54,11 @@ module _ {E : Type 0} (newer : E → E → Bool) (order : Order E newer) where
   not-older-trans e f g (inr p) (inl q) = inr (rw q at p)
   not-older-trans e f g (inr p) (inr q) = inr (order .transitive e f g p q)
 
+  -- nothing is newer than what is not older than it
+  pub not-older-not : (e f : E) → NotOlder newer e f → T (newer f e) → ⊥
+  not-older-not e f (inl p) t = order .irreflexive f (rw p at t)
+  not-older-not e f (inr o) t = order .irreflexive e (order .transitive e f e o t)
+
   -- (iii) an agent's entry is never older than it was
   pub never-older : (ts : List (Turn E)) (v : View E) (a : ℕ) → AllFresh newer ts v → NotOlder newer (afterTurns newer ts v .entry a) (v .entry a)
   never-older [] v a fresh = inl refl

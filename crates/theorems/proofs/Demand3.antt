@@ -27,7 +27,7 @@ use Rattle.theorems.proofs.Lists.{machine, writes, after-list, entry-th
 use Rattle.theorems.proofs.Contact.{steady-held, contact-load}
 
 -- stands past the history's end
-noWrite : Write
+pub noWrite : Write
 noWrite = record { agent = 0; key = 0; value = 0; stamp = 0 }
 
 module _ (bytes : List ℕ) (few : tableOf bytes .sizes .stigmergy ≤ keyLimit) (xs : List Step) where

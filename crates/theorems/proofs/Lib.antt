@@ -28,6 +28,7 @@ pub mod Origins
 pub mod Instance3
 pub mod Surviving
 pub mod InstanceSurviving
+pub mod Latest
 pub mod Chains
 pub mod Blame
 pub mod Repair
