@@ -11,9 +11,9 @@ use lib.ListN.{length, getElem?, take}
 use lib.Seq.{take-nil}
 use Rattle.agreement.specs.Order.{Order}
 use Rattle.agreement.specs.View.{NewerWaits}
-use Rattle.agreement.specs.Moves.{propagate, moved}
+use Rattle.agreement.specs.Moves.{propagate}
 use Rattle.agreement.specs.Turns.{afterTurn}
-use Rattle.agreement.specs.Machine.{afterSteps, Machine, viewAfter, entryAfter}
+use Rattle.agreement.specs.Machine.{afterSteps, Machine, entryAfter}
 use Rattle.agreement.specs.Blame.{Blamed}
 use Rattle.agreement.proofs.Moves.{is-propagate, entry-moved, waits-moved, propagate-reaches}
 use Rattle.agreement.proofs.Turns.{was-newer}

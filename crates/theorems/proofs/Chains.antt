@@ -1,17 +1,16 @@
 -- Chains of agents in which a key waits nowhere: all have the same entry, or none has one.
 -- Assumes nothing.
 use Prim.Native.Nat.{ℕ, _<_, _≤_}
-use mathlib.Core.Path.{_≡_, refl, sym, ap, subst, _∙_}
-use mathlib.Core.Logic.{_⊎_, inl, inr, ⊎-elim}
+use mathlib.Core.Path.{_≡_, refl, sym, subst, _∙_}
+use mathlib.Core.Logic.{inl, inr, ⊎-elim}
 use mathlib.Core.List.{List, [], _∷_, _++_, List·Memᴰ, List·Memᴰ·head, List·Memᴰ·tail, List·Memᴰ·cases-cons, List·Memᴰ·not-nil}
-use native.Mathlib.Omega.{arith}
-use lib.Dec.{T, ltb→lt}
+use lib.Dec.{T}
 use Rattle.agreement.specs.View.{View, NoneWaits}
 use Rattle.agreement.specs.Machine.{InContact as MachineInContact}
 use Rattle.agreement.proofs.Turns.{neighbours-map}
 use Rattle.table.specs.Tables.{tableOf}
 use Rattle.state.specs.declared.Entry.{Entry}
-use Rattle.state.specs.Layout.{keyLimit, stampOf}
+use Rattle.state.specs.Layout.{keyLimit}
 use Rattle.state.specs.Entries.{entryOf}
 use Rattle.state.specs.WellFormed.{loaded}
 use Rattle.steps.specs.Shelves.{savedOf}
@@ -21,8 +20,7 @@ use Rattle.theorems.specs.Demand3.{HeldBeforeSteps}
 use Rattle.theorems.specs.Contact.{HeldBeforePropagates, InContact}
 use Rattle.theorems.specs.Surviving.{Element, shelfThen, survivingLine, Surviving}
 use Rattle.theorems.specs.Chains.{Silent, Agree, ChainsAgree, Chains, Chains-surviving, Chains-hold}
-use Rattle.theorems.proofs.Views.{absent, stampIn}
-use Rattle.theorems.proofs.Lists.{machine, loaded-none, after-list, view-there, entry-there}
+use Rattle.theorems.proofs.Lists.{machine, after-list, view-there, entry-there}
 use Rattle.theorems.proofs.Latest.{present-or-none, none-newer-own, none-newer, last-written}
 use Rattle.theorems.proofs.Contact.{in-contact, from-load, steady-held}
 use Rattle.theorems.proofs.Surviving.{surviving}

@@ -1,16 +1,16 @@
 -- What agents agree on: no write of theirs is newer, and if all agents agree, it is the last write.
 -- Assumes nothing.
 use Prim.Native.Nat.{ℕ, suc, _-_, _<_, _≤_}
-use mathlib.Core.Bool.{true, false}
-use mathlib.Core.Path.{_≡_, refl, sym, ap, subst, subst₂, _∙_}
+use mathlib.Core.Bool.{false}
+use mathlib.Core.Path.{_≡_, refl, sym, ap, subst, _∙_}
 use mathlib.Core.Logic.{_⊎_, inl, inr, ⊎-elim}
-use mathlib.Core.Option.{Option, some}
+use mathlib.Core.Option.{some}
 use mathlib.Core.List.{List, [], _∷_, _++_, List·Memᴰ, List·Memᴰ·tail, Memᴰ·append-right}
 use native.Mathlib.Omega.{arith}
 use lib.Dec.{ltb→lt}
-use lib.ListN.{length, getElem?, getD, take, drop}
+use lib.ListN.{getElem?, take, drop}
 use lib.Seq.{split-at, length-take-le}
-use borrow.Author.Tests.{ltb-false, lt-ltb}
+use borrow.Author.Tests.{ltb-false}
 use Rattle.basis.proofs.Tests.{is-false}
 use Rattle.basis.proofs.Lists.{nth-in, nth-is}
 use Rattle.agreement.specs.Order.{NotOlder}

@@ -1,8 +1,8 @@
 -- Propagates and confirms that reach, and what follows from there on.
 -- Assumes nothing.
-use Prim.Native.Nat.{ℕ, _<_, _≤_}
+use Prim.Native.Nat.{ℕ, _<_}
 use mathlib.Core.Path.{_≡_, refl, sym, subst, subst₃}
-use mathlib.Core.List.{List, [], _∷_, _++_, List·Memᴰ·head, List·Memᴰ·tail}
+use mathlib.Core.List.{List, [], _∷_, List·Memᴰ·head, List·Memᴰ·tail}
 use native.Mathlib.Omega.{arith}
 use Rattle.agreement.specs.Order.{Order}
 use Rattle.agreement.proofs.Stamps.{stamp-order}
@@ -20,7 +20,7 @@ use Rattle.theorems.specs.Lists.{Step, outcomeOf, next, stateAfter}
 use Rattle.theorems.specs.Demand3.{NewerWaits}
 use Rattle.theorems.specs.Contact.{InContact}
 use Rattle.theorems.specs.Chains.{Silent}
-use Rattle.theorems.specs.Repair.{Confirms, PropagateReaches, ConfirmReaches, Repair, Repaired, Repair-holds, HeldSince, moment, ended}
+use Rattle.theorems.specs.Repair.{Confirms, PropagateReaches, ConfirmReaches, Repaired, Repair-holds, HeldSince, moment, ended}
 use Rattle.theorems.proofs.Views.{stampIn}
 use Rattle.theorems.proofs.Turns.{formed}
 use Rattle.theorems.proofs.Lists.{machine, propagates-turn, confirms-turn}
