@@ -34,3 +34,4 @@ pub mod Blame
 pub mod Repair
 pub mod InstanceChains
 pub mod Ranged
+pub mod InstanceRepair
