@@ -94,9 +94,9 @@ met =
     let fact = repair meeting .0 in
     let after = repair meeting .1 early since confirm in
     let reaches : ConfirmReaches meeting (stateAfter meeting early) confirm 0 0 1 =
-        record { confirms = record { kind-confirm = refl; by-agent = refl; of-key = refl; is-done = comes .confirms }; there = omega arith; linked = comes .linked } in
+    record { confirms = record { kind-confirm = refl; by-agent = refl; of-key = refl; is-done = comes .confirms }; there = omega arith; linked = comes .linked } in
     let back : PropagateReaches meeting (stateAfter meeting later) (step 1 1) 0 1 0 =
-        record { propagates = record { kind-propagate = refl; by-agent = refl; of-key = refl; is-done = comes .propagates }; there = omega arith; linked = comes .linked-back } in
+    record { propagates = record { kind-propagate = refl; by-agent = refl; of-key = refl; is-done = comes .propagates }; there = omega arith; linked = comes .linked-back } in
     let to : HeldSince meeting early since confirm 0 1 0 = (λ p. comes .linked-back, tt) in
     let from : HeldSince meeting early since confirm 0 0 1 = (λ p. absurd (omega (arith, p .by-agent)), tt) in
     let end = comes .together in
