@@ -1,22 +1,25 @@
 -- The theorems on every list of steps from a start.
 use mathlib.Core.Bool.{Bool}
-use mathlib.Core.List.{List, _++_, List·Memᴰ}
+use mathlib.Core.List.{List, _∷_, _++_, List·Memᴰ}
 use mathlib.Core.Logic.{⊎-elim}
 use mathlib.Core.Path.{_≡_, _∙_, ap}
 use native.Mathlib.Omega.{arith}
 use Prim.Native.Nat.{ℕ}
 use lib.Dec.{T, ltb→lt}
-use Rattle.agreement.specs.Order.{Order, Comparable}
+use Rattle.agreement.specs.Order.{Order, NotOlder, Comparable}
 use Rattle.agreement.specs.View.{blank, NewerWaits}
-use Rattle.agreement.specs.Turns.{Turn, afterTurns, AllFresh}
+use Rattle.agreement.specs.Moves.{write}
+use Rattle.agreement.specs.Turns.{Turn, afterTurn, afterTurns, AllFresh}
 use Rattle.agreement.specs.Stamps.{byStamp}
 use Rattle.agreement.specs.History.{Numbered, writeAt, WrittenAt}
 use Rattle.agreement.specs.Machine.{afterSteps, turnsOf, Machine, Start, Writes, InContact, viewAfter, entryAfter, historyOf, allWrites}
 use Rattle.agreement.specs.Agreement.{Agreement, StampAgreement}
+use Rattle.agreement.proofs.Moves.{write-enters}
 use Rattle.agreement.proofs.Turns.{neighbours-map, chain-agrees, never-older, pair-turns, blank-written, blank-equal}
 use Rattle.agreement.proofs.Stamps.{stamp-order, climbing-comparable}
 use Rattle.agreement.proofs.History.{write-of-stamp, entry-write, numbered-climbing}
-use Rattle.agreement.proofs.Machine.{before-propagates, invariant-steps, view-split, fresh-steps, start-fresh, start-view, writes-numbered, history-entries}
+use Rattle.agreement.proofs.Machine.{afterSteps-append, before-propagates, invariant-steps, view-split, fresh-steps, start-fresh, start-view, writes-numbered, history-entries}
+use Rattle.agreement.proofs.Blame.{to-blame}
 
 -- for any strict order of entries
 module _ {E : Type 0} {newer : E → E → Bool} (order : Order E newer) (M : Machine newer) {absent : E} (s : M .State) (start : Start M absent s) (xs : List (M .Step)) where
@@ -45,17 +48,32 @@ module _ {E : Type 0} {newer : E → E → Bool} (order : Order E newer) (M : Ma
     pair-since k a b c = rw (later k, viewAfter)
         (pair-turns newer order (turnsOf next turn moment since k) (view moment k) a b (fresh-since k) (before-propagates next turn k a b moment since (c .link-held)) (c .newer-waits))
 
+    end : afterSteps next s xs ≡ afterSteps next moment since
+    end = rw split (afterSteps-append next s before since)
+
   pub agreement : Agreement M absent s xs
   agreement = record {
     written = λ k a. rw (final k, entryAfter) (blank-written newer order absent (turns k) (fresh k) a);
     equal = equal;
     never-older = λ before since e k a. rw (entryAfter, later before since e k)
         (never-older newer order (turnsOf next turn (moment before since e) since k) (view (moment before since e) k) a (fresh-since before since e k));
+    own = own;
     pair = pair-since;
+    blame = λ before since e k a b held n z.
+        to-blame order M k a b (moment before since e) since (invariant-steps M s before (start .invariant)) held (rw (entryAfter, end before since e) at n) (λ w. z (rw (viewAfter, end before since e) w));
     chain = λ before since e k comparable l h. chain-agrees newer (viewAfter M s xs k) (equal k comparable) l
         (neighbours-map (InContact M s before since k) (NewerWaits newer (viewAfter M s xs k)) l (λ a b m n. pair-since before since e k a b) h);
   }
     where
+      own : (before since : List Step) (x : Step) → xs ≡ before ++ (x ∷ since) → (k a : ℕ) (e : E)
+          → turn (afterSteps next s before) x k .move ≡ write a e → NotOlder newer (entryAfter M s xs k a) e
+      own before since x split k a e m =
+          let t = turn (afterSteps next s before) x k in
+          let v = view (afterSteps next s before) k in
+          let z : afterTurn newer t v .entry a ≡ e = rw m (write-enters newer (t .link) v a e) in
+          let w = never-older newer order (turnsOf next turn (next (afterSteps next s before) x) since k) (afterTurn newer t v) a (fresh-since before (x ∷ since) split k .1) in
+          rw (entryAfter, later before (x ∷ since) split k) (rw z at w)
+
       equal : (k : ℕ) → Comparable newer (historyOf M s xs k) → (a b : ℕ)
           → (T (newer (entryAfter M s xs k a) (entryAfter M s xs k b)) → ⊥) → (T (newer (entryAfter M s xs k b) (entryAfter M s xs k a)) → ⊥)
           → entryAfter M s xs k a ≡ entryAfter M s xs k b

@@ -16,6 +16,10 @@ module _ {W : Type 0} (stamp : W → ℕ) where
   numbered-append c d [] h m e n = let z : d ≡ c = omega arith in rw z at n
   numbered-append c d (w ∷ g) h m e n = (m .0, numbered-append (suc c) d g h (m .1) (omega arith) n)
 
+  pub numbered-rest : (c : ℕ) (g h : List W) → Numbered stamp c (g ++ h) → Numbered stamp (c + length g) h
+  numbered-rest c [] h n = let z : c + 0 ≡ c = omega arith in rw z n
+  numbered-rest c (w ∷ g) h n = let z : c + suc (length g) ≡ suc c + length g = omega arith in rw z (numbered-rest (suc c) g h (n .1))
+
   -- the write at place i, counted from 0, bears stamp c + i + 1
   pub numbered-at : (c : ℕ) (h : List W) (d : W) (i : ℕ) → Numbered stamp c h → i < length h → stamp (getD h i d) ≡ suc (c + i)
   numbered-at c [] d i n l = absurd (omega arith)

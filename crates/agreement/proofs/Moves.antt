@@ -3,10 +3,11 @@ use mathlib.Core.Bool.{Bool, true, false, cond, not, _&&_, _||_}
 use mathlib.Core.List.{[], _∷_, List·Memᴰ, List·Memᴰ·head}
 use mathlib.Core.Logic.{_⊎_, inl, inr, ⊎-map, ⊎-elim}
 use mathlib.Core.Path.{_≡_, refl, ap, subst}
+use native.Mathlib.Omega.{arith}
 use Prim.Native.Nat.{ℕ}
-use lib.Dec.{T, eqb, eqb→eq}
+use lib.Dec.{T, eqb, eqb→eq, eqb-refl}
 use Rattle.agreement.specs.Order.{Order}
-use Rattle.agreement.specs.View.{View}
+use Rattle.agreement.specs.View.{View, NewerWaits}
 use Rattle.agreement.specs.Moves.{Move, quiet, write, propagate, confirm, linked, takes, holdsNewer, moved, Fresh, wrote}
 
 and-right : (a b : Bool) → T (a && b) → T b
@@ -17,9 +18,24 @@ or-right : (a b : Bool) → T b → T (a || b)
 or-right true b t = tt
 or-right false b t = t
 
+or-left : (a b : Bool) → T a → T (a || b)
+or-left true b t = tt
+or-left false b t = absurd t
+
 cond-same : {E : Type 0} (b : Bool) (e : E) → cond b e e ≡ e
 cond-same true e = refl
 cond-same false e = refl
+
+-- whether a move is a propagate by a
+pub is-propagate : {E : Type 0} (a : ℕ) (m : Move E) → (m ≡ propagate a) ⊎ (m ≡ propagate a → ⊥)
+is-propagate a quiet = inr (λ e. let z : _≡_ {A = ℕ} 0 1 = cc in omega arith)
+is-propagate a (write x w) = inr (λ e. let z : _≡_ {A = ℕ} 0 1 = cc in omega arith)
+is-propagate {E} a (propagate x) = by (eqb x a) refl
+  where
+    by : (b : Bool) → eqb x a ≡ b → (_≡_ {A = Move E} (propagate x) (propagate a)) ⊎ (_≡_ {A = Move E} (propagate x) (propagate a) → ⊥)
+    by true e = inl (ap propagate (eqb→eq x a (rw e tt)))
+    by false e = inr (λ f. let z : x ≡ a = cc in subst T e (rw z (eqb-refl a)))
+is-propagate a (confirm x) = inr (λ e. let z : _≡_ {A = ℕ} 0 1 = cc in omega arith)
 
 -- a key that waits still does, except in the agent that propagates it
 waits-or-own : (taken own waits : Bool) → T waits → T (taken || (not own && waits)) ⊎ T own
@@ -78,6 +94,31 @@ module _ {E : Type 0} (newer : E → E → Bool) where
       by : (taken : Bool) → takes newer link v a b ≡ taken → T (newer (v .entry a) (cond taken (v .entry a) (v .entry b))) → ⊥
       by true e n = order .irreflexive (v .entry a) n
       by false e n = ⊎-elim (λ t. subst T e t) (itself n) (takes-or-own (eqb a b) (link a b) (newer (v .entry a) (v .entry b)) l n)
+
+  -- after a confirms the key, neither a nor an agent that a is linked to has a newer entry than the other, unless the key waits in it
+  pub confirm-reaches : Order E newer → (link : ℕ → ℕ → Bool) (v : View E) (a b : ℕ) → T (link a b)
+      → NewerWaits newer (moved newer link (confirm a) v) a b × NewerWaits newer (moved newer link (confirm a) v) b a
+  unfolding moved
+  confirm-reaches order link v a b l = (
+    λ n. absurd (propagate-reaches order link v a b l n),
+    λ n. by (takes newer link v a b) (rw cond-same at n),
+  )
+    where
+      own : T (newer (v .entry b) (v .entry a)) → T (eqb a b) → ⊥
+      own o t = order .irreflexive (v .entry a) (rw (← eqb→eq a b t) at o)
+
+      by : (taken : Bool) → T (newer (cond taken (v .entry a) (v .entry b)) (v .entry a)) → T (taken || (holdsNewer newer link v a b || v .waits b))
+      by true n = tt
+      by false n = or-left (holdsNewer newer link v a b) (v .waits b) (⊎-elim (λ t. t) (λ t. absurd (own n t)) (takes-or-own (eqb a b) (link a b) (newer (v .entry b) (v .entry a)) l n))
+
+  -- what an agent writes it has
+  pub write-enters : (link : ℕ → ℕ → Bool) (v : View E) (a : ℕ) (e : E) → moved newer link (write a e) v .entry a ≡ e
+  unfolding moved
+  write-enters link v a e = by (eqb a a) (eqb-refl a)
+    where
+      by : (b : Bool) → T b → cond b e (v .entry a) ≡ e
+      by true t = refl
+      by false t = absurd t
 
   -- an agent's entry was some agent's before, or is written
   pub entry-from : (link : ℕ → ℕ → Bool) (m : Move E) (v : View E) (a : ℕ)

@@ -54,12 +54,21 @@ module _ {E : Type 0} (newer : E → E → Bool) (order : Order E newer) where
   not-older-trans e f g (inr p) (inl q) = inr (rw q at p)
   not-older-trans e f g (inr p) (inr q) = inr (order .transitive e f g p q)
 
+  -- nothing is newer than what is not older than it
+  pub not-older-not : (e f : E) → NotOlder newer e f → T (newer f e) → ⊥
+  not-older-not e f (inl p) t = order .irreflexive f (rw p at t)
+  not-older-not e f (inr o) t = order .irreflexive e (order .transitive e f e o t)
+
   -- (iii) an agent's entry is never older than it was
   pub never-older : (ts : List (Turn E)) (v : View E) (a : ℕ) → AllFresh newer ts v → NotOlder newer (afterTurns newer ts v .entry a) (v .entry a)
   never-older [] v a fresh = inl refl
   never-older (t ∷ ts) v a fresh =
       not-older-trans _ _ _ (never-older ts (afterTurn newer t v) a (fresh .1))
       (⊎-elim (λ e. inl e) (λ g. inr (g .0)) (entry-moved newer (t .link) (t .move) v a (fresh .0)))
+
+  -- what is newer than b's entry was so before
+  pub was-newer : (t : Turn E) (v : View E) (b : ℕ) (e : E) → Fresh newer (t .move) v → T (newer e (afterTurn newer t v .entry b)) → T (newer e (v .entry b))
+  was-newer t v b e fresh o = ⊎-elim (λ p. rw p at o) (λ g. order .transitive _ _ _ o (g .0)) (entry-moved newer (t .link) (t .move) v b fresh)
 
   -- (iv) for one turn
   pub pair-turn : (t : Turn E) (v : View E) (a b : ℕ) → Fresh newer (t .move) v → (t .move ≡ propagate a → T (t .link a b))
@@ -69,16 +78,12 @@ module _ {E : Type 0} (newer : E → E → Bool) (order : Order E newer) where
       w : View E
       w = afterTurn newer t v
 
-      -- b's entry was not newer than it is
-      was : T (newer (v .entry a) (w .entry b)) → T (newer (v .entry a) (v .entry b))
-      was o = ⊎-elim (λ e. rw e at o) (λ g. order .transitive _ _ _ o (g .0)) (entry-moved newer (t .link) (t .move) v b fresh)
-
       waits : T (w .waits a) ⊎ (t .move ≡ propagate a) → T (w .waits a)
       waits (inl u) = u
       waits (inr e) = absurd (propagate-reaches newer order (t .link) v a b (linked e) (rw e at n))
 
       kept : w .entry a ≡ v .entry a → T (w .waits a)
-      kept e = waits (waits-moved newer (t .link) (t .move) v a (held (was (rw e at n))))
+      kept e = waits (waits-moved newer (t .link) (t .move) v a (held (was-newer t v b (v .entry a) fresh (rw e at n))))
 
   pub pair-turns : (ts : List (Turn E)) (v : View E) (a b : ℕ) → AllFresh newer ts v → PropagateLinked a b ts
       → NewerWaits newer v a b → NewerWaits newer (afterTurns newer ts v) a b

@@ -5,4 +5,5 @@ pub mod Turns
 pub mod Stamps
 pub mod History
 pub mod Machine
+pub mod Blame
 pub mod Agreement

@@ -1,17 +1,16 @@
 -- Chains of agents in which a key waits nowhere: all have the same entry, or none has one.
 -- Assumes nothing.
 use Prim.Native.Nat.{ℕ, _<_, _≤_}
-use mathlib.Core.Path.{_≡_, refl, sym, ap, subst, _∙_}
-use mathlib.Core.Logic.{_⊎_, inl, inr, ⊎-elim}
+use mathlib.Core.Path.{_≡_, refl, sym, subst, _∙_}
+use mathlib.Core.Logic.{inl, inr, ⊎-elim}
 use mathlib.Core.List.{List, [], _∷_, _++_, List·Memᴰ, List·Memᴰ·head, List·Memᴰ·tail, List·Memᴰ·cases-cons, List·Memᴰ·not-nil}
-use native.Mathlib.Omega.{arith}
-use lib.Dec.{T, ltb→lt}
+use lib.Dec.{T}
 use Rattle.agreement.specs.View.{View, NoneWaits}
 use Rattle.agreement.specs.Machine.{InContact as MachineInContact}
 use Rattle.agreement.proofs.Turns.{neighbours-map}
 use Rattle.table.specs.Tables.{tableOf}
 use Rattle.state.specs.declared.Entry.{Entry}
-use Rattle.state.specs.Layout.{keyLimit, stampOf}
+use Rattle.state.specs.Layout.{keyLimit}
 use Rattle.state.specs.Entries.{entryOf}
 use Rattle.state.specs.WellFormed.{loaded}
 use Rattle.steps.specs.Shelves.{savedOf}
@@ -21,8 +20,8 @@ use Rattle.theorems.specs.Demand3.{HeldBeforeSteps}
 use Rattle.theorems.specs.Contact.{HeldBeforePropagates, InContact}
 use Rattle.theorems.specs.Surviving.{Element, shelfThen, survivingLine, Surviving}
 use Rattle.theorems.specs.Chains.{Silent, Agree, ChainsAgree, Chains, Chains-surviving, Chains-hold}
-use Rattle.theorems.proofs.Views.{absent, stampIn}
-use Rattle.theorems.proofs.Lists.{machine, loaded-none, after-list, view-there, entry-there}
+use Rattle.theorems.proofs.Lists.{machine, after-list, view-there, entry-there}
+use Rattle.theorems.proofs.Latest.{present-or-none, none-newer-own, none-newer, last-written}
 use Rattle.theorems.proofs.Contact.{in-contact, from-load, steady-held}
 use Rattle.theorems.proofs.Surviving.{surviving}
 
@@ -40,28 +39,22 @@ pub same-words : (s : List ℕ) (k : ℕ) (l : List ℕ) → Agree s k l → (a 
 same-words s k l (inl h) a b m n = h .2 a m ∙ sym (h .2 b n)
 same-words s k l (inr h) a b m n = h a m ∙ sym (h b n)
 
-module _ (bytes : List ℕ) (few : tableOf bytes .sizes .stigmergy ≤ keyLimit) where
-  -- what an agent has for a key is an entry, or it has none
-  present-or-none : (xs : List Step) (k a : ℕ) → k < tableOf bytes .sizes .stigmergy → (0 < stampOf (stateAfter bytes xs) a k) ⊎ (entryOf (stateAfter bytes xs) a k ≡ absent)
-  present-or-none xs k a h = ⊎-elim
-      (λ e. inr (sym (entry-there bytes xs k a h) ∙ e ∙ entry-there bytes [] k a h ∙ loaded-none bytes few a k h))
-      (λ t. let n = ltb→lt _ _ t in inl (above (ap stampIn (entry-there bytes xs k a h)) n))
-      (after-list bytes few xs .agreement .never-older [] xs refl k a)
-    where
-      above : {m n c : ℕ} → n ≡ c → m < n → 0 < c
-      above e l = omega arith
+-- a key that does not wait, of words and of the view that they show
+pub not-waiting : (bytes s : List ℕ) (k a : ℕ) → k < tableOf bytes .sizes .stigmergy → Silent s k a → T (machine bytes .view s k .waits a) → ⊥
+not-waiting bytes s k a l silent w = let z = subst (λ (v : View Entry). T (v .waits a)) (view-there bytes s k l) w in rw silent at z
 
+module _ (bytes : List ℕ) (few : tableOf bytes .sizes .stigmergy ≤ keyLimit) where
   -- from any moment on
-  agree-since : (before since : List Step) → ChainsAgree bytes (stateAfter bytes (before ++ since)) (InContact bytes before since)
+  pub agree-since : (before since : List Step) → ChainsAgree bytes (stateAfter bytes (before ++ since)) (InContact bytes before since)
   agree-since before since k [] h agents near silent = inr (λ a m. absurd (List·Memᴰ·not-nil m))
   agree-since before since k (b ∷ l) h agents near silent =
-      ⊎-elim (λ p. inl (entryOf (stateAfter bytes end) b k, p, as-first)) (λ e. inr (λ a m. as-first a m ∙ e)) (present-or-none end k b h)
+      ⊎-elim (λ p. inl (entryOf (stateAfter bytes end) b k, p, as-first)) (λ e. inr (λ a m. as-first a m ∙ e)) (present-or-none bytes few end k b h)
     where
       end : List Step
       end = before ++ since
 
       none : NoneWaits (b ∷ l) (machine bytes .view (stateAfter bytes end) k)
-      none c i w = let z = subst (λ (v : View Entry). T (v .waits c)) (view-there bytes (stateAfter bytes end) k h) w in rw (silent c i) at z
+      none c i = not-waiting bytes (stateAfter bytes end) k c h (silent c i)
 
       as-first : (a : ℕ) → List·Memᴰ a (b ∷ l) → entryOf (stateAfter bytes end) a k ≡ entryOf (stateAfter bytes end) b k
       as-first a m =
@@ -76,7 +69,7 @@ module _ (bytes : List ℕ) (few : tableOf bytes .sizes .stigmergy ≤ keyLimit)
       → ChainsAgree bytes s Held → ChainsAgree bytes s More
   asked s More Held f all k l h agents near = all k l h agents (neighbours-map (More k) (Held k) l (λ a b i j. f k a b h) near)
 
-  module _ (xs : List Step) where
+  module _ (some : 0 < tableOf bytes .sizes .agents) (xs : List Step) where
     abbrev s : List ℕ
     s = stateAfter bytes xs
 
@@ -92,6 +85,9 @@ module _ (bytes : List ℕ) (few : tableOf bytes .sizes .stigmergy ≤ keyLimit)
       two = λ a b k ha hb h there back qa qb.
           same-words s k (a ∷ b ∷ []) (steady k (a ∷ b ∷ []) h (members (λ c. c < tableOf bytes .sizes .agents) (a ∷ b ∷ []) (ha, (hb, tt)))
           (there, back, tt) (members (Silent s k) (a ∷ b ∷ []) (qa, (qb, tt)))) a b (List·Memᴰ·head refl) (List·Memᴰ·tail (List·Memᴰ·head refl));
+      none-newer-own = none-newer-own bytes few xs;
+      none-newer = none-newer bytes few xs;
+      last-written = λ k l e h all whole. last-written bytes few xs k l e h all whole some;
     }
 
 -- state and held states are those that their lines give
@@ -108,5 +104,6 @@ module _ (bytes shelf : List ℕ) (es : List Element) (survives : Surviving byte
 
 pub chains-hold : Chains-hold
 chains-hold bytes lent scratch e =
-    let few = load-accepted bytes lent scratch e .table .sound .shaped .limits .stigmergy in
-    (chains bytes few, λ small shelf free es. chains-surviving bytes shelf es (surviving bytes lent scratch small e shelf free es) (chains bytes few))
+    let limits = load-accepted bytes lent scratch e .table .sound .shaped .limits in
+    let all = chains bytes (limits .stigmergy) (limits .some-agent) in
+    (all, λ small shelf free es. chains-surviving bytes shelf es (surviving bytes lent scratch small e shelf free es) all)

@@ -5,8 +5,8 @@ use mathlib.Core.Bool.{Bool, true, false}
 use mathlib.Core.Path.{_≡_, refl, sym, subst}
 use mathlib.Core.List.{List, [], _++_}
 use native.Mathlib.Omega.{arith}
-use lib.Dec.{T, ltb→lt, lt→ltb}
-use borrow.Author.Tests.{lt-ltb}
+use lib.Dec.{T}
+use borrow.Author.Tests.{ltb-true, lt-ltb}
 use Rattle.basis.specs.KeySets.{has}
 use Rattle.agreement.specs.View.{View, NewerWaits as ViewNewerWaits}
 use Rattle.agreement.specs.Machine.{InContact as MachineInContact, HeldBeforePropagates as MachineHeld}
@@ -15,13 +15,15 @@ use Rattle.table.specs.Tables.{Table, tableOf}
 use Rattle.state.specs.declared.Store.the-variants.{Entries}
 use Rattle.state.specs.declared.Entry.{Entry}
 use Rattle.state.specs.Layout.{keyLimit, stampOf, zpOf}
-use Rattle.state.specs.Entries.{newer}
+use Rattle.state.specs.Entries.{entryOf, newer}
+use Rattle.state.specs.Evaluation.{linkHolds}
 use Rattle.state.specs.WellFormed.{loaded}
 use Rattle.state.proofs.Load.{loaded-mark}
 use Rattle.steps.proofs.Steps.{load-accepted}
 use Rattle.theorems.specs.Lists.{Step, next, stateAfter}
-use Rattle.theorems.specs.Demand3.{HeldBeforeSteps}
-use Rattle.theorems.specs.Contact.{HeldBeforePropagates, NewerWaits, InContact, Contact-since, Contact-load, Contact-holds}
+use Rattle.theorems.specs.Demand3.{HeldBeforeSteps, NewerWaits}
+use Rattle.theorems.specs.Contact.{HeldBeforePropagates, InContact, Contact-since, Contact-load, Contact-holds}
+use Rattle.theorems.proofs.Views.{links}
 use Rattle.theorems.proofs.Lists.{machine, after-list, view-there, turn-propagates}
 
 is-true : (b : Bool) → T b → b ≡ true
@@ -40,18 +42,22 @@ module _ (bytes : List ℕ) where
 
   -- newer only while it waits: of words and of the view that they show
   module _ (s : List ℕ) (k a b : ℕ) (l : k < S) where
-    to-view : NewerWaits s k a b → ViewNewerWaits newer (machine bytes .view s k) a b
-    to-view h = subst (λ (v : View Entry). ViewNewerWaits newer v a b) (sym (view-there bytes s k l)) (λ n. rw (h (ltb→lt (stampOf s b k) (stampOf s a k) n)) tt)
+    pub to-view : NewerWaits s k a b → ViewNewerWaits newer (machine bytes .view s k) a b
+    to-view h = subst (λ (v : View Entry). ViewNewerWaits newer v a b) (sym (view-there bytes s k l)) (λ n. rw (h (is-true (newer (entryOf s a k) (entryOf s b k)) n)) tt)
 
-    to-words : ViewNewerWaits newer (machine bytes .view s k) a b → NewerWaits s k a b
+    pub to-words : ViewNewerWaits newer (machine bytes .view s k) a b → NewerWaits s k a b
     to-words h n =
         is-true (has (zpOf s a) k)
-        (subst (λ (v : View Entry). ViewNewerWaits newer v a b) (view-there bytes s k l) h (lt→ltb (stampOf s b k) (stampOf s a k) n))
+        (subst (λ (v : View Entry). ViewNewerWaits newer v a b) (view-there bytes s k l) h (rw n tt))
+
+  -- a link that holds, to an agent that there is
+  pub link-there : (s : List ℕ) (k a b : ℕ) → b < A → linkHolds t s k a b ≡ true → T (links t s k a b)
+  link-there s k a b l h = rw (lt-ltb b A l, h) tt
 
   -- the links, of words and of the machine
   links-held : (s : List ℕ) (xs : List Step) (k a b : ℕ) → b < A → HeldBeforePropagates bytes s xs k a b → MachineHeld (machine bytes) s xs k a b
   links-held s xs k a b l =
-      before-map (next bytes) _ _ (λ s x h e. rw (lt-ltb b A l, h (turn-propagates bytes s x k a e)) tt) s xs
+      before-map (next bytes) _ _ (λ s x h e. link-there s k a b l (h (turn-propagates bytes s x k a e))) s xs
 
   module _ (few : S ≤ keyLimit) where
     module _ (before since : List Step) where
@@ -71,8 +77,11 @@ module _ (bytes : List ℕ) where
     no-stamp : (a k : ℕ) → k < S → stampOf (loaded t) a k ≡ 0
     no-stamp a k l = loaded-mark t (Entries a) k (omega arith)
 
+    pub none-newer : (k a b : ℕ) → k < S → NewerWaits (loaded t) k a b
+    none-newer k a b l n = absurd (omega (arith, ltb-true (stampOf (loaded t) b k) (stampOf (loaded t) a k) n, no-stamp a k l))
+
     pub from-load : (xs : List Step) (k a b : ℕ) → k < S → HeldBeforePropagates bytes (loaded t) xs k a b → InContact bytes [] xs k a b
-    from-load xs k a b l held = record { newer-waits = λ n. absurd (omega (arith, no-stamp a k l)); link-held = held }
+    from-load xs k a b l held = record { newer-waits = none-newer k a b l; link-held = held }
 
     -- a link that held before every step
     pub steady-held : (xs : List Step) (k a b : ℕ) → HeldBeforeSteps bytes xs k a b → HeldBeforePropagates bytes (loaded t) xs k a b

@@ -1,25 +1,30 @@
 -- DEMAND 3 IS ABOUT SOMETHING: the paper's fleet and its list of steps, in which one agent writes and both come to hold what it wrote.
 -- Assumes nothing.
-use Prim.Native.Nat.{ℕ}
+use Prim.Native.Nat.{ℕ, zero, suc, _-_}
 use mathlib.Core.Bool.{true, false}
-use mathlib.Core.Path.{_≡_, refl}
+use mathlib.Core.Path.{_≡_, refl, sym, ap, subst, _∙_}
+use mathlib.Core.Option.{some}
 use mathlib.Core.List.{List, [], _∷_, _++_}
-use lib.ListN.{replicate}
+use native.Mathlib.Omega.{arith}
+use lib.ListN.{getElem?, take, replicate}
 use Rattle.basis.specs.Below.{below}
 use Rattle.basis.specs.KeySets.{has}
 use Rattle.agreement.proofs.Machine.{before-all}
-use Rattle.table.specs.Checks.{passes}
+use Rattle.table.specs.Checks.{passes, refuses}
 use Rattle.table.specs.Tables.{tableOf}
-use Rattle.state.specs.Layout.{stateWords, zpOf}
+use Rattle.state.specs.declared.Entry.{Entry}
+use Rattle.state.specs.Layout.{stateWords, stampOf, zpOf}
 use Rattle.state.specs.Entries.{entry, entryOf}
 use Rattle.state.specs.Evaluation.{truthStep}
 use Rattle.state.specs.WellFormed.{loaded}
 use Rattle.steps.specs.Steps.{loadOf}
 use Rattle.steps.proofs.Computing.{computing}
-use Rattle.theorems.specs.Lists.{Step, next, stateAfter}
-use Rattle.theorems.specs.Demand3.{history, HeldBeforeSteps}
+use Rattle.theorems.specs.Lists.{Step, outcomeOf, next, stateAfter}
+use Rattle.theorems.specs.Demand3.{Write, entryWritten, history, HeldBeforeSteps}
+use Rattle.theorems.specs.Origins.{WrittenBy}
 use Rattle.theorems.proofs.Instance.{fleet}
 use Rattle.theorems.proofs.Instances.{smallFleet, steps}
+use Rattle.theorems.proofs.Origins.{origins-hold}
 
 abbrev step : ℕ → ℕ → ℕ → Step
 step kind agent number = record { kind = kind; agent = agent; number = number; scratch = 16 }
@@ -64,3 +69,45 @@ two-writers = refl
 pub fleet-linked : (xs : List Step) (a b : ℕ) → HeldBeforeSteps fleet xs 0 a b
 unfolding below truthStep
 fleet-linked xs a b = before-all (next fleet) _ (λ s x. refl) (loaded (tableOf fleet)) xs
+
+-- WHICH STEP: agent 1's entry after the propagates is from step 1, agent 0's act that was done; the same act was refused at step 2
+pub record From-step : Type 0 where
+  pub refused : outcomeOf fleet (stateAfter fleet (step 0 1 0 ∷ step 0 0 0 ∷ [])) (step 0 0 0) .check ≡ refuses 11 0
+  pub write : Write
+  pub same-entry : entryWritten write ≡ entryOf (stateAfter fleet (acts ++ propagates)) 1 0
+  pub written-by : WrittenBy fleet (acts ++ propagates) 0 write
+  pub which : written-by .index ≡ 1
+
+refused-there : outcomeOf fleet (stateAfter fleet (step 0 1 0 ∷ step 0 0 0 ∷ [])) (step 0 0 0) .check ≡ refuses 11 0
+unfolding computing
+refused-there = refl
+
+-- the one act of agent 0 that is done
+only-act : (i : ℕ) (x : Step) → getElem? (acts ++ propagates) i ≡ some x → x .kind ≡ 0 → x .agent ≡ 0
+    → outcomeOf fleet (stateAfter fleet (take i (acts ++ propagates))) x .check ≡ passes → i ≡ 1
+only-act zero x e k a d = let f : step 0 1 0 ≡ x = cc in absurd (omega (arith, ap (λ (y : Step). y .agent) f))
+only-act (suc zero) x e k a d = refl
+only-act (suc (suc zero)) x e k a d =
+    let f : x ≡ step 0 0 0 = cc in
+    let c = sym refused-there ∙ ap (λ (y : Step). outcomeOf fleet (stateAfter fleet (step 0 1 0 ∷ step 0 0 0 ∷ [])) y .check) (sym f) ∙ d in
+    let z : _≡_ {A = ℕ} 0 1 = cc in
+    absurd (omega arith)
+only-act (suc (suc (suc zero))) x e k a d = let f : step 1 0 0 ≡ x = cc in absurd (omega (arith, ap (λ (y : Step). y .kind) f))
+only-act (suc (suc (suc (suc zero)))) x e k a d = let f : step 1 1 0 ≡ x = cc in absurd (omega (arith, ap (λ (y : Step). y .kind) f))
+only-act (suc (suc (suc (suc (suc i))))) x e k a d = let z : _≡_ {A = ℕ} 0 1 = cc in absurd (omega arith)
+
+pub from-step : From-step
+from-step =
+    let xs = acts ++ propagates in
+    let there : entryOf (stateAfter fleet xs) 1 0 ≡ entry 7 1 0 = rehearsed .agree .1 in
+    let stamp : stampOf (stateAfter fleet xs) 1 0 ≡ 1 = ap (λ (e : Entry). e .stamp) there in
+    let w = origins-hold fleet (replicate stateWords 0) 16 (rehearsed .loads) xs .entry-from-step 1 0 (omega arith) (omega arith) (omega arith) in
+    let n : stampOf (stateAfter fleet xs) 1 0 - 1 ≡ 0 = omega arith in
+    let b = subst (λ (n : ℕ). WrittenBy fleet xs n (w .0)) n (w .3) in
+    record {
+      refused = refused-there;
+      write = w .0;
+      same-entry = w .2;
+      written-by = b;
+      which = only-act (b .index) (b .step) (b .there) (b .is-act) (b .by-agent ∙ ap (λ (e : Entry). e .writer) (w .2 ∙ there)) (b .is-done);
+    }

@@ -1,14 +1,16 @@
 -- CHAINS ARE ABOUT SOMETHING: three agents in a row, of which one writes, and silent ones agree. What is asked of them is needed: where a key
 -- waits in one of them, or links hold one way only, they do not.
 -- Assumes nothing.
-use Prim.Native.Nat.{ℕ, _<_}
+use Prim.Native.Nat.{ℕ, zero, suc, _-_, _<_}
 use mathlib.Core.Bool.{Bool, true, false, not, _&&_, _||_}
-use mathlib.Core.Path.{_≡_, refl, ap}
+use mathlib.Core.Path.{_≡_, refl, ap, subst, _∙_}
+use mathlib.Core.Logic.{⊎-elim}
+use mathlib.Core.Option.{some}
 use mathlib.Core.List.{List, [], _∷_, _++_, List·Memᴰ, List·Memᴰ·head, List·Memᴰ·tail}
 use native.Mathlib.Omega.{arith}
 use lib.Dec.{eqb}
-use lib.ListN.{getD, replicate}
-use borrow.Author.Tests.{eq-eqb}
+use lib.ListN.{getD, getElem?, replicate}
+use borrow.Author.Tests.{eq-eqb, lt-ltb}
 use Rattle.basis.specs.Below.{below}
 use Rattle.basis.specs.Numbers.{every}
 use Rattle.basis.specs.KeySets.{has}
@@ -20,16 +22,17 @@ use Rattle.table.specs.Checks.{passes, refuses}
 use Rattle.table.specs.Tables.{tableOf}
 use Rattle.state.specs.declared.Entry.{Entry}
 use Rattle.state.specs.Layout.{stateWords, stampOf, zpOf}
-use Rattle.state.specs.Entries.{entry, entryOf}
+use Rattle.state.specs.Entries.{entry, entryOf, newer}
 use Rattle.state.specs.Evaluation.{truthStep, linkHolds}
 use Rattle.state.specs.WellFormed.{loaded}
 use Rattle.steps.specs.Steps.{loadOf}
 use Rattle.steps.proofs.Computing.{computing}
 use Rattle.theorems.specs.Lists.{Step, outcomeOf, next, stateAfter}
-use Rattle.theorems.specs.Demand3.{HeldBeforeSteps}
+use Rattle.theorems.specs.Demand3.{Write, entryWritten, history, HeldBeforeSteps}
 use Rattle.theorems.specs.Contact.{Propagates, HeldBeforePropagates}
-use Rattle.theorems.specs.Chains.{Silent, Agree, Chains}
+use Rattle.theorems.specs.Chains.{Silent, AllHave, Agree, LastWritten, Chains}
 use Rattle.theorems.proofs.Views.{stampIn}
+use Rattle.theorems.proofs.Demand3.{demand-3}
 use Rattle.theorems.proofs.Chains.{members, same-words, chains-hold}
 
 -- Three agents, attribute a, keys 0, 1 and 2. Agent 0: key 0 := 7; key 1 := 8; key 2 := 9. Agent 1, between the other two: a := 1. Agent 2 is idle.
@@ -210,4 +213,38 @@ in-a-row =
       one-way = (linked-there 4 (omega arith), linked-there 5 (omega arith));
       one-way-disagree = disagree s 2 (λ d.
           omega (arith, ap (λ (p : Shown × Shown × Shown). p .2 .0 .0 .stamp) e, ap (λ (p : Shown × Shown × Shown). p .2 .0 .2 .stamp) e));
+    }
+
+-- ON WHAT they agree
+pub record Agreed : Type 0 where
+  -- all agents have the same for key 1: it is the last write to it
+  pub have : AllHave (stateAfter row over) 1 (entry 8 2 0) chain
+  pub last : LastWritten (history row over) 1 (entry 8 2 0)
+  -- NEEDED, that the write is by an agent of the list: agent 2 has no entry for key 2, and write 2, counted from 0, is to it, by another agent, and newer
+  pub alone : AllHave (stateAfter row over) 2 none (2 ∷ [])
+  pub others : (w : Write) × (getElem? (history row over) 2 ≡ some w) × (w .key ≡ 2) × (w .agent ≡ 0) × (newer (entryWritten w) none ≡ true)
+
+all-three : (a : ℕ) → a < tableOf row .sizes .agents → List·Memᴰ a chain
+all-three zero h = List·Memᴰ·head refl
+all-three (suc zero) h = List·Memᴰ·tail (List·Memᴰ·head refl)
+all-three (suc (suc zero)) h = List·Memᴰ·tail (List·Memᴰ·tail (List·Memᴰ·head refl))
+all-three (suc (suc (suc a))) h = absurd (omega arith)
+
+pub agreed : Agreed
+agreed =
+    let s = stateAfter row over in
+    let e = comes .at-end in
+    let have = members (λ (a : ℕ). entryOf s a 1 ≡ entry 8 2 0) chain
+    (ap (λ (p : Shown × Shown × Shown). p .1 .0 .0) e, (ap (λ (p : Shown × Shown × Shown). p .1 .0 .1) e, (ap (λ (p : Shown × Shown × Shown). p .1 .0 .2) e, tt))) in
+    let d = demand-3 row (replicate stateWords 0) 56 (comes .loads) .1 over in
+    let third : entryOf s 0 2 ≡ entry 9 3 0 = ap (λ (p : Shown × Shown × Shown). p .2 .0 .0) e in
+    let stamp : stampOf s 0 2 ≡ 3 = ap stampIn third in
+    let n : stampOf s 0 2 - 1 ≡ 2 = omega arith in
+    let w = d .written 0 2 (omega arith) (omega arith) (omega arith) in
+    let at : getElem? (history row over) 2 ≡ some (w .0) = subst (λ (n : ℕ). getElem? (history row over) n ≡ some (w .0)) n (w .1) in
+    record {
+      have = have;
+      last = ⊎-elim (λ l. l) (λ p. absurd (omega (arith, ap stampIn (p .1)))) (all-held .last-written 1 chain (entry 8 2 0) (omega arith) have all-three);
+      alone = members (λ (a : ℕ). entryOf s a 2 ≡ none) (2 ∷ []) (ap (λ (p : Shown × Shown × Shown). p .2 .0 .2) e, tt);
+      others = (w .0, at, w .2, w .4 ∙ ap (λ (r : Entry). r .writer) third, lt-ltb 0 (w .0 .stamp) (omega (arith, d .numbered 2 (w .0) at)));
     }

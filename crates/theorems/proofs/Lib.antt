@@ -26,10 +26,15 @@ pub mod Lists
 pub mod Contact
 pub mod SteadyLinks
 pub mod Demand3
+pub mod Origins
 pub mod Instance3
 pub mod Reached
 pub mod Surviving
 pub mod InstanceSurviving
+pub mod Latest
 pub mod Chains
+pub mod Blame
+pub mod Repair
 pub mod InstanceChains
 pub mod Ranged
+pub mod InstanceRepair

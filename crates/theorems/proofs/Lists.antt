@@ -3,17 +3,19 @@
 use Prim.Native.Nat.{ℕ, zero, suc, _+_, _<_, _≤_}
 use mathlib.Core.Bool.{Bool, true, false, cond}
 use mathlib.Core.Path.{_≡_, refl, sym, ap, subst, _∙_}
-use mathlib.Core.List.{List}
+use mathlib.Core.Logic.{_⊎_, inl, inr, ⊎-elim}
+use mathlib.Core.List.{List, [], _∷_}
 use native.Mathlib.Omega.{arith}
 use lib.Dec.{eqb, ltb}
 use lib.ListN.{length}
-use borrow.Author.Tests.{eqb-true, ltb-true, ltb-false, lt-ltb}
+use borrow.Author.Tests.{eqb-true, eq-eqb, ne-eqb, ltb-true, ltb-false, lt-ltb}
 use Rattle.term.specs.declared.Label.{Label}
 use Rattle.term.specs.declared.Label.the-variants.{Ticking, Acting}
 use Rattle.basis.specs.KeySets.{has}
 use Rattle.basis.proofs.KeySets.{has-nothing}
+use Rattle.basis.proofs.Tests.{same-or-other}
 use Rattle.agreement.specs.View.{View, blank}
-use Rattle.agreement.specs.Moves.{Move, quiet, propagate, moved, Fresh, wrote}
+use Rattle.agreement.specs.Moves.{Move, quiet, write as writing, propagate, confirm, moved, Fresh, wrote}
 use Rattle.agreement.specs.Turns.{Turn, afterTurn}
 use Rattle.agreement.specs.History.{Numbered, entriesOf}
 use Rattle.agreement.specs.Machine.{Machine, Start, Writes, entryAfter}
@@ -24,19 +26,20 @@ use Rattle.table.specs.Tables.{Table, tableOf, kindAt, pAt}
 use Rattle.state.specs.declared.Store.the-variants.{Entries}
 use Rattle.state.specs.declared.Entry.{Entry}
 use Rattle.state.specs.Layout.{keyLimit}
-use Rattle.state.specs.Entries.{clockOf, entryOf, newer}
+use Rattle.state.specs.Entries.{clockOf, nextStamp, entryOf, newer}
 use Rattle.state.specs.WellFormed.{loaded}
 use Rattle.state.proofs.Places.{Zp, Word}
 use Rattle.state.proofs.Load.{loaded-zero, loaded-clock, loaded-mark, loaded-writer, loaded-set}
-use Rattle.steps.specs.Acts.{chosen}
+use Rattle.steps.specs.Acts.{chosen, wordIn, valueFor}
 use Rattle.steps.specs.Steps.{Outcome, after}
 use Rattle.steps.proofs.Steps.{Done, done-step, step-done, step-refused}
 use Rattle.theorems.specs.Lists.{Step, outcomeOf, next, stateAfter}
-use Rattle.theorems.specs.Demand3.{Write, ifDone, adds}
+use Rattle.theorems.specs.Demand3.{Write, entryWritten, ifDone, writeOf, adds}
 use Rattle.theorems.specs.Contact.{Propagates}
+use Rattle.theorems.specs.Repair.{Confirms}
 use Rattle.theorems.proofs.Views.{absent, stampIn, same-entry, seen, links}
 use Rattle.theorems.proofs.ActViews.{actMove}
-use Rattle.theorems.proofs.Turns.{stepMove, stepAdds, after-shows, quiet-past, step-fresh, step-clock, written, adds-numbered, adds-entries}
+use Rattle.theorems.proofs.Turns.{stepMove, stepAdds, after-shows, quiet-past, step-fresh, step-clock, adds-numbered, adds-entries}
 
 -- a quiet move is no propagate, and what is none is none where it is chosen
 quiet-not : (a : ℕ) → _≡_ {A = Move Entry} quiet (propagate a) → ⊥
@@ -144,9 +147,9 @@ module _ (bytes : List ℕ) where
     pub clock-next : clockOf (next bytes s x) ≡ clockOf s + length (adds bytes s x)
     clock-next = decided (λ c u. clockOf u ≡ clockOf s + length (ifDone c new)) (λ d. step-clock bytes s scratch kind agent number d) (λ n place. omega arith)
 
-    pub entries-next : (k : ℕ) → wrote (turn s x k .move) ≡ entriesOf (λ (w : Write). w .key) written k (adds bytes s x)
+    pub entries-next : (k : ℕ) → wrote (turn s x k .move) ≡ entriesOf (λ (w : Write). w .key) entryWritten k (adds bytes s x)
     entries-next k =
-        decided (λ c u. wrote (ifPassed c (moveOf s x k)) ≡ entriesOf (λ (w : Write). w .key) written k (ifDone c new))
+        decided (λ c u. wrote (ifPassed c (moveOf s x k)) ≡ entriesOf (λ (w : Write). w .key) entryWritten k (ifDone c new))
         (λ d. adds-entries bytes s kind agent number k) (λ n place. refl)
 
   -- where the turn is a propagate of key k by agent a, the step is a done propagate of k by a
@@ -158,6 +161,58 @@ module _ (bytes : List ℕ) where
           let w = propagate-step t s (x .kind) (x .agent) (x .number) k a f in
           record { kind-propagate = w .0; by-agent = w .1; of-key = w .2; is-done = e }
       by (refuses n place) e f = absurd (quiet-not a f)
+
+  -- and so the other way round; and of a done confirm
+  done-turn : (s : List ℕ) (x : Step) (k : ℕ) → outcomeOf bytes s x .check ≡ passes → turn s x k .move ≡ moveOf s x k
+  done-turn s x k e = ap (λ (c : Check). ifPassed c (moveOf s x k)) e
+
+  pub propagates-turn : (s : List ℕ) (x : Step) (k a : ℕ) → Propagates bytes s x a k → turn s x k .move ≡ propagate a
+  propagates-turn s x k a p = done-turn s x k (p .is-done) ∙ rw (p .kind-propagate, p .by-agent, eq-eqb (x .number) k (p .of-key))
+
+  pub confirms-turn : (s : List ℕ) (x : Step) (k b : ℕ) → Confirms bytes s x b k → turn s x k .move ≡ confirm b
+  confirms-turn s x k b p = done-turn s x k (p .is-done) ∙ rw (p .kind-confirm, p .by-agent, eq-eqb (x .number) k (p .of-key))
+
+  -- what a step adds is nothing, or one write of its agent, which the step is to the write's key
+  pub record AddsOne (s : List ℕ) (x : Step) : Type 0 where
+    pub write : Write
+    pub adds-it : adds bytes s x ≡ write ∷ []
+    pub is-act : x .kind ≡ 0
+    pub by-agent : x .agent ≡ write .agent
+    pub is-done : outcomeOf bytes s x .check ≡ passes
+    pub moves : turn s x (write .key) .move ≡ writing (write .agent) (entryWritten write)
+
+  pub adds-one : (s : List ℕ) (x : Step) → (adds bytes s x ≡ []) ⊎ AddsOne s x
+  adds-one s x = by (outcomeOf bytes s x .check) refl
+    where
+      label : Label
+      label = chosen t s (x .agent) (x .number) .label
+
+      wrote-by : ℕ → Write
+      wrote-by n = record { agent = x .agent; key = pAt t n; value = wordIn (valueFor t s (x .agent) n); stamp = nextStamp s }
+
+      labelled : (m : Label) → adds bytes s x ≡ writeOf bytes s (x .agent) m → ((j : ℕ) → turn s x j .move ≡ actMove t s (x .agent) j m)
+          → x .kind ≡ 0 → outcomeOf bytes s x .check ≡ passes → (adds bytes s x ≡ []) ⊎ AddsOne s x
+      labelled Ticking a m k e = inl a
+      labelled (Acting n) a m k e = at (eqb (kindAt t n) 3) refl
+        where
+          at : (b : Bool) → eqb (kindAt t n) 3 ≡ b → (adds bytes s x ≡ []) ⊎ AddsOne s x
+          at true f = inr (record {
+            write = wrote-by n;
+            adds-it = a ∙ rw f;
+            is-act = k;
+            by-agent = refl;
+            is-done = e;
+            moves = m (pAt t n) ∙ rw (f, eq-eqb (pAt t n) (pAt t n) refl);
+          })
+          at false f = inl (a ∙ rw f)
+
+      acts : outcomeOf bytes s x .check ≡ passes → x .kind ≡ 0 → (adds bytes s x ≡ []) ⊎ AddsOne s x
+      acts e k = labelled label (ap (λ (c : Check). ifDone c (new s x)) e ∙ rw (eq-eqb (x .kind) 0 k))
+          (λ j. done-turn s x j e ∙ ap (λ (kind : ℕ). stepMove t s kind (x .agent) (x .number) j) k) k e
+
+      by : (c : Check) → outcomeOf bytes s x .check ≡ c → (adds bytes s x ≡ []) ⊎ AddsOne s x
+      by passes e = ⊎-elim (acts e) (λ (d : x .kind ≡ 0 → ⊥). inl (ap (λ (c : Check). ifDone c (new s x)) e ∙ rw (ne-eqb (x .kind) 0 d))) (same-or-other (x .kind) 0)
+      by (refuses n place) e = inl (ap (λ (c : Check). ifDone c (new s x)) e)
 
   abbrev pub machine : Machine newer
   machine = record {
@@ -177,7 +232,7 @@ module _ (bytes : List ℕ) where
   writes = record {
     Write = Write;
     key = λ w. w .key;
-    entry = written;
+    entry = entryWritten;
     clock = clockOf;
     adds = adds bytes;
     adds-numbered = λ s x h. numbered-next s x;

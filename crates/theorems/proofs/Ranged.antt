@@ -1,16 +1,17 @@
 -- LINKS BY POSITION: a fleet that falls silent and disagrees, because the link did not hold when the key was propagated, and one that is covered.
 -- Assumes nothing.
-use Prim.Native.Nat.{ℕ}
+use Prim.Native.Nat.{ℕ, zero, suc}
 use mathlib.Core.Bool.{true, false}
-use mathlib.Core.Path.{_≡_, refl}
+use mathlib.Core.Path.{_≡_, refl, ap, ap₂}
+use mathlib.Core.Option.{some}
 use mathlib.Core.List.{List, [], _∷_}
 use native.Mathlib.Omega.{arith}
-use lib.ListN.{replicate}
+use lib.ListN.{getElem?, replicate}
 use Rattle.basis.proofs.Tests.{not-both}
 use Rattle.table.specs.Checks.{passes}
 use Rattle.table.specs.Tables.{tableOf}
 use Rattle.state.specs.Layout.{stateWords}
-use Rattle.state.specs.Entries.{entry, entryOf}
+use Rattle.state.specs.Entries.{entry, entryOf, newer}
 use Rattle.state.specs.Evaluation.{linkHolds}
 use Rattle.state.specs.WellFormed.{loaded}
 use Rattle.steps.specs.Steps.{loadOf}
@@ -19,6 +20,8 @@ use Rattle.theorems.specs.Lists.{Step, stateAfter}
 use Rattle.theorems.specs.Demand3.{HeldBeforeSteps}
 use Rattle.theorems.specs.Contact.{HeldBeforePropagates}
 use Rattle.theorems.specs.Chains.{Silent}
+use Rattle.theorems.specs.Blame.{Blamed}
+use Rattle.theorems.proofs.Blame.{blame-holds}
 
 -- Two agents, one attribute, one key, whose link holds where the sender's attribute is 1: say, once the sender has come into range.
 -- Agent 0 sets the key to 7 (node 1) and its attribute to 1 (node 3), in the order p, q; agent 1 is idle. Nodes:
@@ -59,6 +62,25 @@ pub record Silent-disagree : Type 0 where
 pub silent-disagree : Silent-disagree
 unfolding computing
 silent-disagree = record { loads = refl; not-linked = refl; now-linked = refl; silent = (refl, refl); has-entry = refl; has-none = refl }
+
+-- THE STEP TO BLAME is step 1, the propagate
+pub record To-blame : Type 0 where
+  pub newer-there : newer (entryOf (stateAfter (ranged 1 3) tooEarly) 0 0) (entryOf (stateAfter (ranged 1 3) tooEarly) 1 0) ≡ true
+  pub blamed : Blamed (ranged 1 3) tooEarly 0 1 0
+  pub which : blamed .index ≡ 1
+
+-- the one step of kind 1
+only-propagate : (i : ℕ) (x : Step) → getElem? tooEarly i ≡ some x → x .kind ≡ 1 → i ≡ 1
+only-propagate zero x e k = let f : act ≡ x = cc in absurd (omega (arith, ap (λ (y : Step). y .kind) f))
+only-propagate (suc zero) x e k = refl
+only-propagate (suc (suc zero)) x e k = let f : act ≡ x = cc in absurd (omega (arith, ap (λ (y : Step). y .kind) f))
+only-propagate (suc (suc (suc i))) x e k = let z : _≡_ {A = ℕ} 0 1 = cc in absurd (omega arith)
+
+pub to-blame : To-blame
+to-blame =
+    let n = ap₂ newer (silent-disagree .has-entry) (silent-disagree .has-none) in
+    let b = blame-holds (ranged 1 3) (replicate stateWords 0) 24 (silent-disagree .loads) tooEarly 0 1 0 (omega arith) (omega arith) (omega arith) n (silent-disagree .silent .0) in
+    record { newer-there = n; blamed = b; which = only-propagate (b .index) (b .step) (b .there) (b .propagates .kind-propagate) }
 
 -- PROMISED: agent 0 comes into range first. The link does not hold after load, so demand 3's words leave it out; but it holds before the propagate
 abbrev pub inRange : List Step

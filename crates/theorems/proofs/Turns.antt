@@ -21,7 +21,7 @@ use Rattle.term.specs.Accepted.{ActionNode, Labelled}
 use Rattle.state.specs.declared.Store.the-variants.{Entries}
 use Rattle.state.specs.declared.Entry.{Entry}
 use Rattle.state.specs.Layout.{keyLimit, stampOf}
-use Rattle.state.specs.Entries.{entry, clockOf, nextStamp, newer}
+use Rattle.state.specs.Entries.{clockOf, nextStamp, newer}
 use Rattle.state.specs.Standing.{HasBlocks}
 use Rattle.state.proofs.Places.{Zp, Zc, Clock}
 use Rattle.state.proofs.Frames.{put-other, drop-other}
@@ -33,7 +33,7 @@ use Rattle.steps.specs.Steps.{after}
 use Rattle.steps.proofs.Steps.{Done, act-able}
 use Rattle.steps.proofs.Acts.{chosen-inside, action-key, set-tick, set-value, entry-word, acted-other}
 use Rattle.steps.proofs.Offers.{offered-other}
-use Rattle.theorems.specs.Demand3.{Write, writeOf}
+use Rattle.theorems.specs.Demand3.{Write, entryWritten, writeOf}
 use Rattle.theorems.proofs.Views.{seen, links, Shows}
 use Rattle.theorems.proofs.ActViews.{actMove, act-shows}
 use Rattle.theorems.proofs.OfferViews.{propagate-shows, confirm-shows}
@@ -49,7 +49,7 @@ abbrev pub stepAdds : List ℕ → List ℕ → ℕ → ℕ → ℕ → List Wri
 stepAdds bytes s kind x number = cond (eqb kind 0) (writeOf bytes s x (chosen (tableOf bytes) s x number .label)) []
 
 -- a well-formed state, as facts
-formed : (bytes s : List ℕ) (scratch kind x number : ℕ) → Done bytes s scratch kind x number → WellFormed (tableOf bytes) s
+pub formed : (bytes s : List ℕ) (scratch kind x number : ℕ) → Done bytes s scratch kind x number → WellFormed (tableOf bytes) s
 formed bytes s scratch kind x number done = well-formed-read (tableOf bytes) (done .accepted .table .sound .shaped .limits) s (omega (arith, done .whole)) (done .formed)
 
 -- an act's label is of an action node
@@ -149,9 +149,6 @@ step-clock bytes s scratch (suc (suc kind)) x k done =
     ∙ offered-other t s x k true true (omega arith) (t .sizes .agents) Clock tt (λ y l d e. refl) ∙ rw (eqb·suc-zero (suc kind)) (omega arith)
 
 -- the writes bear the stamps that the clock gives, and are what the step writes to each key
-abbrev pub written : Write → Entry
-written w = entry (w .value) (w .stamp) (w .agent)
-
 pub adds-numbered : (bytes s : List ℕ) (kind x number : ℕ) → Numbered (λ (w : Write). w .stamp) (clockOf s) (stepAdds bytes s kind x number)
 adds-numbered bytes s kind x number = by (eqb kind 0) (chosen (tableOf bytes) s x number .label)
   where
@@ -169,18 +166,18 @@ wrote-nothing true m e = e
 wrote-nothing false m e = refl
 
 pub adds-entries : (bytes s : List ℕ) (kind x number j : ℕ)
-    → wrote (stepMove (tableOf bytes) s kind x number j) ≡ entriesOf (λ (w : Write). w .key) written j (stepAdds bytes s kind x number)
+    → wrote (stepMove (tableOf bytes) s kind x number j) ≡ entriesOf (λ (w : Write). w .key) entryWritten j (stepAdds bytes s kind x number)
 adds-entries bytes s zero x c j = by (chosen (tableOf bytes) s x c .label)
   where
-    one : (b : Bool) (w : Write) → wrote (cond b (cond (eqb (w .key) j) (write x (written w)) quiet) quiet) ≡ entriesOf (λ (w : Write). w .key) written j (cond b (w ∷ []) [])
+    one : (b : Bool) (w : Write) → wrote (cond b (cond (eqb (w .key) j) (write x (entryWritten w)) quiet) quiet) ≡ entriesOf (λ (w : Write). w .key) entryWritten j (cond b (w ∷ []) [])
     one true w = at (eqb (w .key) j)
       where
-        at : (c : Bool) → wrote (cond c (write x (written w)) quiet) ≡ cond c (written w ∷ []) [] ++ []
+        at : (c : Bool) → wrote (cond c (write x (entryWritten w)) quiet) ≡ cond c (entryWritten w ∷ []) [] ++ []
         at true = refl
         at false = refl
     one false w = refl
 
-    by : (m : Label) → wrote (actMove (tableOf bytes) s x j m) ≡ entriesOf (λ (w : Write). w .key) written j (writeOf bytes s x m)
+    by : (m : Label) → wrote (actMove (tableOf bytes) s x j m) ≡ entriesOf (λ (w : Write). w .key) entryWritten j (writeOf bytes s x m)
     by Ticking = refl
     by (Acting n) = one (eqb (kindAt (tableOf bytes) n) 3)
         (record { agent = x; key = pAt (tableOf bytes) n; value = wordIn (valueFor (tableOf bytes) s x n); stamp = nextStamp s })

@@ -4,16 +4,14 @@ use Prim.Native.Nat.{ℕ, _<_}
 use mathlib.Core.Bool.{true}
 use mathlib.Core.Path.{_≡_}
 use mathlib.Core.List.{List, _∷_, _++_}
-use Rattle.basis.specs.KeySets.{has}
 use Rattle.agreement.specs.Machine.{Before}
 use Rattle.table.specs.Checks.{passes}
 use Rattle.table.specs.Tables.{tableOf}
-use Rattle.state.specs.Layout.{stampOf, zpOf}
 use Rattle.state.specs.Evaluation.{linkHolds}
 use Rattle.state.specs.WellFormed.{loaded}
 use Rattle.steps.specs.Steps.{loadOf}
 use Rattle.theorems.specs.Lists.{Step, outcomeOf, next, stateAfter}
-use Rattle.theorems.specs.Demand3.{HeldBeforeSteps}
+use Rattle.theorems.specs.Demand3.{HeldBeforeSteps, NewerWaits}
 
 -- Demand 3's links never fail: load leaves no values, so a link that held before a first step holds in every state, from any agent to any other
 abbrev pub Steady-links : Type 0
@@ -31,10 +29,6 @@ pub record Propagates (bytes s : List ℕ) (x : Step) (a k : ℕ) : Type 0 where
 -- in the steps xs from state s, key k's link from a to b held before every done propagate of k by a
 abbrev pub HeldBeforePropagates : List ℕ → List ℕ → List Step → ℕ → ℕ → ℕ → Type 0
 HeldBeforePropagates bytes s xs k a b = Before (next bytes) (λ s x. Propagates bytes s x a k → linkHolds (tableOf bytes) s k a b ≡ true) s xs
-
--- in state s, a's entry for k is newer than b's only while k waits in a: it is not newer, or k waits in a
-abbrev pub NewerWaits : List ℕ → ℕ → ℕ → ℕ → Type 0
-NewerWaits s k a b = stampOf s b k < stampOf s a k → has (zpOf s a) k ≡ true
 
 -- (b) from any moment on: after the steps `before` from load, in the steps `since` that follow
 module _ (bytes : List ℕ) (before since : List Step) where

@@ -6,5 +6,8 @@ pub mod Demand3
 pub mod Contact
 pub mod Surviving
 pub mod Chains
+pub mod Origins
+pub mod Blame
+pub mod Repair
 pub mod Rehearsals
 pub mod Cases
