@@ -16,7 +16,7 @@ use Rattle.state.specs.declared.Entry.{Entry}
 use Rattle.state.specs.Layout.{isWhole}
 use Rattle.state.specs.Entries.{entryOf, newer}
 use Rattle.state.specs.WellFormed.{loaded}
-use Rattle.state.proofs.Formed.{ProperFacts}
+use Rattle.state.specs.Formed.{ProperFacts}
 use Rattle.steps.specs.Tallies.{noTally}
 use Rattle.steps.specs.Steps.{Outcome, loadOf}
 use Rattle.steps.proofs.Steps.{outcome-check, outcome-refused, state-checks, step-in, done-step, step-refused}

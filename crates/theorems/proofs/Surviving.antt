@@ -18,7 +18,7 @@ use Rattle.term.proofs.Acceptance.{accepted-passes}
 use Rattle.state.specs.Layout.{isWhole}
 use Rattle.state.specs.Entries.{entryOf, newer}
 use Rattle.state.specs.WellFormed.{loaded}
-use Rattle.state.proofs.Formed.{ProperFacts}
+use Rattle.state.specs.Formed.{ProperFacts}
 use Rattle.steps.specs.Steps.{Outcome}
 use Rattle.steps.specs.Runs.{Progress}
 use Rattle.steps.specs.Shelves.{placeLimit, nameOf, savedOf}
