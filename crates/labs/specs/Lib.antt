@@ -5,3 +5,6 @@ pub mod Expressions
 pub mod Processes
 pub mod Systems
 pub mod Reading
+pub mod Lists
+pub mod Run
+pub mod Demand2

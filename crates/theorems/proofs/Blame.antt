@@ -15,7 +15,7 @@ use Rattle.state.specs.Layout.{keyLimit}
 use Rattle.state.specs.Entries.{entryOf, newer}
 use Rattle.state.specs.WellFormed.{loaded}
 use Rattle.steps.proofs.Steps.{load-accepted}
-use Rattle.theorems.specs.Lists.{Step, stateAfter}
+use Rattle.labs.specs.Lists.{Step, stateAfter}
 use Rattle.theorems.specs.Chains.{Silent}
 use Rattle.theorems.specs.Blame.{Blamed, Blame, Blame-holds}
 use Rattle.theorems.proofs.Lists.{machine, after-list, view-there, entry-there, turn-propagates, propagates-turn}

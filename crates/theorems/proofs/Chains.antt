@@ -1,7 +1,7 @@
 -- Chains of agents in which a key waits nowhere: all have the same entry, or none has one.
 -- Assumes nothing.
 use Prim.Native.Nat.{ℕ, _<_, _≤_}
-use mathlib.Core.Path.{_≡_, refl, sym, subst, _∙_}
+use mathlib.Core.Path.{_≡_, refl, sym, ap, subst, _∙_}
 use mathlib.Core.Logic.{inl, inr, ⊎-elim}
 use mathlib.Core.List.{List, [], _∷_, _++_, List·Memᴰ, List·Memᴰ·head, List·Memᴰ·tail, List·Memᴰ·cases-cons, List·Memᴰ·not-nil}
 use lib.Dec.{T}
@@ -15,7 +15,7 @@ use Rattle.state.specs.Entries.{entryOf}
 use Rattle.state.specs.WellFormed.{loaded}
 use Rattle.steps.specs.Shelves.{savedOf}
 use Rattle.steps.proofs.Steps.{load-accepted}
-use Rattle.theorems.specs.Lists.{Step, Line, stateFrom, stateAfter, stateOf}
+use Rattle.labs.specs.Lists.{Step, Line, stateFrom, stateAfter, stateOf}
 use Rattle.theorems.specs.Demand3.{HeldBeforeSteps}
 use Rattle.theorems.specs.Contact.{HeldBeforePropagates, InContact}
 use Rattle.theorems.specs.Surviving.{Element, shelfThen, survivingLine, Surviving}

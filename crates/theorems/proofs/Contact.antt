@@ -20,7 +20,7 @@ use Rattle.state.specs.Evaluation.{linkHolds}
 use Rattle.state.specs.WellFormed.{loaded}
 use Rattle.state.proofs.Load.{loaded-mark}
 use Rattle.steps.proofs.Steps.{load-accepted}
-use Rattle.theorems.specs.Lists.{Step, next, stateAfter}
+use Rattle.labs.specs.Lists.{Step, next, stateAfter}
 use Rattle.theorems.specs.Demand3.{HeldBeforeSteps, NewerWaits}
 use Rattle.theorems.specs.Contact.{HeldBeforePropagates, InContact, Contact-since, Contact-load, Contact-holds}
 use Rattle.theorems.proofs.Views.{links}

@@ -20,7 +20,7 @@ use Rattle.state.specs.Entries.{newer}
 use Rattle.state.specs.WellFormed.{loaded}
 use Rattle.steps.specs.Steps.{Outcome}
 use Rattle.steps.proofs.Steps.{load-accepted, accepted-load}
-use Rattle.theorems.specs.Lists.{Step, stateAfter}
+use Rattle.labs.specs.Lists.{Step, stateAfter}
 use Rattle.theorems.specs.Demand3.{Write, entryWritten, history, Demand-3, Demand-3-holds}
 use Rattle.theorems.proofs.Views.{absent, stampIn}
 use Rattle.theorems.proofs.Lists.{machine, writes, after-list, entry-there}

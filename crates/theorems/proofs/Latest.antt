@@ -24,7 +24,7 @@ use Rattle.state.specs.Layout.{keyLimit, stampOf}
 use Rattle.state.specs.Entries.{entryOf, newer}
 use Rattle.state.specs.WellFormed.{loaded}
 use Rattle.steps.proofs.Steps.{done-step}
-use Rattle.theorems.specs.Lists.{Step, stateAfter}
+use Rattle.labs.specs.Lists.{Step, stateAfter}
 use Rattle.theorems.specs.Demand3.{Write, entryWritten, history}
 use Rattle.theorems.specs.Chains.{AllHave, Unwritten, LastWritten}
 use Rattle.theorems.proofs.Views.{absent, stampIn}

@@ -33,7 +33,7 @@ use Rattle.state.proofs.Load.{loaded-zero, loaded-clock, loaded-mark, loaded-wr
 use Rattle.steps.specs.Acts.{chosen, wordIn, valueFor}
 use Rattle.steps.specs.Steps.{Outcome, after}
 use Rattle.steps.proofs.Steps.{Done, done-step, step-done, step-refused}
-use Rattle.theorems.specs.Lists.{Step, outcomeOf, next, stateAfter}
+use Rattle.labs.specs.Lists.{Step, outcomeOf, next, stateAfter}
 use Rattle.theorems.specs.Demand3.{Write, entryWritten, ifDone, writeOf, adds}
 use Rattle.theorems.specs.Contact.{Propagates}
 use Rattle.theorems.specs.Repair.{Confirms}

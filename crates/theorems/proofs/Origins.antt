@@ -13,7 +13,7 @@ use Rattle.state.specs.Layout.{stampOf}
 use Rattle.state.specs.Entries.{clockOf}
 use Rattle.state.specs.WellFormed.{loaded}
 use Rattle.state.proofs.Load.{loaded-clock}
-use Rattle.theorems.specs.Lists.{Step, next, stateAfter}
+use Rattle.labs.specs.Lists.{Step, next, stateAfter}
 use Rattle.theorems.specs.Demand3.{Write, adds, history, Demand-3}
 use Rattle.theorems.specs.Origins.{WrittenBy, Origins, Origins-hold}
 use Rattle.theorems.proofs.Views.{same-entry}

@@ -21,8 +21,8 @@ use Rattle.steps.specs.Tallies.{noTally}
 use Rattle.steps.specs.Steps.{Outcome, loadOf}
 use Rattle.steps.proofs.Steps.{outcome-check, outcome-refused, state-checks, step-in, done-step, step-refused}
 use Rattle.steps.proofs.Proper.{step-checked}
-use Rattle.theorems.specs.Lists.{Step, outcomeOf, next, stateFrom}
-use Rattle.theorems.specs.Demand2.{Bytes}
+use Rattle.labs.specs.Lists.{Step, outcomeOf, next, stateFrom}
+use Rattle.labs.specs.Demand2.{Bytes}
 use Rattle.theorems.proofs.Views.{stampIn}
 use Rattle.theorems.proofs.Lists.{machine, view-there}
 

@@ -14,9 +14,8 @@ use Rattle.state.specs.declared.Entry.{Entry}
 use Rattle.state.specs.Layout.{stampOf}
 use Rattle.state.specs.Entries.{newer}
 use Rattle.state.specs.WellFormed.{loaded}
-use Rattle.state.proofs.Places.{Zc}
 use Rattle.steps.proofs.Steps.{Done, done-step, confirms}
-use Rattle.theorems.specs.Lists.{Step, outcomeOf, next, stateAfter}
+use Rattle.labs.specs.Lists.{Step, outcomeOf, next, stateAfter}
 use Rattle.theorems.specs.Demand3.{NewerWaits}
 use Rattle.theorems.specs.Contact.{InContact}
 use Rattle.theorems.specs.Chains.{Silent}
@@ -61,7 +60,7 @@ module _ (bytes s : List ℕ) (x : Step) (k : ℕ) where
       let d = confirming b c in
       let few = d .accepted .table .sound .shaped .limits .stigmergy in
       let l = d .range .key-below (omega arith) in
-      formed bytes s (x .scratch) 2 b k d .formed .sets Zc b (d .range .agent-below) .entered k (omega arith) (confirms (tableOf bytes) s b k .0 (d .own))
+      formed bytes s (x .scratch) 2 b k d .formed .to-confirm b (d .range .agent-below) .entered k (omega arith) (confirms (tableOf bytes) s b k .0 (d .own))
 
 -- FROM THERE ON
 module _ (bytes : List ℕ) (before since : List Step) (x : Step) where

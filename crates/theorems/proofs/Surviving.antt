@@ -27,14 +27,14 @@ use Rattle.steps.proofs.Steps.{load-accepted, accepted-load}
 use Rattle.steps.proofs.Proper.{load-proper}
 use Rattle.steps.proofs.Shelves.{Own, own-held, own-saved}
 use Rattle.steps.proofs.Points.{saves, restores, drops}
-use Rattle.theorems.specs.Lists.{Step, Line, next, stateFrom, stateOf}
-use Rattle.theorems.specs.Run.{Run}
-use Rattle.theorems.specs.Demand2.{Bytes}
+use Rattle.labs.specs.Lists.{Step, Line, next, stateFrom, stateOf}
+use Rattle.labs.specs.Run.{Run}
+use Rattle.labs.specs.Demand2.{Bytes}
 use Rattle.theorems.specs.Demand3.{Demand-3}
 use Rattle.theorems.specs.Surviving.{Scheduled, Call, Element, step, run, load, save, restore, drop, checkOf, nextBuffers, Lines, lines, more, stepsIn, keeping, keptOr, nextLines, Course, nextCourse, courseAfter, IsRestore, IsLoad, Surviving, NoNames, Surviving-holds}
 use Rattle.theorems.proofs.Views.{stampIn}
 use Rattle.theorems.proofs.Reached.{not-older, steps-proper, load-refused}
-use Rattle.theorems.proofs.Run.{run-is}
+use Rattle.labs.proofs.Run.{run-is}
 use Rattle.theorems.proofs.Demand3.{demand-3}
 
 none-not : {l : Line} → none ≡ some l → ⊥

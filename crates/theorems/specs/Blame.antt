@@ -10,7 +10,7 @@ use Rattle.table.specs.Tables.{tableOf}
 use Rattle.state.specs.Entries.{entryOf, newer}
 use Rattle.state.specs.Evaluation.{linkHolds}
 use Rattle.steps.specs.Steps.{loadOf}
-use Rattle.theorems.specs.Lists.{Step, stateAfter}
+use Rattle.labs.specs.Lists.{Step, stateAfter}
 use Rattle.theorems.specs.Contact.{Propagates}
 use Rattle.theorems.specs.Chains.{Silent}
 

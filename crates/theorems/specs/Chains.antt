@@ -15,8 +15,8 @@ use Rattle.state.specs.Entries.{entry, entryOf, newer}
 use Rattle.state.specs.WellFormed.{loaded}
 use Rattle.steps.specs.Steps.{loadOf}
 use Rattle.steps.specs.Shelves.{placeLimit, nameOf, savedOf}
-use Rattle.theorems.specs.Lists.{Step, Line, stateAfter}
-use Rattle.theorems.specs.Demand2.{Bytes}
+use Rattle.labs.specs.Lists.{Step, Line, stateAfter}
+use Rattle.labs.specs.Demand2.{Bytes}
 use Rattle.theorems.specs.Demand3.{Write, entryWritten, history, HeldBeforeSteps}
 use Rattle.theorems.specs.Contact.{HeldBeforePropagates, InContact}
 use Rattle.theorems.specs.Surviving.{Element, stateThen, shelfThen, survivingLine, keptLine, NoNames}

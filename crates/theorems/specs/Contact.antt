@@ -10,7 +10,7 @@ use Rattle.table.specs.Tables.{tableOf}
 use Rattle.state.specs.Evaluation.{linkHolds}
 use Rattle.state.specs.WellFormed.{loaded}
 use Rattle.steps.specs.Steps.{loadOf}
-use Rattle.theorems.specs.Lists.{Step, outcomeOf, next, stateAfter}
+use Rattle.labs.specs.Lists.{Step, outcomeOf, next, stateAfter}
 use Rattle.theorems.specs.Demand3.{HeldBeforeSteps, NewerWaits}
 
 -- Demand 3's links never fail: load leaves no values, so a link that held before a first step holds in every state, from any agent to any other

@@ -23,7 +23,7 @@ use Rattle.state.specs.Evaluation.{linkHolds}
 use Rattle.state.specs.WellFormed.{loaded}
 use Rattle.steps.specs.Acts.{chosen, valueFor, wordIn}
 use Rattle.steps.specs.Steps.{loadOf}
-use Rattle.theorems.specs.Lists.{Step, outcomeOf, next, stateAfter}
+use Rattle.labs.specs.Lists.{Step, outcomeOf, next, stateAfter}
 
 -- a write: agent, key, the expression's value in the state before, the stamp taken
 pub record Write : Type 0 where

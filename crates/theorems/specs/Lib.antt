@@ -1,7 +1,4 @@
-pub mod Lists
-pub mod Run
 pub mod Demand1
-pub mod Demand2
 pub mod Demand3
 pub mod Contact
 pub mod Surviving
@@ -9,5 +6,3 @@ pub mod Chains
 pub mod Origins
 pub mod Blame
 pub mod Repair
-pub mod Rehearsals
-pub mod Cases

@@ -9,7 +9,7 @@ use Rattle.table.specs.Tables.{tableOf}
 use Rattle.state.specs.Layout.{stampOf}
 use Rattle.state.specs.Entries.{entryOf, clockOf}
 use Rattle.steps.specs.Steps.{loadOf}
-use Rattle.theorems.specs.Lists.{Step, outcomeOf, stateAfter}
+use Rattle.labs.specs.Lists.{Step, outcomeOf, stateAfter}
 use Rattle.theorems.specs.Demand3.{Write, entryWritten, adds, history}
 
 -- the step of the list xs that wrote w, which is write n of the history, counted from 0

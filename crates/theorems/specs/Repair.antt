@@ -8,7 +8,7 @@ use Rattle.table.specs.Tables.{tableOf}
 use Rattle.state.specs.Layout.{stampOf}
 use Rattle.state.specs.Entries.{entryOf}
 use Rattle.state.specs.Evaluation.{linkHolds}
-use Rattle.theorems.specs.Lists.{Step, outcomeOf, next, stateAfter}
+use Rattle.labs.specs.Lists.{Step, outcomeOf, next, stateAfter}
 use Rattle.theorems.specs.Demand3.{NewerWaits}
 use Rattle.theorems.specs.Contact.{Propagates, HeldBeforePropagates, InContact}
 use Rattle.theorems.specs.Chains.{Silent}

@@ -17,9 +17,9 @@ use Rattle.steps.specs.Runs.{runOf}
 use Rattle.steps.specs.Shelves.{placeLimit, nameOf, savedOf}
 use Rattle.steps.specs.Points.{saveOf, restoreOf, dropOf}
 use Rattle.steps.specs.Kept.{IsName, Held}
-use Rattle.theorems.specs.Lists.{Step, Line, outcomeOf, next, stateOf}
-use Rattle.theorems.specs.Run.{size, firstSteps}
-use Rattle.theorems.specs.Demand2.{Bytes}
+use Rattle.labs.specs.Lists.{Step, Line, outcomeOf, next, stateOf}
+use Rattle.labs.specs.Run.{size, firstSteps}
+use Rattle.labs.specs.Demand2.{Bytes}
 use Rattle.theorems.specs.Demand3.{Demand-3}
 
 -- a run: any schedule, answer bytes as they were lent, and scratch length

@@ -1,1 +1,1 @@
-// Theorems on the definitions: demands 2 and 3, and generated cases. There is no code here.
+// Theorems on the definitions: demands 1 and 3, contact, surviving lines, chains, origins, blame and repair. There is no code here.

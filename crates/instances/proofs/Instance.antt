@@ -15,10 +15,10 @@ use Rattle.steps.specs.Steps.{Outcome, done, stepOf}
 use Rattle.steps.proofs.Computing.{computing}
 use Rattle.labs.specs.Agents.{System}
 use Rattle.labs.specs.Reading.{systemOf}
-use Rattle.theorems.specs.Demand2.{Allowed, Bytes, Ready}
-use Rattle.theorems.proofs.Ready.{loaded-ready}
-use Rattle.theorems.proofs.Demand2.{demand-2}
-use Rattle.theorems.proofs.DoneSteps.{small-bytes, done-allowed}
+use Rattle.labs.specs.Demand2.{Allowed, Bytes, Ready}
+use Rattle.labs.proofs.Ready.{loaded-ready}
+use Rattle.labs.proofs.Demand2.{demand-2}
+use Rattle.instances.proofs.DoneSteps.{small-bytes, done-allowed}
 
 -- the table that the paper gives for labs_show: sizes 8, 0, 2, 1, 1, 0; kinds; operands
 abbrev pub fleet : List ℕ

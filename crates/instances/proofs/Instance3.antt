@@ -19,12 +19,12 @@ use Rattle.state.specs.Evaluation.{truthStep}
 use Rattle.state.specs.WellFormed.{loaded}
 use Rattle.steps.specs.Steps.{loadOf}
 use Rattle.steps.proofs.Computing.{computing}
-use Rattle.theorems.specs.Lists.{Step, outcomeOf, next, stateAfter}
+use Rattle.labs.specs.Lists.{Step, outcomeOf, next, stateAfter}
 use Rattle.theorems.specs.Demand3.{Write, entryWritten, history, HeldBeforeSteps}
 use Rattle.theorems.specs.Origins.{WrittenBy}
-use Rattle.theorems.proofs.Instance.{fleet}
-use Rattle.theorems.proofs.Instances.{smallFleet, steps}
+use Rattle.instances.proofs.Instance.{fleet}
+use Rattle.instances.proofs.Instances.{smallFleet, steps}
 use Rattle.theorems.proofs.Origins.{origins-hold}
 
 abbrev step : ℕ → ℕ → ℕ → Step
 step kind agent number = record { kind = kind; agent = agent; number = number; scratch = 16 }

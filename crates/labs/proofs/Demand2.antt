@@ -34,17 +34,17 @@ use Rattle.steps.specs.Refusals.{InRange}
 use Rattle.steps.proofs.Steps.{Done, act-able, state-checks, step-in, done-step, step-done}
 use Rattle.steps.proofs.Proper.{step-checked}
 use Rattle.steps.proofs.Steps.{propagates as may-propagate, confirms as may-confirm}
 use Rattle.labs.specs.Agents.{Agent, Interface, System}
 use Rattle.labs.specs.Expressions.{valueIn as valueOfEntry}
 use Rattle.labs.specs.Reading.{agentOf, systemOf}
-use Rattle.theorems.specs.Demand2.{Allowed, act, propagate, confirm, Same, Ready, Demand-2}
-use Rattle.theorems.proofs.Moves.{trees-listed}
-use Rattle.theorems.proofs.Expressions.{Narrow, entry-value, link-holds}
-use Rattle.theorems.proofs.Reading.{timeIn, entry-stamp, writerIn, entry-writer}
-use Rattle.theorems.proofs.Ready.{ready-narrow, done-ready, load-ready, load-initial}
-use Rattle.theorems.proofs.Acting.{act-exactly}
-use Rattle.theorems.proofs.Offers.{sent-passed, passed-sent}
-use Rattle.theorems.proofs.Run.{run-is}
+use Rattle.labs.specs.Demand2.{Allowed, act, propagate, confirm, Same, Ready, Demand-2}
+use Rattle.labs.proofs.Moves.{trees-listed}
+use Rattle.labs.proofs.Expressions.{Narrow, entry-value, link-holds}
+use Rattle.labs.proofs.Reading.{timeIn, entry-stamp, writerIn, entry-writer}
+use Rattle.labs.proofs.Ready.{ready-narrow, done-ready, load-ready, load-initial}
+use Rattle.labs.proofs.Acting.{act-exactly}
+use Rattle.labs.proofs.Offers.{sent-passed, passed-sent}
+use Rattle.labs.proofs.Run.{run-is}
 
 same-refl : {agents : ℕ} {S : System} → Same agents S S
 same-refl = record { environment-same = refl; clock-same = refl; agents-same = λ a l. refl }

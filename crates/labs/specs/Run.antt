@@ -10,7 +10,7 @@ use Rattle.basis.specs.Bytes.{u16At}
 use Rattle.table.specs.Checks.{passes, refuses, firstOf, passed, numberOf}
 use Rattle.steps.specs.Steps.{Outcome, stateChecks}
 use Rattle.steps.specs.Runs.{Progress, runOf}
-use Rattle.theorems.specs.Lists.{Step, outcomeOf, stateFrom}
+use Rattle.labs.specs.Lists.{Step, outcomeOf, stateFrom}
 
 -- A schedule has its 16-bit size n, then n kinds of a byte, then n operands (agent, number; 16 bits each)
 abbrev pub size : List ℕ → ℕ

@@ -24,10 +24,10 @@ use Rattle.steps.specs.Steps.{done, stepOf}
 use Rattle.steps.proofs.Steps.{state-checks}
 use Rattle.steps.proofs.Proper.{proper-passes}
 use Rattle.labs.specs.Reading.{systemOf}
-use Rattle.theorems.specs.Demand2.{Allowed, Bytes, Ready}
-use Rattle.theorems.specs.Lists.{Step, outcomeOf, next}
-use Rattle.theorems.proofs.Ready.{done-ready}
-use Rattle.theorems.proofs.Demand2.{demand-2}
+use Rattle.labs.specs.Demand2.{Allowed, Bytes, Ready}
+use Rattle.labs.specs.Lists.{Step, outcomeOf, next}
+use Rattle.labs.proofs.Ready.{done-ready}
+use Rattle.labs.proofs.Demand2.{demand-2}
 
 -- the bytes of a list, tested
 pub small-bytes : (l : List ℕ) → every (λ (i : ℕ). ltb (getD l i 0) 256) (length l) ≡ true → Bytes l

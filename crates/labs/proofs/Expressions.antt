@@ -25,14 +25,14 @@ use Rattle.state.specs.Evaluation.{valueStep, valueOf, truthStep, holds, linkHo
 use Rattle.state.specs.WellFormed.{Words}
 use Rattle.state.specs.Walks.{truthBelow}
 use Rattle.state.proofs.Evaluation.{SmallValue, valueIn-small}
 use Rattle.labs.specs.Agents.{Entry}
 use Rattle.labs.specs.Numbers.{number, Operates}
 use Rattle.labs.specs.Expressions.{Expr, value, attribute, stigmergy, environment, operation, Guard, truly, comparison, negation, conjunction, disjunction}
 use Rattle.labs.specs.Expressions.{Knowledge, E⟦_⟧_⇓_, _⊢_, _⊨_, noExpr, exprStep, exprOf, guardStep, guardOf, φ, valueIn as valueOfEntry}
 use Rattle.labs.specs.Roots.{linkOf}
 use Rattle.labs.specs.Systems.{between}
 use Rattle.labs.specs.Reading.{entryOf, systemOf}
-use Rattle.theorems.proofs.Numbers.{no-value, number-is, operates-is, compares-is}
+use Rattle.labs.proofs.Numbers.{no-value, number-is, operates-is, compares-is}
 
 -- an agent's entry, as a value
 pub entry-value : (s : List ℕ) (a k : ℕ) → valueOfEntry (entryOf s a k) ≡ valueIn s (Entries a) k

@@ -24,13 +24,13 @@ use Rattle.state.specs.declared.Store.the-variants.{Entries}
 use Rattle.state.specs.Layout.{keyLimit, wordOf, stampOf, writerOf}
 use Rattle.state.specs.Evaluation.{holds}
 use Rattle.steps.specs.Acts.{allHold, guardsRead, labelReads, toConfirm}
 use Rattle.labs.specs.Agents.{Entry, Keys}
 use Rattle.labs.specs.Expressions.{exprOf, K⟦_⟧}
 use Rattle.labs.specs.Processes.{Variable, attribute, stigmergy, environment, assign, actionOf}
 use Rattle.labs.specs.Systems.{present, known, Await, guardKeys}
 use Rattle.labs.specs.Reading.{entryOf, agentOf, systemOf}
-use Rattle.theorems.proofs.Expressions.{and-says, Narrow, guard-holds}
-use Rattle.theorems.proofs.Keys.{expression-keys, guard-keys}
+use Rattle.labs.proofs.Expressions.{and-says, Narrow, guard-holds}
+use Rattle.labs.proofs.Keys.{expression-keys, guard-keys}
 
 -- TABLE 14, by kind
 module _ (t : Table) (n : ℕ) where

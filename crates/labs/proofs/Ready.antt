@@ -31,12 +31,12 @@ use Rattle.state.proofs.Load.{loaded-clock, loaded-mark, loaded-value, loaded-s
 use Rattle.steps.specs.Steps.{Outcome, loadOf, stepOf}
 use Rattle.steps.proofs.Proper.{load-proper, proper-passes}
 use Rattle.steps.proofs.Steps.{state-checks, done-step, load-accepted, accepted-load}
 use Rattle.labs.specs.Agents.{Entry}
 use Rattle.labs.specs.Roots.{startOf}
 use Rattle.labs.specs.Reading.{entryOf, systemOf, initial}
-use Rattle.theorems.specs.Demand2.{Bytes, Same, Ready}
-use Rattle.theorems.proofs.Expressions.{Narrow}
-use Rattle.theorems.proofs.Reading.{tuple}
+use Rattle.labs.specs.Demand2.{Bytes, Same, Ready}
+use Rattle.labs.proofs.Expressions.{Narrow}
+use Rattle.labs.proofs.Reading.{tuple}
 
 -- the numbers of a ready table and state have 32 bits
 pub ready-narrow : (bytes s : List ℕ) → Bytes bytes → Words s → Narrow (tableOf bytes) s

@@ -22,9 +22,9 @@ use Rattle.steps.specs.Runs.{Progress, begun, added, ran, kindIn, agentIn, numb
 use Rattle.steps.proofs.Steps.{step-in}
 use Rattle.steps.proofs.Schedules.{schedule-checks}
 use Rattle.steps.proofs.Proper.{checks-accepted, checks-proper, step-checked, proper-passes}
-use Rattle.theorems.specs.Demand2.{Bytes}
-use Rattle.theorems.specs.Lists.{next}
-use Rattle.theorems.specs.Run.{stepAt, firstSteps, stateBefore, outcomeAt, InTurn, Run}
+use Rattle.labs.specs.Demand2.{Bytes}
+use Rattle.labs.specs.Lists.{next}
+use Rattle.labs.specs.Run.{stepAt, firstSteps, stateBefore, outcomeAt, InTurn, Run}
 
 -- a step is done or refused
 one-counted : (c : Check) → cond (passed c) 1 0 + cond (passed c) 0 1 ≡ 1

@@ -27,13 +27,13 @@ use Rattle.state.specs.Evaluation.{truthStep, linkHolds}
 use Rattle.state.specs.WellFormed.{loaded}
 use Rattle.steps.specs.Steps.{loadOf}
 use Rattle.steps.proofs.Computing.{computing}
-use Rattle.theorems.specs.Lists.{Step, outcomeOf, next, stateAfter}
+use Rattle.labs.specs.Lists.{Step, outcomeOf, next, stateAfter}
 use Rattle.theorems.specs.Demand3.{Write, entryWritten, history, HeldBeforeSteps}
 use Rattle.theorems.specs.Contact.{Propagates, HeldBeforePropagates}
 use Rattle.theorems.specs.Chains.{Silent, AllHave, Agree, LastWritten, Chains}
 use Rattle.theorems.proofs.Views.{stampIn}
 use Rattle.theorems.proofs.Demand3.{demand-3}
 use Rattle.theorems.proofs.Chains.{members, same-words, chains-hold}
 
 -- Three agents, attribute a, keys 0, 1 and 2. Agent 0: key 0 := 7; key 1 := 8; key 2 := 9. Agent 1, between the other two: a := 1. Agent 2 is idle.
 -- Links: of key 0 true; of key 1 that s.a = 1 or r.a = 1, to agent 1 and from it; of key 2 that r.a = 1, to agent 1 only. Nodes:

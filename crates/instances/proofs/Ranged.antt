@@ -16,12 +16,12 @@ use Rattle.state.specs.Evaluation.{linkHolds}
 use Rattle.state.specs.WellFormed.{loaded}
 use Rattle.steps.specs.Steps.{loadOf}
 use Rattle.steps.proofs.Computing.{computing}
-use Rattle.theorems.specs.Lists.{Step, stateAfter}
+use Rattle.labs.specs.Lists.{Step, stateAfter}
 use Rattle.theorems.specs.Demand3.{HeldBeforeSteps}
 use Rattle.theorems.specs.Contact.{HeldBeforePropagates}
 use Rattle.theorems.specs.Chains.{Silent}
 use Rattle.theorems.specs.Blame.{Blamed}
 use Rattle.theorems.proofs.Blame.{blame-holds}
 
 -- Two agents, one attribute, one key, whose link holds where the sender's attribute is 1: say, once the sender has come into range.
 -- Agent 0 sets the key to 7 (node 1) and its attribute to 1 (node 3), in the order p, q; agent 1 is idle. Nodes:

@@ -17,12 +17,12 @@ use Rattle.state.specs.Evaluation.{linkHolds}
 use Rattle.state.specs.WellFormed.{Proper, Words}
 use Rattle.steps.specs.declared.Tally.{Tally}
 use Rattle.steps.specs.Steps.{done, stateChecks, loadOf, stepOf}
 use Rattle.labs.specs.Agents.{System}
 use Rattle.labs.specs.Expressions.{_⊨_, φ}
 use Rattle.labs.specs.Processes.{Tree, Moves}
 use Rattle.labs.specs.Systems.{Acted, Passed, put, qry, between}
 use Rattle.labs.specs.Reading.{systemOf, initial}
-use Rattle.theorems.specs.Run.{Run}
+use Rattle.labs.specs.Run.{Run}
 
 -- What a message counts: the agents that insert the entry by ADD, and by UPDATE
 abbrev pub ruleTally : (ℕ → Insertion) → ℕ → Tally

@@ -15,11 +15,11 @@ use Rattle.state.specs.Entries.{entry, entryOf}
 use Rattle.state.specs.Evaluation.{linkHolds}
 use Rattle.steps.specs.Steps.{loadOf}
 use Rattle.steps.proofs.Computing.{computing}
-use Rattle.theorems.specs.Lists.{Step, outcomeOf, next, stateAfter}
+use Rattle.labs.specs.Lists.{Step, outcomeOf, next, stateAfter}
 use Rattle.theorems.specs.Demand3.{NewerWaits}
 use Rattle.theorems.specs.Contact.{InContact}
 use Rattle.theorems.specs.Repair.{Confirms, PropagateReaches, ConfirmReaches, HeldSince, moment, ended}
 use Rattle.theorems.proofs.Repair.{repair}
 
 -- Two agents, one attribute a, one key. Agent 0: key := 1; a := key. Agent 1 is idle. The key's link: s.a = 1 or r.a = 1, one of the two has come into range.
 -- Nodes:

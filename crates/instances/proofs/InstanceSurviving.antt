@@ -31,12 +31,12 @@ use Rattle.steps.proofs.Computing.{computing}
 use Rattle.steps.proofs.Steps.{state-checks, accepted-load}
 use Rattle.steps.proofs.Shelves.{own-held}
 use Rattle.steps.proofs.Points.{saves, restores, drops, kept}
-use Rattle.theorems.specs.Lists.{Step, Line, stateAfter, stateOf}
+use Rattle.labs.specs.Lists.{Step, Line, stateAfter, stateOf}
 use Rattle.theorems.specs.Demand3.{history, Demand-3}
 use Rattle.theorems.specs.Surviving.{Call, Element, step, run, load, save, restore, drop, checkOf, Lines, lines, more, keptOr, nextLines, courseAfter, stateThen, survivingLine, keptLine, Surviving, NoNames}
-use Rattle.theorems.proofs.Instance.{fleet, fleet-ready}
-use Rattle.theorems.proofs.Instance3.{acts, propagates, rehearsed}
+use Rattle.instances.proofs.Instance.{fleet, fleet-ready}
+use Rattle.instances.proofs.Instance3.{acts, propagates, rehearsed}
 use Rattle.theorems.proofs.Surviving.{surviving}
 
 -- the save, the restore and the drop, under name 5, and agent 0's propagate after them
 abbrev call : Call

@@ -39,18 +39,18 @@ use Rattle.state.specs.Formed.{WellFormed}
 use Rattle.steps.specs.Acts.{isAbsent, wordIn, allHold, valueFor, lacksValue, writesEntry, choices, chosen, toConfirm, storeOf, setKey, acted}
 use Rattle.steps.proofs.Steps.{Able}
 use Rattle.steps.proofs.Acts.{action-key, store-attribute, store-environment, set-tick, set-value, set-entry, set-length, acted-length, acted-other, acted-zc, acted-term}
 use Rattle.labs.specs.Agents.{⟨_⸴_⸴_⸴_⸴_⟩, Agent, Interface, Keys, System, _⟦_≔_⟧, _∪｛_｝, _∪_}
 use Rattle.labs.specs.Expressions.{Expr, E⟦_⟧_⇓_, exprOf}
 use Rattle.labs.specs.Processes.{Variable, attribute, stigmergy, environment}
 use Rattle.labs.specs.Systems.{Settled, known, Will, ε, _▹_, Wills, SKIP, ATTR, LSTIG, ENV, alone, Await, guardKeys, Acts, EPSILON, EVAL-I, EVAL-L, EVAL-E, Acted}
 use Rattle.labs.specs.Reading.{agentOf, systemOf}
-use Rattle.theorems.specs.Demand2.{Same}
-use Rattle.theorems.proofs.Moves.{Derivable, moves-in, moves-chosen}
-use Rattle.theorems.proofs.Expressions.{Narrow, expression-value}
-use Rattle.theorems.proofs.Actions.{attribute-action, stigmergy-action, environment-action, guards-await, labelKeys, to-confirm}
-use Rattle.theorems.proofs.Reading.{tuple, I-same, L-same, Zc-same, Zp-same, agent-same, entry, timeIn, entry-stamp, put-agent, add-zp-agent}
-use Rattle.theorems.proofs.Passing.{inserted}
-use Rattle.theorems.proofs.Willing.{willOf, wills-will, wills-derivable, wills-settled, acted-unique, acted-same}
+use Rattle.labs.specs.Demand2.{Same}
+use Rattle.labs.proofs.Moves.{Derivable, moves-in, moves-chosen}
+use Rattle.labs.proofs.Expressions.{Narrow, expression-value}
+use Rattle.labs.proofs.Actions.{attribute-action, stigmergy-action, environment-action, guards-await, labelKeys, to-confirm}
+use Rattle.labs.proofs.Reading.{tuple, I-same, L-same, Zc-same, Zp-same, agent-same, entry, timeIn, entry-stamp, put-agent, add-zp-agent}
+use Rattle.labs.proofs.Passing.{inserted}
+use Rattle.labs.proofs.Willing.{willOf, wills-will, wills-derivable, wills-settled, acted-unique, acted-same}
 
 -- a place of agent y, and a place that is not
 apart : (p q : Place) (y : ℕ) → 0 < placeKind p → ownerOf p ≡ y → (0 < placeKind q → ownerOf q ≡ y → ⊥) → same p q ≡ false

@@ -17,9 +17,9 @@ use Rattle.state.specs.Entries.{clockOf}
 use Rattle.state.specs.WellFormed.{loaded}
 use Rattle.steps.specs.Steps.{Outcome}
 use Rattle.steps.proofs.Computing.{computing}
-use Rattle.theorems.specs.Lists.{Step, outcomeOf, next}
-use Rattle.theorems.proofs.Ready.{loaded-ready}
-use Rattle.theorems.proofs.DoneSteps.{small-bytes, allDone, DoneAllowed, all-allowed}
+use Rattle.labs.specs.Lists.{Step, outcomeOf, next}
+use Rattle.labs.proofs.Ready.{loaded-ready}
+use Rattle.instances.proofs.DoneSteps.{small-bytes, allDone, DoneAllowed, all-allowed}
 
 -- Sizes 30, 1, 2, 1, 1, 1: one definition, two agents, attribute a, stigmergy key x, environment key e.
 -- Agent 0, node 25: (x := 7; e := x; e := x + 1); x := 3 (nodes 1, 3, 7, 24). Agent 1, node 22, calls definition 0, node 18: a := 1 | (e = 7 → x := 9) (nodes 11, 17).

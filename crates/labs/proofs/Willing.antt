@@ -10,15 +10,15 @@ use Rattle.term.specs.declared.Label.{Label}
 use Rattle.term.specs.declared.Label.the-variants.{Ticking, Acting}
 use Rattle.term.specs.Processes.{Derivation}
 use Rattle.state.specs.declared.Insertion.{Insertion}
 use Rattle.labs.specs.Agents.{⟨_⸴_⸴_⸴_⸴_⟩, Agent, Interface, Stigmergy, System, _⟦_≔_⟧, _∪｛_｝, Inserted}
 use Rattle.labs.specs.Expressions.{Expr, E⟦_⟧_⇓_, K⟦_⟧}
 use Rattle.labs.specs.Processes.{attribute, stigmergy, environment, Action, assign, actionOf}
 use Rattle.labs.specs.Systems.{Settled, Will, ε, _▹_, onward, Wills, SKIP, ATTR, LSTIG, ENV, alone, awaited, Acts, EPSILON, EVAL-I, EVAL-L, EVAL-E, Acted}
-use Rattle.theorems.specs.Demand2.{Same}
-use Rattle.theorems.proofs.Moves.{Derivable}
-use Rattle.theorems.proofs.Expressions.{one-value}
-use Rattle.theorems.proofs.Actions.{labelKeys}
-use Rattle.theorems.proofs.Passing.{inserted-unique}
+use Rattle.labs.specs.Demand2.{Same}
+use Rattle.labs.proofs.Moves.{Derivable}
+use Rattle.labs.proofs.Expressions.{one-value}
+use Rattle.labs.proofs.Actions.{labelKeys}
+use Rattle.labs.proofs.Passing.{inserted-unique}
 
 -- what an action wills, and what a derivation does
 abbrev willBy : Action → Will

@@ -14,7 +14,7 @@ use Rattle.steps.specs.Runs.{runOf}
 use Rattle.steps.specs.Shelves.{placeFormed, shelfFormed}
 use Rattle.steps.specs.Points.{change, saveOf, restoreOf, dropOf}
 use Rattle.steps.proofs.Computing.{computing}
-use Rattle.theorems.proofs.Instance.{fleet, stepped, s₀, s₁}
+use Rattle.instances.proofs.Instance.{fleet, stepped, s₀, s₁}
 
 -- a state's words, and a shelf's, all 0
 abbrev noState : List ℕ

@@ -27,13 +27,13 @@ use Rattle.term.proofs.Counting.{no-ticks}
 use Rattle.term.proofs.Opened.{sound-lower, node-out}
 use Rattle.term.proofs.Exposed.{node-calls}
 use Rattle.term.proofs.Members.{In, place-in}
 use Rattle.labs.specs.Processes.{Form, 𝟎, √, α, _⨾_, _⊹_, _∣_, _⇒_, K, forms, form, Moves}
 use Rattle.labs.specs.Processes.{Tree, by-TICK, by-ACT, by-CHOICE-L, by-CHOICE-R, by-SEQ₁, by-SEQ₂, by-CON, by-PAR₁, by-PAR₂, by-PAR₁-COMM, by-PAR₂-COMM, by-AWAIT}
 use Rattle.labs.specs.Processes.{TICK, ACT, CHOICE-L, CHOICE-R, SEQ₁, SEQ₂, CON, PAR₁, PAR₂, PAR₁-COMM, PAR₂-COMM, AWAIT}
-use Rattle.theorems.specs.Demand2.{Transitions}
-use Rattle.theorems.proofs.Enumerations.{Relation, Enumerated, names, Changed, Tested, Joined, Either}
-use Rattle.theorems.proofs.Enumerations.{enumerated-same, enumerated-none, enumerated-one, enumerated-changed, enumerated-tested, enumerated-append, enumerated-joined, enumerated-in, enumerated-some}
-use Rattle.theorems.proofs.Enumerations.{enumerated-length, enumerated-once, enumerated-places}
+use Rattle.labs.specs.Demand2.{Transitions}
+use Rattle.labs.proofs.Enumerations.{Relation, Enumerated, names, Changed, Tested, Joined, Either}
+use Rattle.labs.proofs.Enumerations.{enumerated-same, enumerated-none, enumerated-one, enumerated-changed, enumerated-tested, enumerated-append, enumerated-joined, enumerated-in, enumerated-some}
+use Rattle.labs.proofs.Enumerations.{enumerated-length, enumerated-once, enumerated-places}
 
 -- the tree T derives d from the term P; some tree does
 abbrev pub Derives : Table → Term → Relation Tree

@@ -13,9 +13,9 @@ use Rattle.state.specs.declared.Insertion.{Insertion}
 use Rattle.state.specs.declared.Insertion.the-variants.{Add, Update, Discard}
 use Rattle.state.specs.Entries.{isAdd, isUpdate}
 use Rattle.steps.specs.Tallies.{tally}
 use Rattle.labs.specs.Agents.{⟨_⸴_⸴_⸴_⸴_⟩, Agent, Entry, Interface, Stigmergy, System, _⟦_≔_⟧, _∪｛_｝, _∖｛_｝, Inserted, add, update, discard}
 use Rattle.labs.specs.Systems.{Kind, put, qry, Message, message, Sends, PROPAGATE, CONFIRM, Older, Newer, Linked, Receives, PUT, QRY₁, QRY₂, STAY, Passed}
-use Rattle.theorems.specs.Demand2.{ruleTally, Same}
+use Rattle.labs.specs.Demand2.{ruleTally, Same}
 
 -- TABLE 1
 no-entry : {o : Option Entry} {f : Entry} → o ≡ none → o ≡ some f → ⊥

@@ -27,13 +27,13 @@ use Rattle.state.proofs.Frames.{wordAt, SameAt, put-entry-length, drop-length, 
 use Rattle.steps.specs.declared.Response.the-variants.{Takes, Propagates, Ignores}
 use Rattle.steps.specs.Offers.{takeEntry, responded, linked, takes, holdsNewer, inserts, response, offer, offered, offerTally, sent}
 use Rattle.steps.proofs.Offers.{not-taken, offer-length, offered-length, offered-other, offered-turn}
 use Rattle.labs.specs.Agents.{⟨_⸴_⸴_⸴_⸴_⟩, Agent, Entry, System, _⟦_≔_⟧, _∪｛_｝, _∖｛_｝, Inserted}
 use Rattle.labs.specs.Systems.{Kind, put, qry, Message, message, Sends, PROPAGATE, CONFIRM, Older, Newer, Linked, Receives, PUT, QRY₁, QRY₂, STAY, Passed}
 use Rattle.labs.specs.Reading.{agentOf, systemOf}
-use Rattle.theorems.specs.Demand2.{ruleTally, Same}
-use Rattle.theorems.proofs.Expressions.{Narrow, link-holds}
-use Rattle.theorems.proofs.Reading.{stamped, labsEntry, timeIn, entry-read, entry-present, entry-stamp, agent-same, put-agent, with, keysIn, add-zp-agent, drop-agent}
-use Rattle.theorems.proofs.Passing.{takenBy, inserted, sends-zp, sends-zc, passed-unique, passed-count}
+use Rattle.labs.specs.Demand2.{ruleTally, Same}
+use Rattle.labs.proofs.Expressions.{Narrow, link-holds}
+use Rattle.labs.proofs.Reading.{stamped, labsEntry, timeIn, entry-read, entry-present, entry-stamp, agent-same, put-agent, with, keysIn, add-zp-agent, drop-agent}
+use Rattle.labs.proofs.Passing.{takenBy, inserted, sends-zp, sends-zc, passed-unique, passed-count}
 
 -- older and newer, by the stamp
 older-time : (o : Option Entry) (n : ℕ) → 0 < n → Older o n ↔ (timeIn o < n)

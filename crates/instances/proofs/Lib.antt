@@ -1,0 +1,10 @@
+pub mod Cases
+pub mod DoneSteps
+pub mod Instance
+pub mod InstanceRefusals
+pub mod Instances
+pub mod Instance3
+pub mod InstanceSurviving
+pub mod InstanceChains
+pub mod Ranged
+pub mod InstanceRepair

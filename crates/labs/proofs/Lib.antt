@@ -1,0 +1,14 @@
+pub mod Enumerations
+pub mod Moves
+pub mod Numbers
+pub mod Expressions
+pub mod Keys
+pub mod Actions
+pub mod Passing
+pub mod Reading
+pub mod Willing
+pub mod Acting
+pub mod Offers
+pub mod Ready
+pub mod Run
+pub mod Demand2
