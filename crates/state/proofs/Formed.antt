@@ -2,7 +2,7 @@
 -- Assumes nothing.
 use Prim.Native.Nat.{ℕ, _+_, _-_, _^_, _<_, _≤_}
 use mathlib.Core.Bool.{Bool, true, false, cond, not, _&&_, _||_}
-use mathlib.Core.Logic.{_↔_, ⊎-elim}
+use mathlib.Core.Logic.{⊎-elim}
 use mathlib.Core.Path.{_≡_, refl, sym, ap, _∙_}
 use mathlib.Core.List.{List}
 use native.Mathlib.Omega.{arith}
@@ -21,7 +21,7 @@ use Rattle.term.specs.Accepted.{Over}
 use Rattle.term.proofs.Words.{over-low, over-whole, whole-read}
 use Rattle.state.specs.declared.Store.{Store}
 use Rattle.state.specs.declared.Store.the-variants.{Environment, Attributes, Entries}
-use Rattle.state.specs.Layout.{stateWords, agentsAt, blockAt, keyLimit, residualWords, markOf, wordOf, stampOf, writerOf, zcOf, zpOf, lengthOf, residualOf, termIn}
+use Rattle.state.specs.Layout.{agentsAt, blockAt, keyLimit, residualWords, markOf, wordOf, stampOf, writerOf, zcOf, zpOf, lengthOf, residualOf, termIn}
 use Rattle.state.specs.Entries.{entryOf, clockOf}
 use Rattle.state.specs.WellFormed.{allZero, writerFormed, pairFormed, pendingFormed, entryFormed, residualFormed, agentFormed, wellFormed, Proper}
 use Rattle.state.proofs.Places.{KeySet, Zc, Zp, Waits, Residual}

@@ -1,10 +1,9 @@
 -- Places of a shelf and two saves, by computing the definitions.
 -- Assumes nothing.
-use mathlib.Core.Path.{_≡_, refl}
-use Rattle.table.specs.Checks.{passes}
+use mathlib.Core.Path.{refl}
 use Rattle.steps.specs.Shelves.{placeFormed, shelfFormed, putSaved, putName}
 use Rattle.steps.specs.Points.{change, saveOf}
-use Rattle.steps.specs.ShelfExamples.{first, second, once, twice, ShelfExamples}
+use Rattle.steps.specs.ShelfExamples.{ShelfExamples}
 use Rattle.steps.proofs.Computing.{computing}
 
 pub shelf-examples : ShelfExamples

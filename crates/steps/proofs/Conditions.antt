@@ -3,18 +3,18 @@
 use Prim.Native.Nat.{ℕ, zero, suc, _+_, _*_, _<_, _≤_}
 use mathlib.Core.Bool.{Bool, true, false, not, _&&_, _||_}
 use mathlib.Core.Logic.{_⊎_, _↔_, inl, inr, ⊎-elim}
-use mathlib.Core.Path.{_≡_, refl, sym, ap, _∙_}
+use mathlib.Core.Path.{_≡_, refl, ap, _∙_}
 use mathlib.Core.List.{List, [], _∷_, List·Memᴰ, List·Memᴰ·head, List·Memᴰ·tail}
 use native.Mathlib.Omega.{arith}
 use lib.Dec.{eqb, ltb, leb}
 use lib.ListN.{length}
-use borrow.Author.Tests.{eqb-true, eqb-false, eq-eqb, ne-eqb, ltb-true, ltb-false, lt-ltb, le-ltb, leb-true, leb-false, le-leb, not-false}
+use borrow.Author.Tests.{eqb-true, eqb-false, eq-eqb, ne-eqb, ltb-true, lt-ltb, leb-true, le-leb, not-true, not-false}
 use Rattle.basis.specs.KeySets.{has}
 use Rattle.basis.proofs.Tests.{not-both, and-left, and-right, and-both, and-fails, or-either, or-left, or-right}
 use Rattle.value.specs.declared.Value.{Value}
 use Rattle.value.specs.declared.Value.the-variants.{Absent, Present}
-use Rattle.table.specs.Checks.{Refusal, refuseIf}
-use Rattle.table.specs.Conditions.{Condition, _when_}
+use Rattle.table.specs.Checks.{refuseIf}
+use Rattle.table.specs.Conditions.{_when_}
 use Rattle.table.specs.Tables.{Table, kindAt}
 use Rattle.table.proofs.Conditions.{Line, Follows, follows-if}
 use Rattle.term.specs.declared.Label.{Label}
@@ -30,7 +30,6 @@ use Rattle.steps.specs.Steps.{outOfRange, ownChecks, stepChecks}
 use Rattle.steps.specs.Runs.{stepsOf, scheduleChecks}
 use Rattle.steps.specs.Shelves.{isName, isHeld, hasFree, shelfFormed}
 use Rattle.steps.specs.Points.{shelfCheck, saveChecks, heldChecks}
-use Rattle.steps.specs.Kept.{Held, IsName}
 use Rattle.steps.specs.Refusals.{TooMany, Unmet, NoValue, NoStamp, actConditions, ownConditions, stepConditions, runConditions, saveConditions, heldConditions}
 use Rattle.steps.proofs.Steps.{in-range}
 use Rattle.steps.proofs.Shelves.{is-name, is-held, well-formed}
@@ -46,10 +45,6 @@ unless-not number test h = unless number (not test) (λ e. h .0 (not-false test 
 -- a line that refuses where a fact is so
 pub where-so : (number : ℕ) (test : Bool) {Fact : Type 0} → (test ≡ true) ↔ Fact → Line (refuseIf number test) (number when Fact)
 where-so number test h = follows-if number test (h .0) (λ e w. not-both (h .1 w) e)
-
-not-true : (b : Bool) → not b ≡ true → b ≡ false
-not-true true e = sym e
-not-true false e = refl
 
 pub where-not : (number : ℕ) (test : Bool) {Fact : Type 0} → (test ≡ false) ↔ Fact → Line (refuseIf number (not test)) (number when Fact)
 where-not number test h = where-so number (not test) (λ e. h .0 (not-true test e), λ w. ap not (h .1 w))

@@ -1,7 +1,7 @@
 -- Every public call refuses as the paper's table of refusals says.
 -- Assumes nothing.
 use Prim.Native.Nat.{ℕ, _*_, _<_}
-use mathlib.Core.Bool.{Bool, true, false, not, _&&_}
+use mathlib.Core.Bool.{Bool, true, false, not, _&&_, and-false}
 use mathlib.Core.Logic.{_⊎_, _↔_, inl, inr, ⊎-elim}
 use mathlib.Core.Path.{_≡_, refl, sym, ap, subst, _∙_}
 use mathlib.Core.List.{List, [], _∷_, _++_}
@@ -11,7 +11,7 @@ use borrow.Author.Tests.{eqb-true}
 use Rattle.basis.proofs.Tests.{and-right, and-fails}
 use Rattle.table.specs.Checks.{Check, passes, refuses, Refusal, refuseIf, firstOf}
 use Rattle.table.specs.Conditions.{Condition, _when_, Comes}
-use Rattle.table.specs.Tables.{Table, tableOf}
+use Rattle.table.specs.Tables.{tableOf}
 use Rattle.table.proofs.Conditions.{Follows, comes, comes-append}
 use Rattle.term.specs.Acceptance.{tableChecks}
 use Rattle.term.specs.Rules.{N, tableConditions}
@@ -28,13 +28,6 @@ use Rattle.steps.specs.Points.{shelfCheck, saveChecks, heldChecks}
 use Rattle.steps.specs.Refusals.{WrongState, WrongShelf, stateConditions, stepConditions, runConditions, saveConditions, heldConditions, Refusals}
 use Rattle.steps.proofs.Orders.{in-order}
 use Rattle.steps.proofs.Conditions.{unless-not, ne-exactly, step-follows, run-follows, save-follows, held-follows}
-
-and-first : (a b : Bool) → a ≡ false → (a && b) ≡ false
-and-first a b e = ap (λ (c : Bool). c && b) e
-
-and-second : (a b : Bool) → b ≡ false → (a && b) ≡ false
-and-second true b e = e
-and-second false b e = refl
 
 -- LINES THAT SAY THE SAME come to the same
 record Alike (l k : Condition) : Type 0 where
@@ -114,7 +107,7 @@ shelved shelf = ne-exactly (length shelf) 37656
 beside : (others : Bool) {Other : Type 0} (was : List ℕ) → (others ≡ false) ↔ Other → ((others && isWhole was) ≡ false) ↔ (Other ⊎ WrongState was)
 beside others was h = (
   λ e. ⊎-elim (λ (d : others ≡ false). inl (h .0 d)) (λ (d : isWhole was ≡ false). inr (alone was .0 d)) (and-fails others (isWhole was) e),
-  ⊎-elim (λ w. and-first others (isWhole was) (h .1 w)) (λ w. and-second others (isWhole was) (alone was .1 w)),
+  ⊎-elim (λ w. ap (λ (b : Bool). b && isWhole was) (h .1 w)) (λ w. ap (λ (b : Bool). others && b) (alone was .1 w) ∙ and-false others),
 )
 
 pub refusals : Refusals

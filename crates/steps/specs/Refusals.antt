@@ -12,7 +12,7 @@ use Rattle.table.specs.Tables.{Table, tableOf, kindAt, qAt}
 use Rattle.term.specs.declared.Label.{Label}
 use Rattle.term.specs.declared.Label.the-variants.{Acting}
 use Rattle.term.specs.Terms.{Term, Subterm, words}
-use Rattle.term.specs.Processes.{Derivation, derivations, derivationAt, process}
+use Rattle.term.specs.Processes.{derivations, derivationAt, process}
 use Rattle.term.specs.Rules.{tableConditions}
 use Rattle.state.specs.Layout.{zcOf, zpOf, termIn}
 use Rattle.state.specs.Entries.{clockOf}
