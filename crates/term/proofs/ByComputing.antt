@@ -7,13 +7,14 @@ use Rattle.table.specs.Checks.{firstOf}
 use Rattle.table.specs.Tables.{withinLimits}
 use Rattle.table.specs.Nodes.{processRows, guardRows, expressionRows, rowOf, fieldsHere, fits, fitting, named, namesAgain, badNode}
 use Rattle.table.specs.Reach.{reachStep, reachedFrom, wrongKey}
+use Rattle.term.specs.Terms.{words}
 use Rattle.term.specs.Processes.{keep, joins, derivations, nodeStep, nodeWith, defined, nodeProcess}
 use Rattle.term.specs.Exposure.{canTick, callsBelow}
 use Rattle.term.specs.Examples.{Examples}
 use Rattle.term.specs.Refused.{CallsRefused}
 
 pub examples : Examples
-unfolding keep joins derivations canTick
+unfolding keep joins derivations canTick words
 examples =
     record {
       tick-of-both = (refl, refl, refl);
@@ -23,6 +24,7 @@ examples =
       sequence-of-two = refl;
       parallel-of-two = refl;
       guards-anywhere = refl;
+      residual-words = refl;
     }
 
 pub calls-refused : CallsRefused

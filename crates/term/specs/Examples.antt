@@ -4,7 +4,7 @@ use mathlib.Core.Path.{_≡_}
 use mathlib.Core.List.{[], _∷_}
 use Rattle.term.specs.declared.Label.{Label}
 use Rattle.term.specs.declared.Label.the-variants.{Ticking, Acting}
-use Rattle.term.specs.Terms.{Term, Seq, Par, Tick, Idle, Node}
+use Rattle.term.specs.Terms.{Term, Seq, Par, Tick, Idle, Node, words}
 use Rattle.term.specs.Processes.{Process, tick, act, choice, guarded, call, seq, par, Derivation, derivation, derivations}
 use Rattle.term.specs.Exposure.{canTick}
 
@@ -89,3 +89,5 @@ pub record Examples : Type 0 where
       derivation (Acting 1) (10 ∷ []) (Seq Tick (Node 6))
       ∷ derivation (Acting 2) (11 ∷ 20 ∷ 21 ∷ []) Tick
       ∷ []
+  -- the words of tick ; (idle | node 7): 65,535 sequence, 65,534 parallel, 65,533 tick, 65,532 idle, else a process node's number
+  pub residual-words : words (Seq Tick (Par Idle (Node 7))) ≡ 65535 ∷ 65533 ∷ 65534 ∷ 65532 ∷ 7 ∷ []
