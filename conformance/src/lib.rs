@@ -13,6 +13,7 @@ pub mod shelves;
 pub mod stack;
 
 use reference::cases::{Call, Case, ANSWER_FILL};
+use reference::describe::describe;
 
 /// Seed, whether small, and how many cases are generated.
 pub const LISTS: [(u64, bool, u64); 3] =
@@ -203,6 +204,25 @@ pub fn preview(case: &Case, next: &[u32]) -> Previewed {
         packed,
         next: next.content(),
     }
+}
+
+/// What the library gives back, which is what the second implementation does.
+pub fn agreed(case: &Case, which: &str) -> Given {
+    let (proved, expected) = (call(case), expected(case));
+    if proved != expected {
+        let same = [
+            proved.state == expected.state,
+            proved.answers == expected.answers,
+            proved.totals == expected.totals,
+        ];
+        panic!(
+            "{which}: answer {} and not {}; state, answer bytes, totals the same: {same:?}\n{}",
+            proved.packed,
+            expected.packed,
+            describe(case)
+        );
+    }
+    proved
 }
 
 /// The call itself, on what is lent.

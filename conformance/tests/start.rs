@@ -232,19 +232,6 @@ fn a_missing_tool_is_one_clear_line() {
     let said = String::from_utf8(output.stderr).unwrap();
     assert_eq!(said.lines().count(), 1, "{said}");
     assert!(said.contains("rt") && said.contains("Rattle"), "{said}");
-
-    // The gate, which ends before it does anything.
-    let output = Command::new("bash")
-        .arg(root().join(".ci/run"))
-        .env("PATH", tools("gate_without_rt", None))
-        .output()
-        .expect("bash runs");
-    assert_eq!(output.status.code(), Some(1));
-    let said = String::from_utf8([output.stdout, output.stderr].concat()).unwrap();
-    assert_eq!(
-        said,
-        "the gate needs the command rt, which is not on PATH\n"
-    );
 }
 
 /// A toolchain that says of three crates what rt says, and keeps what it was asked. It goes on to the second crate once the

@@ -59,7 +59,7 @@ fn describe_to(case: &Case, out: &mut String) -> std::fmt::Result {
         outcome.refusal(),
         outcome.answers
     )?;
-    out.write_str(&outcome.line())
+    writeln!(out, "{}", outcome.said)
 }
 
 /// The nodes, as far as the table goes.

@@ -27,7 +27,6 @@ pub mod step;
 pub mod surviving;
 pub mod syntax;
 pub mod table;
-pub mod tables;
 pub mod term;
 pub mod value;
 

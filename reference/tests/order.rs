@@ -132,7 +132,6 @@ fn every_pair() {
     assert_eq!(all.len(), 28 + 136 + 55 + 55 + 171);
     for pair in all {
         answers_the_first(pair.asked, &pair.faults);
-        assert!(pair.case.fits());
     }
 }
 

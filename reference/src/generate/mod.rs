@@ -17,33 +17,6 @@ use crate::step::Step;
 use crate::table::{Fleet, MAX_NODES};
 use fleets::Scale;
 
-/// How large generated cases are.
-#[derive(Clone, Copy, Debug, PartialEq, Eq)]
-pub enum Mix {
-    Full,
-    /// At most 24 nodes and short schedules.
-    Small,
-    /// Small, but for every eighth.
-    Mixed,
-}
-
-impl Mix {
-    /// The case with this index under a seed.
-    pub fn case(self, seed: u64, index: u64) -> Case {
-        let small = match self {
-            Mix::Full => false,
-            Mix::Small => true,
-            Mix::Mixed => !index.is_multiple_of(8),
-        };
-        case(seed, index, small)
-    }
-
-    /// The cases with the first indices.
-    pub fn cases(self, seed: u64, count: u64) -> impl Iterator<Item = Case> {
-        (0..count).map(move |index| self.case(seed, index))
-    }
-}
-
 /// The case with this index under a seed. Small ones have at most 24 nodes
 /// and short schedules.
 pub fn case(seed: u64, index: u64, small: bool) -> Case {

@@ -1,4 +1,0 @@
-pub mod Filling
-pub mod Patching
-pub mod Mixing
-pub mod Calling

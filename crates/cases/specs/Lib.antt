@@ -1,3 +1,0 @@
-pub mod Digests
-pub mod Patches
-pub mod Calls
