@@ -15,12 +15,12 @@ use Rattle.term.specs.Acceptance.{tableChecks}
 use Rattle.term.proofs.Acceptance.{passes-accepted}
 use Rattle.state.specs.Layout.{stateWords, isWhole}
 use Rattle.steps.specs.Steps.{stateChecksWith}
-use Rattle.steps.specs.Shelves.{isName, isHeld, hasFree, shelfFormed}
+use Rattle.steps.specs.Shelves.{isName, isHeld, shelfFormed}
 use Rattle.steps.specs.Points.{shelfCheck, saveChecks, heldChecks}
 use Rattle.steps.specs.Kept.{Held, Room, WellFormed, IsName}
 use Rattle.steps.proofs.Steps.{state-checks, checks-with}
 use Rattle.steps.proofs.NameChecks.{save-no-name, save-no-place, save-passes, not-held, held-passes}
-use Rattle.steps.proofs.Shelves.{is-name, is-held, has-free, well-formed}
+use Rattle.steps.proofs.Shelves.{is-name, is-held, well-formed}
 
 -- the lengths of other buffers, which 8 judges with the state's
 module _ (bytes : List ℕ) (scratch : ℕ) where
@@ -62,17 +62,17 @@ module _ (bytes : List ℕ) (scratch : ℕ) where
 
 -- a name is held, or a place is free
 module _ (shelf : List ℕ) (name : ℕ) where
-  pub has-room : ((isHeld shelf name || hasFree shelf) ≡ true) ↔ Room shelf name
+  pub has-room : ((isHeld shelf name || isHeld shelf 0) ≡ true) ↔ Room shelf name
   has-room = (
-    λ e. ⊎-elim (λ (d : isHeld shelf name ≡ true). inl (is-held shelf name .0 d)) (λ (d : hasFree shelf ≡ true). inr (has-free shelf .0 d))
-        (or-either (isHeld shelf name) (hasFree shelf) e),
-    ⊎-elim (λ w. or-left (isHeld shelf name) (hasFree shelf) (is-held shelf name .1 w)) (λ w. or-right (isHeld shelf name) (hasFree shelf) (has-free shelf .1 w)),
+    λ e. ⊎-elim (λ (d : isHeld shelf name ≡ true). inl (is-held shelf name .0 d)) (λ (d : isHeld shelf 0 ≡ true). inr (is-held shelf 0 .0 d))
+        (or-either (isHeld shelf name) (isHeld shelf 0) e),
+    ⊎-elim (λ w. or-left (isHeld shelf name) (isHeld shelf 0) (is-held shelf name .1 w)) (λ w. or-right (isHeld shelf name) (isHeld shelf 0) (is-held shelf 0 .1 w)),
   )
 
 -- the shelf's check and the name's
 module _ (t : Table) (shelf : List ℕ) (name : ℕ) where
   abbrev roomy : Bool
-  roomy = isHeld shelf name || hasFree shelf
+  roomy = isHeld shelf name || isHeld shelf 0
 
   abbrev known : Bool
   known = isName name && isHeld shelf name

@@ -28,7 +28,7 @@ module _ (shelf : List ℕ) where
 
   -- there is a place for the name: it is held, or a place is free
   abbrev pub Room : ℕ → Type 0
-  Room name = Held name ⊎ ((i : ℕ) × (i < 8) × Free i)
+  Room name = Held name ⊎ Held 0
 
   -- the name is new, and place i is the lowest free one
   pub record LowestFree (name i : ℕ) : Type 0 where

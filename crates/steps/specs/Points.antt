@@ -6,7 +6,7 @@ use Rattle.table.specs.Checks.{Check, passes, refuses, Refusal, refuseIf, first
 use Rattle.table.specs.Tables.{Table, tableOf}
 use Rattle.term.specs.Acceptance.{tableChecks}
 use Rattle.steps.specs.Steps.{stateChecksWith}
-use Rattle.steps.specs.Shelves.{isName, isWholeShelf, isHeld, hasFree, placeOf, savePlace, savedOf, shelfFormed, putSaved, putName}
+use Rattle.steps.specs.Shelves.{isName, isWholeShelf, isHeld, placeOf, savePlace, savedOf, shelfFormed, putSaved, putName}
 
 -- what a call that may write one lent buffer comes to: its check, and the words of that buffer after
 pub record Change : Type 0 where
@@ -24,7 +24,7 @@ shelfCheck t shelf = refuseIf 9 (not (shelfFormed shelf t))
 
 -- a save's own: 21, it is no name; 22, a new name meets eight held ones
 abbrev pub saveChecks : List ℕ → ℕ → List Refusal
-saveChecks shelf name = refuseIf 21 (not (isName name)) ∷ refuseIf 22 (not (isHeld shelf name || hasFree shelf)) ∷ []
+saveChecks shelf name = refuseIf 21 (not (isName name)) ∷ refuseIf 22 (not (isHeld shelf name || isHeld shelf 0)) ∷ []
 
 -- a restore's and a drop's: 21, it is no name, or is not held
 abbrev pub heldChecks : List ℕ → ℕ → List Refusal
