@@ -2,7 +2,7 @@
 use Prim.Native.Nat.{ℕ}
 use mathlib.Core.Bool.{not, _&&_, _||_}
 use mathlib.Core.List.{List, [], _∷_, _++_}
-use Rattle.table.specs.Checks.{Check, passes, refuses, Refusal, refuseIf, firstOf}
+use Rattle.table.specs.Checks.{Check, Refusal, refuseIf, firstOf, ifPasses}
 use Rattle.table.specs.Tables.{Table, tableOf}
 use Rattle.term.specs.Acceptance.{tableChecks}
 use Rattle.steps.specs.Steps.{stateChecksWith}
@@ -13,10 +13,8 @@ pub record Change : Type 0 where
   pub check : Check
   pub words : List ℕ
 
--- a refusal leaves them as they came
 unfoldable pub change : Check → List ℕ → List ℕ → Change
-change passes was words = record { check = passes; words = words }
-change (refuses number place) was words = record { check = refuses number place; words = was }
+change c was words = record { check = c; words = ifPasses c words was }
 
 -- 9: the shelf is not well formed
 abbrev pub shelfCheck : Table → List ℕ → Refusal

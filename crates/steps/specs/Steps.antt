@@ -4,7 +4,7 @@ use mathlib.Core.Bool.{Bool, true, false, not, _&&_, _||_}
 use mathlib.Core.List.{List, [], _∷_, _++_}
 use lib.Dec.{ltb}
 use Rattle.basis.specs.KeySets.{has}
-use Rattle.table.specs.Checks.{Check, passes, refuses, Refusal, refuseIf, firstOf}
+use Rattle.table.specs.Checks.{Check, passes, refuses, Refusal, refuseIf, firstOf, ifPasses}
 use Rattle.table.specs.Tables.{Table, tableOf}
 use Rattle.term.specs.Acceptance.{tableChecks}
 use Rattle.state.specs.Layout.{isWhole, zcOf, zpOf}
@@ -28,8 +28,7 @@ refused number place s = record { check = refuses number place; tally = noTally;
 
 -- a call that is refused leaves the state as it came, and counts nothing
 unfoldable pub outcome : Check → List ℕ → Tally → List ℕ → Outcome
-outcome passes was tally state = done tally state
-outcome (refuses number place) was tally state = refused number place was
+outcome c was tally state = record { check = c; tally = ifPasses c tally noTally; state = ifPasses c state was }
 
 abbrev pub loadOf : List ℕ → List ℕ → ℕ → Outcome
 loadOf bytes was scratchLength =
