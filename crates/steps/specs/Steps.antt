@@ -73,13 +73,8 @@ stateChecksWith othersFit bytes was scratchLength =
 abbrev pub stateChecks : List ℕ → List ℕ → ℕ → List Refusal
 stateChecks bytes was scratchLength = stateChecksWith true bytes was scratchLength
 
-abbrev pub stepWith : Bool → List ℕ → List ℕ → ℕ → ℕ → ℕ → ℕ → Outcome
-stepWith othersFit bytes was scratchLength kind x number =
-    elim (firstOf (stateChecksWith othersFit bytes was scratchLength)) [
-      | passes ↦ stepIn (tableOf bytes) was kind x number
-      | refuses n place ↦ refused n place was
-    ]
-
 -- a step of any table and state
 unfoldable pub stepOf : List ℕ → List ℕ → ℕ → ℕ → ℕ → ℕ → Outcome
-stepOf bytes was scratchLength kind x number = stepWith true bytes was scratchLength kind x number
+stepOf bytes was scratchLength kind x number =
+    outcome (firstOf (stateChecks bytes was scratchLength ++ stepChecks (tableOf bytes) was kind x number)) was
+    (tallyOf (tableOf bytes) was kind x number) (after (tableOf bytes) was kind x number)
