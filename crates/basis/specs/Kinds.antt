@@ -1,6 +1,12 @@
 -- Names of node kinds. The whole list, with what each kind's operands hold, is in crate table.
 use Prim.Native.Nat.{ℕ}
 
+abbrev pub idle : ℕ
+idle = 0
+
+abbrev pub tick : ℕ
+tick = 1
+
 abbrev pub setAttribute : ℕ
 setAttribute = 2
 
@@ -15,6 +21,12 @@ sequence = 5
 
 abbrev pub choice : ℕ
 choice = 6
+
+abbrev pub guarded : ℕ
+guarded = 7
+
+abbrev pub parallel : ℕ
+parallel = 8
 
 abbrev pub call : ℕ
 call = 9

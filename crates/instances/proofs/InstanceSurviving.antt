@@ -30,7 +30,7 @@ use Rattle.steps.specs.Kept.{Held, WellFormed, IsName, Saves, Drops}
 use Rattle.steps.proofs.Computing.{computing}
 use Rattle.steps.proofs.Steps.{state-checks, accepted-load}
 use Rattle.steps.proofs.Shelves.{own-held}
-use Rattle.steps.proofs.Points.{saves, restores, drops, kept}
+use Rattle.steps.proofs.Points.{saves, restores, restore-not-held, drops, kept}
 use Rattle.labs.specs.Lists.{Step, Line, stateAfter, stateOf}
 use Rattle.theorems.specs.Demand3.{history, Demand-3}
 use Rattle.theorems.specs.Surviving.{Call, Element, step, run, load, save, restore, drop, checkOf, Lines, lines, more, keptOr, nextLines, courseAfter, stateThen, survivingLine, keptLine, Surviving, NoNames}
@@ -211,8 +211,8 @@ module _ (shelf : List ℕ) (whole : length shelf ≡ shelfWords) (free : NoName
   refused : (state : List ℕ) → firstOf (stateChecksWith true fleet state 16) ≡ passes → restoreOf fleet state 16 last 5 .check ≡ refuses 21 0
   refused state e =
       let u = drops-there .done-when .0 drop-done in
-      restores fleet 16 last 5 state .not-held e
-      (record { table = computed .table; whole = drops-there .done drop-done .2 .words ∙ u .0 .whole; formed = drops-there .formed drop-done })
+      restore-not-held fleet 16 last 5 state e
+      (record { table = computed .table; whole = drops-there .done drop-done .2 .words ∙ u .0 .whole; formed = drops-there .done drop-done .3 })
       (λ p. gone (p .1))
 
   line-returned : survivingLine fleet shelf returned ≡ from acts

@@ -12,8 +12,8 @@ use Rattle.table.proofs.Checks.{append-refuses, append-later}
 use Rattle.accept.specs.declared.Acceptance.{Acceptance}
 use Rattle.accept.specs.declared.Acceptance.the-variants.{Accepted, Refused}
 use Rattle.state.specs.Layout.{isWhole}
-use Rattle.steps.specs.Steps.{stateChecks, stepIn, stepOf}
-use Rattle.steps.specs.Previews.{into, previewOf}
+use Rattle.steps.specs.Steps.{outcome, tallyOf, after, stepChecks, stateChecks, stepIn, stepOf}
+use Rattle.steps.specs.Previews.{previewOf}
 use Rattle.steps.specs.Runs.{stepsOf, scheduleChecks, begun, ran, Progress, runOf}
 use Rattle.steps.proofs.Steps.{step-in, step-stopped}
 use Rattle.steps.proofs.Previews.{preview-in, preview-stopped}
@@ -24,7 +24,8 @@ use Rattle.machine.specs.declared.Stepped.the-variants.{Refused as StepR
 use Rattle.machine.specs.declared.Totals.{Totals}
 use Rattle.machine.specs.declared.Ran.the-variants.{Done as RunDone, Refused as RunRefused}
 use Rattle.machine.specs.Answers.{totals, Steps, Reports, Runs}
-use Rattle.machine.proofs.Outcomes.{steps-as, steps-refused}
+use Rattle.machine.specs.Stepping.{into}
+use Rattle.machine.proofs.Outcomes.{steps-as, steps-refused, into-outcome}
 
 -- STEP
 module _ {bytes was before after : List ℕ} {r : Acceptance} (a : Opens true bytes was before after r) (kind x number : ℕ) where
@@ -37,6 +38,11 @@ module _ {bytes was before after : List ℕ} {r : Acceptance} (a : Opens true by
       steps-as (step-in bytes was (length before) kind x number (opens-is a (Accepted n) e) ∙ ap (λ (t : Table). stepIn t was kind x number) (sym (parts-table (a .opened n e)))) h
 
 -- PREVIEW
+into-step : (next was : List ℕ) (t : Table) (kind x number : ℕ)
+    → into next (stepIn t was kind x number) ≡ outcome (firstOf (stepChecks t was kind x number)) next (tallyOf t was kind x number) (after t was kind x number)
+unfolding stepIn
+into-step next was t kind x number = into-outcome next was (tallyOf t was kind x number) (after t was kind x number) (firstOf (stepChecks t was kind x number))
+
 module _ (next : List ℕ) {bytes was before after : List ℕ} {r : Acceptance} (a : Opens (isWhole next) bytes was before after r) (kind x number : ℕ) where
   pub preview-refused : {n place : ℕ} → r ≡ Refused n place → Steps (previewOf bytes was (length before) kind x number next) (StepRefused n place) next
   preview-refused {n} {place} e = steps-refused (preview-stopped bytes was (length before) kind x number next (opens-is a (Refused n place) e)) refl
@@ -46,6 +52,7 @@ module _ (next : List ℕ) {bytes was before after : List ℕ} {r : Acceptance} 
   preview-opened {n} e h =
       steps-as
       (preview-in bytes was (length before) kind x number next (opens-is a (Accepted n) e)
+      ∙ sym (into-step next was (tableOf bytes) kind x number)
       ∙ ap (λ (t : Table). into next (stepIn t was kind x number)) (sym (parts-table (a .opened n e)))) h
 
 -- RUN

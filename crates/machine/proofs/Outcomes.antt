@@ -8,7 +8,7 @@ use mathlib.Core.List.{List, [], _∷_}
 use lib.ListN.{getD}
 use Rattle.basis.specs.KeySets.{has}
 use Rattle.basis.proofs.Tests.{not-both}
-use Rattle.table.specs.Checks.{refuseIf, firstOf}
+use Rattle.table.specs.Checks.{Check, passes, refuses, refuseIf, firstOf}
 use Rattle.table.specs.Tables.{Table}
 use Rattle.table.proofs.Checks.{first-refuses, first-later, first-both, none-passes}
 use Rattle.term.specs.declared.Label.{Label}
@@ -19,9 +19,7 @@ use Rattle.steps.specs.declared.Tally.{Tally}
 use Rattle.steps.specs.Tallies.{noTally}
 use Rattle.steps.specs.Offers.{offerTally, sent}
 use Rattle.steps.specs.Steps.{Outcome, done, refused, outcome, outOfRange, ownChecks, tallyOf, after, stepIn}
-use Rattle.steps.specs.Previews.{into}
 use Rattle.steps.proofs.Steps.{outcome-done, outcome-refused}
-use Rattle.steps.proofs.Previews.{into-done, into-refused}
 use Rattle.judging.specs.declared.Judgement.the-variants.{Refused as ActRefused, Allowed}
 use Rattle.judging.specs.Judging.{Judges}
 use Rattle.offering.specs.Passing.{Passing, Passed}
@@ -30,7 +28,7 @@ use Rattle.machine.specs.declared.Judged.the-variants.{Refused, Act, Off
 use Rattle.machine.specs.declared.Stepped.{Stepped}
 use Rattle.machine.specs.declared.Stepped.the-variants.{Done as StepDone, Refused as StepRefused}
 use Rattle.machine.specs.Answers.{Steps}
-use Rattle.machine.specs.Stepping.{ownStep, offerKind, judgedOffer, isAllowed, finished, Finishing, StepJudged}
+use Rattle.machine.specs.Stepping.{ownStep, into, offerKind, judgedOffer, isAllowed, finished, Finishing, StepJudged}
 
 -- an outcome that is another
 pub steps-as : {o p : Outcome} → p ≡ o → {r : Stepped} {u : List ℕ} → Steps o r u → Steps p r u
@@ -109,6 +107,12 @@ module _ (t : Table) (s : List ℕ) (x number : ℕ) {r : Judged} where
       by true = refl
       by false = refl
 
+-- INTO A SECOND BUFFER goes what is into the first, by the same check
+pub into-outcome : (next was : List ℕ) (tally : Tally) (s : List ℕ) (c : Check) → into next (outcome c was tally s) ≡ outcome c next tally s
+unfolding outcome
+into-outcome next was tally s passes = refl
+into-outcome next was tally s (refuses number place) = refl
+
 -- PREVIEWED: what is judged on one state is finished in a second buffer, which is a copy of it where the step is allowed and as it came where not
 abbrev pub Copied : Judged → List ℕ → List ℕ → List ℕ → Type 0
 Copied r was came next = ((isAllowed r ≡ true) × (next ≡ was)) ⊎ ((isAllowed r ≡ false) × (next ≡ came))
@@ -126,11 +130,11 @@ module _ (t : Table) (was came : List ℕ) (x number : ℕ) where
 
   allowed-into : (r : Judged) → isAllowed r ≡ true → into came (finished t was x number r) ≡ finished t was x number r
   allowed-into (Refused refusal) e = absurd (not-both e refl)
-  allowed-into (Act label value keys) e = into-done came (finished t was x number (Act label value keys)) refl
-  allowed-into (Offer confirming) e = into-done came (finished t was x number (Offer confirming)) refl
+  allowed-into (Act label value keys) e = outcome-done came noTally (after t was 0 x number) passes refl
+  allowed-into (Offer confirming) e = outcome-done came (tallyOf t was (offerKind confirming) x number) (after t was (offerKind confirming) x number) passes refl
 
   refused-into : (r : Judged) → isAllowed r ≡ false → into came (finished t was x number r) ≡ finished t came x number r
-  refused-into (Refused refusal) e = into-refused came (finished t was x number (Refused refusal)) refl
+  refused-into (Refused refusal) e = outcome-refused came noTally was (refuses refusal 0) refl
   refused-into (Act label value keys) e = absurd (not-both refl e)
   refused-into (Offer confirming) e = absurd (not-both refl e)
 

@@ -59,7 +59,7 @@ outcome-within was counted s w (refuses n place) = none-within
 
 -- a step counts each agent at most once
 module _ (t : Table) (few : t .sizes .agents ≤ agentLimit) where
-  tally-within : (was : List ℕ) (kind x number : ℕ) → TallyWithin 1 (tallyOf t was kind x number)
+  pub tally-within : (was : List ℕ) (kind x number : ℕ) → TallyWithin 1 (tallyOf t was kind x number)
   tally-within was zero x number = none-within
   tally-within was (suc kind) x number =
       let rule : ℕ → Insertion = inserts t was x number true in

@@ -21,6 +21,10 @@ use Rattle.machine.specs.declared.Judged.the-variants.{Refused, Act, Off
 abbrev pub ownStep : Table → List ℕ → ℕ → ℕ → ℕ → Outcome
 ownStep t was kind x number = outcome (firstOf (ownChecks t was kind x number)) was (tallyOf t was kind x number) (after t was kind x number)
 
+-- what a step comes to, with the state after in a buffer that came as `next`
+abbrev pub into : List ℕ → Outcome → Outcome
+into next o = outcome (o .check) next (o .tally) (o .state)
+
 -- the kind of an offer: 2 for a confirm, 1 for a propagate
 abbrev pub offerKind : Bool → ℕ
 offerKind confirming = cond confirming 2 1

@@ -13,9 +13,8 @@ ghost use Rattle.table.specs.Tables.{Table, table};
 ghost use Rattle.choice.specs.Turns.{Prepared};
 ghost use Rattle.state.specs.WellFormed.{Proper};
 ghost use Rattle.steps.specs.Steps.{stepIn};
-ghost use Rattle.steps.specs.Previews.{into};
 ghost use Rattle.machine.specs.Answers.{Steps};
-ghost use Rattle.machine.specs.Stepping.{isAllowed, Finishing, finished};
+ghost use Rattle.machine.specs.Stepping.{into, isAllowed, Finishing, finished};
 
 fn is_allowed(judged: Judged) -> bool
     ensures { λ r. ⌜ r ≡ isAllowed judged ⌝ }

@@ -15,14 +15,13 @@ use Rattle.term.specs.Acceptance.{tableChecks}
 use Rattle.state.specs.Layout.{isWhole}
 use Rattle.state.specs.WellFormed.{loaded}
 use Rattle.steps.specs.Tallies.{noTally}
-use Rattle.steps.specs.Steps.{stateChecksWith, stateChecks, ownChecks, stepChecks, tallyOf, after, stepIn, stepWith, loadOf, stepOf}
+use Rattle.steps.specs.Steps.{stateChecksWith, stateChecks, ownChecks, stepChecks, loadOf, stepOf}
 use Rattle.steps.specs.Previews.{previewOf}
 use Rattle.steps.specs.Runs.{scheduleChecks, runOf}
 use Rattle.steps.specs.Shelves.{isWholeShelf}
 use Rattle.steps.specs.Points.{shelfCheck, saveChecks, heldChecks, saveOf, restoreOf, dropOf}
 use Rattle.steps.proofs.Orders.{in-order}
-use Rattle.steps.proofs.Steps.{outcome-check, with-in, with-stopped}
-use Rattle.steps.proofs.Previews.{preview-check}
+use Rattle.steps.proofs.Steps.{outcome-check}
 
 pub record Near (c : Check) : Type 0 where
   pub number : numberOf c ≤ 22
@@ -101,26 +100,19 @@ module _ (t : Table) (was : List ℕ) where
   own-near (suc zero) x number = if-near 18 (omega arith) _ _ (λ _. none-near)
   own-near (suc (suc kind)) x number = if-near 18 (omega arith) _ _ (λ _. none-near)
 
-  in-near : (kind x number : ℕ) → Near (stepIn t was kind x number .check)
-  unfolding stepIn
-  in-near kind x number =
-      subst Near (sym (outcome-check was (tallyOf t was kind x number) (after t was kind x number) (firstOf (stepChecks t was kind x number))))
-      (if-near 10 (omega arith) _ _ (λ _. own-near kind x number))
-
-with-near : (othersFit : Bool) (bytes was : List ℕ) (scratch kind x number : ℕ) → Near (stepWith othersFit bytes was scratch kind x number .check)
-with-near othersFit bytes was scratch kind x number = by (firstOf (stateChecksWith othersFit bytes was scratch)) refl
-  where
-    by : (c : Check) → firstOf (stateChecksWith othersFit bytes was scratch) ≡ c → Near (stepWith othersFit bytes was scratch kind x number .check)
-    by passes e = subst (λ o. Near (o .check)) (sym (with-in othersFit bytes was scratch kind x number e)) (in-near (tableOf bytes) was kind x number)
-    by (refuses n place) e = subst (λ o. Near (o .check)) (sym (with-stopped othersFit bytes was scratch kind x number e)) (subst Near e (state-near othersFit bytes was scratch))
+  in-near : (kind x number : ℕ) → Near (firstOf (stepChecks t was kind x number))
+  in-near kind x number = if-near 10 (omega arith) _ _ (λ _. own-near kind x number)
 
 module _ (bytes was : List ℕ) (scratch kind x number : ℕ) where
+  with-near : (othersFit : Bool) → Near (firstOf (stateChecksWith othersFit bytes was scratch ++ stepChecks (tableOf bytes) was kind x number))
+  with-near othersFit =
+      append-near (stateChecksWith othersFit bytes was scratch) _ (state-near othersFit bytes was scratch) (λ _. in-near (tableOf bytes) was kind x number)
+
   pub step-near : Near (stepOf bytes was scratch kind x number .check)
-  unfolding stepOf
-  step-near = with-near true bytes was scratch kind x number
+  step-near = subst Near (sym (in-order .of-step bytes was scratch kind x number)) (with-near true)
 
   pub preview-near : (next : List ℕ) → Near (previewOf bytes was scratch kind x number next .check)
-  preview-near next = subst Near (sym (preview-check bytes was scratch kind x number next)) (with-near (isWhole next) bytes was scratch kind x number)
+  preview-near next = subst Near (sym (in-order .of-preview bytes was scratch kind x number next)) (with-near (isWhole next))
 
 -- WITH A SHELF
 module _ (t : Table) (shelf : List ℕ) (name : ℕ) where

@@ -11,7 +11,7 @@ use lib.Seq.{drop-drop}
 use Rattle.basis.proofs.Numbers.{some-at, some-none, lowest-passes, lowest-before}
 use Rattle.basis.proofs.Tests.{and-both, or-left}
 use Rattle.state.specs.Layout.{stateWords}
-use Rattle.steps.specs.Shelves.{placeLimit, savedAt, isName, nameOf, savedOf, isHeld, hasFree, placeOf, savePlace, putSaved, putName}
+use Rattle.steps.specs.Shelves.{placeLimit, savedAt, isName, nameOf, savedOf, isHeld, placeOf, savePlace, putSaved, putName}
 use Rattle.shelf.specs.Shelving.{Found}
 
 module _ (shelf : List ℕ) (name : ℕ) where
@@ -36,14 +36,14 @@ module _ (shelf : List ℕ) (name : ℕ) where
       }
 
   -- of a save: the name keeps its place
-  pub keeps-place : {r : ℕ} → r ≡ placeOf shelf name → r < placeLimit → Found (isHeld shelf name || hasFree shelf) (savePlace shelf name) r
+  pub keeps-place : {r : ℕ} → r ≡ placeOf shelf name → r < placeLimit → Found (isHeld shelf name || isHeld shelf 0) (savePlace shelf name) r
   keeps-place f l =
       let e = below-held (omega arith) in
-      record { found = λ h. (or-left (isHeld shelf name) (hasFree shelf) e, f ∙ rw e); none = λ h. absurd (omega arith) }
+      record { found = λ h. (or-left (isHeld shelf name) (isHeld shelf 0) e, f ∙ rw e); none = λ h. absurd (omega arith) }
 
 -- or takes a free one
 module _ (shelf : List ℕ) (name : ℕ) {held r : ℕ} where
-  pub takes-place : held ≡ placeOf shelf name → placeLimit ≤ held → r ≡ placeOf shelf 0 → Found (isHeld shelf name || hasFree shelf) (savePlace shelf name) r
+  pub takes-place : held ≡ placeOf shelf name → placeLimit ≤ held → r ≡ placeOf shelf 0 → Found (isHeld shelf name || isHeld shelf 0) (savePlace shelf name) r
   takes-place f l g =
       let e = past-new shelf name (omega arith) in
       record { found = λ h. (rw e (below-held shelf 0 (omega arith)), g ∙ rw e); none = λ h. rw e (past-new shelf 0 (omega arith)) }

@@ -28,7 +28,7 @@ use Rattle.state.specs.Evaluation.{holds}
 use Rattle.steps.specs.Acts.{isAbsent, writesEntry, choices, chosen, allHold, valueFor, lacksValue, actChecks}
 use Rattle.steps.specs.Steps.{outOfRange, ownChecks, stepChecks}
 use Rattle.steps.specs.Runs.{stepsOf, scheduleChecks}
-use Rattle.steps.specs.Shelves.{isName, isHeld, hasFree, shelfFormed}
+use Rattle.steps.specs.Shelves.{isName, isHeld, shelfFormed}
 use Rattle.steps.specs.Points.{shelfCheck, saveChecks, heldChecks}
 use Rattle.steps.specs.Refusals.{TooMany, Unmet, NoValue, NoStamp, actConditions, ownConditions, stepConditions, runConditions, saveConditions, heldConditions}
 use Rattle.steps.proofs.Steps.{in-range}
@@ -178,7 +178,7 @@ module _ (t : Table) (shelf : List ℕ) (name : ℕ) where
   pub save-follows : Follows (shelfCheck t shelf ∷ saveChecks shelf name) (saveConditions t shelf name)
   save-follows = (
     unless-not 9 (shelfFormed shelf t) (well-formed t shelf),
-    λ e9. (unless-not 21 (isName name) (is-name name), λ e21. (unless-not 22 (isHeld shelf name || hasFree shelf) (has-room shelf name), λ e22. tt)),
+    λ e9. (unless-not 21 (isName name) (is-name name), λ e21. (unless-not 22 (isHeld shelf name || isHeld shelf 0) (has-room shelf name), λ e22. tt)),
   )
 
   pub held-follows : Follows (shelfCheck t shelf ∷ heldChecks shelf name) (heldConditions t shelf name)

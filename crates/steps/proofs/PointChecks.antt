@@ -1,4 +1,4 @@
--- When the checks of a call with a shelf pass, and which refuses.
+-- When the checks of a call with a shelf pass.
 -- Assumes nothing.
 use Prim.Native.Nat.{ℕ}
 use mathlib.Core.Bool.{Bool, true, false, not, _&&_, _||_}
@@ -8,19 +8,19 @@ use mathlib.Core.List.{List, [], _∷_, _++_}
 use lib.ListN.{length}
 use borrow.Author.Tests.{eqb-true, not-false}
 use Rattle.basis.proofs.Tests.{not-both, is-false, or-either, or-left, or-right, and-left, and-right, and-both}
-use Rattle.table.specs.Checks.{Check, passes, refuses, Refusal, refuseIf, firstOf}
+use Rattle.table.specs.Checks.{passes, refuses, Refusal, refuseIf, firstOf}
 use Rattle.table.specs.Tables.{Table}
-use Rattle.table.proofs.Checks.{first-passes, first-later, first-refuses, append-passes, append-refuses}
+use Rattle.table.proofs.Checks.{first-passes, first-later, append-passes}
 use Rattle.term.specs.Acceptance.{tableChecks}
 use Rattle.term.proofs.Acceptance.{passes-accepted}
 use Rattle.state.specs.Layout.{stateWords, isWhole}
 use Rattle.steps.specs.Steps.{stateChecksWith}
-use Rattle.steps.specs.Shelves.{isName, isHeld, hasFree, shelfFormed}
+use Rattle.steps.specs.Shelves.{isName, isHeld, shelfFormed}
 use Rattle.steps.specs.Points.{shelfCheck, saveChecks, heldChecks}
 use Rattle.steps.specs.Kept.{Held, Room, WellFormed, IsName}
 use Rattle.steps.proofs.Steps.{state-checks, checks-with}
-use Rattle.steps.proofs.NameChecks.{save-no-name, save-no-place, save-passes, not-held, held-passes}
-use Rattle.steps.proofs.Shelves.{is-name, is-held, has-free, well-formed}
+use Rattle.steps.proofs.NameChecks.{save-passes, not-held, held-passes}
+use Rattle.steps.proofs.Shelves.{is-name, is-held, well-formed}
 
 -- the lengths of other buffers, which 8 judges with the state's
 module _ (bytes : List ℕ) (scratch : ℕ) where
@@ -36,24 +36,6 @@ module _ (bytes : List ℕ) (scratch : ℕ) where
     λ p. absurd (not-both (p .0) refl),
   )
 
-  -- a length that is wrong: what the table's checks answer
-  pub unfit-table : (own : List Refusal) → firstOf (tableChecks bytes false scratch ++ own) ≡ firstOf (tableChecks bytes false scratch)
-  unfit-table own = by (firstOf (tableChecks bytes false scratch)) refl
-    where
-      by : (c : Check) → firstOf (tableChecks bytes false scratch) ≡ c → firstOf (tableChecks bytes false scratch ++ own) ≡ firstOf (tableChecks bytes false scratch)
-      by passes e = absurd (not-both (passes-accepted bytes false scratch e .fit) refl)
-      by (refuses n place) e = append-refuses (tableChecks bytes false scratch) own e ∙ sym e
-
-  pub unfit-state : (state : List ℕ) (own : List Refusal)
-      → firstOf (stateChecksWith false bytes state scratch ++ own) ≡ firstOf (tableChecks bytes false scratch)
-  unfit-state state own = by (firstOf (tableChecks bytes false scratch)) refl
-    where
-      by : (c : Check) → firstOf (tableChecks bytes false scratch) ≡ c
-          → firstOf (stateChecksWith false bytes state scratch ++ own) ≡ firstOf (tableChecks bytes false scratch)
-      by passes e = absurd (not-both (passes-accepted bytes false scratch e .fit) refl)
-      by (refuses n place) e =
-          append-refuses (stateChecksWith false bytes state scratch) own (append-refuses (tableChecks bytes false scratch) _ e) ∙ sym e
-
   pub state-table : (state : List ℕ) → firstOf (stateChecksWith true bytes state scratch) ≡ passes → firstOf (tableChecks bytes true scratch) ≡ passes
   state-table state e = fits-table (isWhole state) .0 (append-passes (tableChecks bytes (isWhole state) scratch) _ e .0) .1
 
@@ -62,33 +44,26 @@ module _ (bytes : List ℕ) (scratch : ℕ) where
 
 -- a name is held, or a place is free
 module _ (shelf : List ℕ) (name : ℕ) where
-  pub has-room : ((isHeld shelf name || hasFree shelf) ≡ true) ↔ Room shelf name
+  pub has-room : ((isHeld shelf name || isHeld shelf 0) ≡ true) ↔ Room shelf name
   has-room = (
-    λ e. ⊎-elim (λ (d : isHeld shelf name ≡ true). inl (is-held shelf name .0 d)) (λ (d : hasFree shelf ≡ true). inr (has-free shelf .0 d))
-        (or-either (isHeld shelf name) (hasFree shelf) e),
-    ⊎-elim (λ w. or-left (isHeld shelf name) (hasFree shelf) (is-held shelf name .1 w)) (λ w. or-right (isHeld shelf name) (hasFree shelf) (has-free shelf .1 w)),
+    λ e. ⊎-elim (λ (d : isHeld shelf name ≡ true). inl (is-held shelf name .0 d)) (λ (d : isHeld shelf 0 ≡ true). inr (is-held shelf 0 .0 d))
+        (or-either (isHeld shelf name) (isHeld shelf 0) e),
+    ⊎-elim (λ w. or-left (isHeld shelf name) (isHeld shelf 0) (is-held shelf name .1 w)) (λ w. or-right (isHeld shelf name) (isHeld shelf 0) (is-held shelf 0 .1 w)),
   )
 
 -- the shelf's check and the name's
 module _ (t : Table) (shelf : List ℕ) (name : ℕ) where
   abbrev roomy : Bool
-  roomy = isHeld shelf name || hasFree shelf
+  roomy = isHeld shelf name || isHeld shelf 0
 
   abbrev known : Bool
   known = isName name && isHeld shelf name
 
-  -- the shelf's refuses; where it does not, the name's decide
-  pub not-formed : (own : List Refusal) → (WellFormed shelf t → ⊥) → firstOf (shelfCheck t shelf ∷ own) ≡ refuses 9 0
-  not-formed own n = first-refuses (shelfCheck t shelf) own (ap not (is-false (shelfFormed shelf t) (λ e. n (well-formed t shelf .0 e))))
-
+  -- where the shelf's does not refuse, the name's decide
   formed-first : WellFormed shelf t → (own : List Refusal) → firstOf (shelfCheck t shelf ∷ own) ≡ firstOf own
   formed-first w own = first-later (shelfCheck t shelf) own (ap not (well-formed t shelf .1 w))
 
   -- A SAVE'S
-  pub not-name : WellFormed shelf t → (IsName name → ⊥) → firstOf (shelfCheck t shelf ∷ saveChecks shelf name) ≡ refuses 21 0
-  not-name w n =
-      formed-first w (saveChecks shelf name) ∙ save-no-name shelf name (is-false (isName name) (λ e. n (is-name name .0 e)))
-
   pub save-checks : (firstOf (shelfCheck t shelf ∷ saveChecks shelf name) ≡ passes) ↔ (WellFormed shelf t × IsName name × Room shelf name)
   save-checks = (
     λ e.
@@ -99,10 +74,6 @@ module _ (t : Table) (shelf : List ℕ) (name : ℕ) where
     λ p.
         formed-first (p .0) (saveChecks shelf name) ∙ save-passes shelf name (is-name name .1 (p .1)) (has-room shelf name .1 (p .2)),
   )
-
-  pub no-room : WellFormed shelf t → IsName name → (Room shelf name → ⊥) → firstOf (shelfCheck t shelf ∷ saveChecks shelf name) ≡ refuses 22 0
-  no-room w h n =
-      formed-first w (saveChecks shelf name) ∙ save-no-place shelf name (is-name name .1 h) (is-false roomy (λ e. n (has-room shelf name .0 e)))
 
   -- A RESTORE'S AND A DROP'S
   pub held-checks : (firstOf (shelfCheck t shelf ∷ heldChecks shelf name) ≡ passes) ↔ (WellFormed shelf t × IsName name × Held shelf name)

@@ -8,12 +8,11 @@ use mathlib.Core.List.{List}
 use native.Mathlib.Omega.{arith}
 use lib.Dec.{eqb, leb, ltb}
 use borrow.Author.Tests.{ltb-true, leb-true, eqb-true, lt-ltb, le-leb, eq-eqb, ne-eqb}
-use Rattle.basis.specs.Numbers.{someBelow, lowest}
 use Rattle.basis.proofs.Tests.{not-both, or-either, or-left, or-right, and-left, and-right, and-both, same-or-other}
 use Rattle.basis.proofs.Numbers.{some-at, some-witness, every-at, every-all, lowest-at, lowest-below, lowest-before, lowest-passes}
 use Rattle.table.specs.Tables.{Table}
 use Rattle.state.specs.WellFormed.{wellFormed}
-use Rattle.steps.specs.Shelves.{placeLimit, nameLimit, shelfWords, isName, nameOf, savedOf, isNamed, isHeld, hasFree, placeOf, freePlace, savePlace, placeFormed, shelfFormed}
+use Rattle.steps.specs.Shelves.{placeLimit, nameLimit, shelfWords, isName, nameOf, savedOf, isNamed, isHeld, placeOf, savePlace, placeFormed, shelfFormed}
 use Rattle.steps.specs.Kept.{Free, Holds, Held, LowestFree, WellFormed, OnlyAt, IsName}
 
 pub is-name : (name : ℕ) → (isName name ≡ true) ↔ IsName name
@@ -23,34 +22,22 @@ is-name name = (
 )
 
 module _ (shelf : List ℕ) where
-  -- some place has it, and some place is free
-  some-named : (name : ℕ) → someBelow (isNamed shelf name) placeLimit ≡ true → (i : ℕ) × (i < placeLimit) × (nameOf shelf i ≡ name)
-  some-named name e = let w = some-witness (isNamed shelf name) placeLimit e in (w .0, w .1, eqb-true (nameOf shelf (w .0)) name (w .2))
-
-  named-some : (name i : ℕ) → i < placeLimit → nameOf shelf i ≡ name → someBelow (isNamed shelf name) placeLimit ≡ true
-  named-some name i h e = some-at (isNamed shelf name) placeLimit i h (eq-eqb (nameOf shelf i) name e)
-
+  -- some place has it; of 0, some place is free
   pub is-held : (name : ℕ) → (isHeld shelf name ≡ true) ↔ Held shelf name
   is-held name = (
-    λ e. let w = some-named name e in (w .0, record { place = w .1; named = w .2 }),
-    λ w. named-some name (w .0) (w .1 .place) (w .1 .named),
+    λ e. let w = some-witness (isNamed shelf name) placeLimit e in (w .0, record { place = w .1; named = eqb-true (nameOf shelf (w .0)) name (w .2) }),
+    λ w. some-at (isNamed shelf name) placeLimit (w .0) (w .1 .place) (eq-eqb (nameOf shelf (w .0)) name (w .1 .named)),
   )
 
-  pub has-free : (hasFree shelf ≡ true) ↔ ((i : ℕ) × (i < placeLimit) × Free shelf i)
-  has-free = (some-named 0, λ w. named-some 0 (w .0) (w .1) (w .2))
-
   -- the place of a held name, of a new one, and of a save
-  lowest-named : (name : ℕ) → someBelow (isNamed shelf name) placeLimit ≡ true → Holds shelf name (lowest (isNamed shelf name) placeLimit)
-  lowest-named name e =
-      let l = lowest-below (isNamed shelf name) placeLimit e in
-      record { place = l; named = eqb-true (nameOf shelf (lowest (isNamed shelf name) placeLimit)) name (lowest-passes (isNamed shelf name) placeLimit l) }
-
   pub place-held : (name : ℕ) → isHeld shelf name ≡ true → Holds shelf name (placeOf shelf name)
-  place-held name e = lowest-named name e
+  place-held name e =
+      let l = lowest-below (isNamed shelf name) placeLimit e in
+      record { place = l; named = eqb-true (nameOf shelf (placeOf shelf name)) name (lowest-passes (isNamed shelf name) placeLimit l) }
 
-  place-new : (name : ℕ) → isHeld shelf name ≡ false → hasFree shelf ≡ true → LowestFree shelf name (freePlace shelf)
+  place-new : (name : ℕ) → isHeld shelf name ≡ false → isHeld shelf 0 ≡ true → LowestFree shelf name (placeOf shelf 0)
   place-new name d e =
-      let h = lowest-named 0 e in
+      let h = place-held 0 e in
       record {
         place = h .place;
         free = h .named;
@@ -58,11 +45,11 @@ module _ (shelf : List ℕ) where
         new = λ w. not-both (is-held name .1 w) d;
       }
 
-  pub place-saved : (name : ℕ) → (isHeld shelf name || hasFree shelf) ≡ true → Holds shelf name (savePlace shelf name) ⊎ LowestFree shelf name (savePlace shelf name)
+  pub place-saved : (name : ℕ) → (isHeld shelf name || isHeld shelf 0) ≡ true → Holds shelf name (savePlace shelf name) ⊎ LowestFree shelf name (savePlace shelf name)
   place-saved name = by (isHeld shelf name) refl
     where
-      by : (b : Bool) → isHeld shelf name ≡ b → (b || hasFree shelf) ≡ true
-          → Holds shelf name (cond b (placeOf shelf name) (freePlace shelf)) ⊎ LowestFree shelf name (cond b (placeOf shelf name) (freePlace shelf))
+      by : (b : Bool) → isHeld shelf name ≡ b → (b || isHeld shelf 0) ≡ true
+          → Holds shelf name (cond b (placeOf shelf name) (placeOf shelf 0)) ⊎ LowestFree shelf name (cond b (placeOf shelf name) (placeOf shelf 0))
       by true d e = inl (place-held name d)
       by false d e = inr (place-new name d e)
 

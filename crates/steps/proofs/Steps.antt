@@ -4,7 +4,7 @@ use Prim.Native.Nat.{ℕ, _<_, _≤_}
 use mathlib.Core.Bool.{Bool, true, false, not, _&&_}
 use mathlib.Core.Path.{_≡_, refl, sym, ap, _∙_}
 use mathlib.Core.Logic.{_↔_, ⊎-elim}
-use mathlib.Core.List.{List, []}
+use mathlib.Core.List.{List, [], _++_}
 use native.Mathlib.Omega.{arith}
 use lib.Dec.{eqb, ltb, leb}
 use lib.ListN.{length}
@@ -13,7 +13,7 @@ use Rattle.basis.specs.KeySets.{has}
 use Rattle.basis.proofs.Tests.{not-both, and-left, and-right, and-fails, or-neither}
 use Rattle.table.specs.Checks.{Check, passes, refuses, Refusal, refuseIf, firstOf}
 use Rattle.table.specs.Tables.{Table, tableOf}
-use Rattle.table.proofs.Checks.{first-passes, first-both, none-passes, append-passes, append-both}
+use Rattle.table.proofs.Checks.{first-passes, first-both, none-passes, append-later, append-refuses, append-passes, append-both}
 use Rattle.term.specs.Terms.{words}
 use Rattle.term.specs.Processes.{allFew}
 use Rattle.term.specs.Accepted.{Acceptable}
@@ -26,7 +26,7 @@ use Rattle.term.specs.Acceptance.{tableChecks}
 use Rattle.steps.specs.declared.Tally.{Tally}
 use Rattle.steps.specs.Tallies.{noTally}
 use Rattle.steps.specs.Refusals.{InRange}
-use Rattle.steps.specs.Steps.{Outcome, done, refused, outcome, loadOf, outOfRange, ownChecks, tallyOf, after, stepChecks, stepIn, stateChecksWith, stateChecks, stepWith, stepOf}
+use Rattle.steps.specs.Steps.{Outcome, done, refused, outcome, loadOf, outOfRange, ownChecks, tallyOf, after, stepChecks, stepIn, stateChecksWith, stateChecks, stepOf}
 
 module _ (was : List ℕ) (tally : Tally) (s : List ℕ) where
   pub outcome-check : (c : Check) → outcome c was tally s .check ≡ c
@@ -165,7 +165,7 @@ pub record Done (bytes was : List ℕ) (scratch kind x number : ℕ) : Type 0 wh
   pub range : InRange (tableOf bytes) kind x number
   pub own : firstOf (ownChecks (tableOf bytes) was kind x number) ≡ passes
 
--- 1 to 9, and a step after them, of a call with other buffers
+-- 1 to 9, of a call with other buffers
 module _ (othersFit : Bool) (bytes was : List ℕ) (scratch : ℕ) where
   abbrev whole : Bool
   whole = othersFit && isWhole was
@@ -180,15 +180,6 @@ module _ (othersFit : Bool) (bytes was : List ℕ) (scratch : ℕ) where
     λ p. append-both (tableChecks bytes whole scratch) _ (accepted-passes bytes whole scratch (p .0)) (first-both (refuseIf 9 (not formed)) [] (ap not (p .1)) none-passes),
   )
 
-  module _ (kind x number : ℕ) where
-    pub with-in : firstOf (stateChecksWith othersFit bytes was scratch) ≡ passes
-        → stepWith othersFit bytes was scratch kind x number ≡ stepIn (tableOf bytes) was kind x number
-    with-in e = rw (stepWith, e)
-
-    pub with-stopped : {n place : ℕ} → firstOf (stateChecksWith othersFit bytes was scratch) ≡ refuses n place
-        → stepWith othersFit bytes was scratch kind x number ≡ refused n place was
-    with-stopped e = rw (stepWith, e)
-
 module _ (bytes was : List ℕ) (scratch : ℕ) where
   abbrev t : Table
   t = tableOf bytes
@@ -197,54 +188,43 @@ module _ (bytes was : List ℕ) (scratch : ℕ) where
   state-checks = checks-with true bytes was scratch
 
   module _ (kind x number : ℕ) where
-    pub step-in : firstOf (stateChecks bytes was scratch) ≡ passes → stepOf bytes was scratch kind x number ≡ stepIn (tableOf bytes) was kind x number
-    unfolding stepOf
-    step-in e = with-in true bytes was scratch kind x number e
-
-    pub step-stopped : {n place : ℕ} → firstOf (stateChecks bytes was scratch) ≡ refuses n place → stepOf bytes was scratch kind x number ≡ refused n place was
-    unfolding stepOf
-    step-stopped e = with-stopped true bytes was scratch kind x number e
+    abbrev opening : List Refusal
+    opening = stateChecks bytes was scratch
 
     abbrev checks : List Refusal
     checks = stepChecks t was kind x number
 
-    pub in-check : stepIn t was kind x number .check ≡ firstOf checks
-    unfolding stepIn
-    in-check = outcome-check was (tallyOf t was kind x number) (after t was kind x number) (firstOf checks)
+    pub step-check : stepOf bytes was scratch kind x number .check ≡ firstOf (opening ++ checks)
+    unfolding stepOf
+    step-check = outcome-check was (tallyOf t was kind x number) (after t was kind x number) (firstOf (opening ++ checks))
 
-    -- what the checks of table and state decide
-    stepBy : Check → Outcome
-    stepBy c = elim c [ passes ↦ stepIn t was kind x number | refuses n place ↦ outcome (refuses n place) was noTally was ]
+    -- where 1 to 9 pass it is a step of that table and state; else it is refused
+    pub step-in : firstOf (stateChecks bytes was scratch) ≡ passes → stepOf bytes was scratch kind x number ≡ stepIn (tableOf bytes) was kind x number
+    unfolding stepOf stepIn
+    step-in e = ap (λ (c : Check). outcome c was (tallyOf t was kind x number) (after t was kind x number)) (append-later opening checks e)
+
+    pub step-stopped : {n place : ℕ} → firstOf (stateChecks bytes was scratch) ≡ refuses n place → stepOf bytes was scratch kind x number ≡ refused n place was
+    unfolding stepOf
+    step-stopped e = outcome-refused was (tallyOf t was kind x number) (after t was kind x number) (firstOf (opening ++ checks)) (append-refuses opening checks e)
 
     -- a step that is done has passed all checks
     pub done-step : stepOf bytes was scratch kind x number .check ≡ passes → Done bytes was scratch kind x number
-    unfolding stepOf stepBy outcome
-    done-step e = by (firstOf (stateChecks bytes was scratch)) refl e
-      where
-        by : (c : Check) → firstOf (stateChecks bytes was scratch) ≡ c
-            → stepBy c .check ≡ passes
-            → Done bytes was scratch kind x number
-        by passes d e =
-            let p = state-checks .0 d in
-            let w = first-passes (refuseIf 10 (outOfRange t kind x number)) (ownChecks t was kind x number) (sym in-check ∙ e) in
-            record { accepted = p .0; whole = eqb-true (length was) stateWords (p .0 .fit); formed = p .1; range = in-range t was kind x number .0 (w .0); own = w .1 }
-        by (refuses n place) d e = absurd (let z : _≡_ {A = ℕ} 0 1 = cc in omega arith)
+    done-step e =
+        let w = append-passes opening checks (sym step-check ∙ e) in
+        let p = state-checks .0 (w .0) in
+        let v = first-passes (refuseIf 10 (outOfRange t kind x number)) (ownChecks t was kind x number) (w .1) in
+        record { accepted = p .0; whole = eqb-true (length was) stateWords (p .0 .fit); formed = p .1; range = in-range t was kind x number .0 (v .0); own = v .1 }
 
     -- and comes to this
     pub step-done : Done bytes was scratch kind x number
         → stepOf bytes was scratch kind x number ≡ done (tallyOf (tableOf bytes) was kind x number) (after (tableOf bytes) was kind x number)
-    unfolding stepIn
+    unfolding stepOf
     step-done d =
-        step-in (state-checks .1 (d .accepted, d .formed))
-        ∙ outcome-done was (tallyOf t was kind x number) (after t was kind x number) (firstOf checks)
-        (first-both (refuseIf 10 (outOfRange t kind x number)) (ownChecks t was kind x number) (in-range t was kind x number .1 (d .range)) (d .own))
+        outcome-done was (tallyOf t was kind x number) (after t was kind x number) (firstOf (opening ++ checks))
+        (append-both opening checks (state-checks .1 (d .accepted, d .formed))
+        (first-both (refuseIf 10 (outOfRange t kind x number)) (ownChecks t was kind x number) (in-range t was kind x number .1 (d .range)) (d .own)))
 
     -- a refused step leaves the state as it was
     pub step-refused : {n place : ℕ} → stepOf bytes was scratch kind x number .check ≡ refuses n place → stepOf bytes was scratch kind x number ≡ refused n place was
-    unfolding stepOf stepBy outcome stepIn
-    step-refused {n} {place} e = by (firstOf (stateChecks bytes was scratch)) e
-      where
-        by : (c : Check) → stepBy c .check ≡ refuses n place
-            → stepBy c ≡ refused n place was
-        by passes e = outcome-refused was (tallyOf t was kind x number) (after t was kind x number) (firstOf checks) (sym in-check ∙ e)
-        by (refuses m at) e = ap (λ c. outcome c was noTally was) e
+    unfolding stepOf
+    step-refused e = outcome-refused was (tallyOf t was kind x number) (after t was kind x number) (firstOf (opening ++ checks)) (sym step-check ∙ e)

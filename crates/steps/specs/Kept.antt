@@ -1,6 +1,6 @@
 -- What a well-formed shelf is, and what save, restore and drop do, in other words.
 use Prim.Native.Nat.{ℕ, _≤_, _<_}
-use mathlib.Core.Bool.{true, false}
+use mathlib.Core.Bool.{true}
 use mathlib.Core.Logic.{_⊎_, _↔_}
 use mathlib.Core.Path.{_≡_}
 use mathlib.Core.List.{List}
@@ -11,7 +11,7 @@ use Rattle.term.specs.Acceptance.{tableChecks}
 use Rattle.state.specs.WellFormed.{wellFormed}
 use Rattle.steps.specs.Steps.{stateChecksWith}
 use Rattle.steps.specs.Shelves.{nameOf, savedOf, shelfFormed}
-use Rattle.steps.specs.Points.{saveOf, restoreOf, dropOf}
+use Rattle.steps.specs.Points.{Change, saveOf, restoreOf, dropOf}
 
 module _ (shelf : List ℕ) where
   -- place i is free
@@ -28,7 +28,7 @@ module _ (shelf : List ℕ) where
 
   -- there is a place for the name: it is held, or a place is free
   abbrev pub Room : ℕ → Type 0
-  Room name = Held name ⊎ ((i : ℕ) × (i < 8) × Free i)
+  Room name = Held name ⊎ Held 0
 
   -- the name is new, and place i is the lowest free one
   pub record LowestFree (name i : ℕ) : Type 0 where
@@ -64,60 +64,33 @@ pub record Usable (bytes : List ℕ) (scratch : ℕ) (shelf : List ℕ) : Type 0
   pub whole : length shelf ≡ 37656
   pub formed : WellFormed shelf (tableOf bytes)
 
--- WHEN IT IS DONE, WHAT IT DOES, AND WHICH REFUSAL IS ANSWERED
+-- A CALL, whose buffer came as `was`: when it is done, what the buffer is then, and that a refusal leaves it as it came
+pub record Does (call : Change) (was : List ℕ) (When : Type 0) (Then : List ℕ → Type 0) : Type 0 where
+  pub done-when : (call .check ≡ passes) ↔ When
+  pub done : call .check ≡ passes → Then (call .words)
+  pub refused : (n place : ℕ) → call .check ≡ refuses n place → call .words ≡ was
+
 module _ (bytes : List ℕ) (scratch : ℕ) (shelf : List ℕ) (name : ℕ) where
-  pub record Drops : Type 0 where
-    pub done-when : (dropOf bytes scratch shelf name .check ≡ passes) ↔ (Usable bytes scratch shelf × IsName name × Held shelf name)
-    -- the name's word becomes 0; the state that stands there stays
-    pub done : dropOf bytes scratch shelf name .check ≡ passes → (i : ℕ) × Holds shelf name i
-        × OnlyAt shelf i 0 (savedOf shelf i) (dropOf bytes scratch shelf name .words)
-    pub formed : dropOf bytes scratch shelf name .check ≡ passes → WellFormed (dropOf bytes scratch shelf name .words) (tableOf bytes)
-    pub refused : (n place : ℕ) → dropOf bytes scratch shelf name .check ≡ refuses n place → dropOf bytes scratch shelf name .words ≡ shelf
-    -- 1, 2, 3 or 8: the shelf's length is wrong
-    pub wrong : (length shelf ≡ 37656 → ⊥) → dropOf bytes scratch shelf name .check ≡ firstOf (tableChecks bytes false scratch)
-    -- 9: the shelf is not well formed
-    pub broken : firstOf (tableChecks bytes true scratch) ≡ passes → length shelf ≡ 37656 → (WellFormed shelf (tableOf bytes) → ⊥)
-        → dropOf bytes scratch shelf name .check ≡ refuses 9 0
-    -- 21: it is no name, or is not held
-    pub not-held : Usable bytes scratch shelf → (IsName name × Held shelf name → ⊥) → dropOf bytes scratch shelf name .check ≡ refuses 21 0
+  -- the name's word becomes 0; the state that stands there stays
+  abbrev pub Drops : Type 0
+  Drops =
+      Does (dropOf bytes scratch shelf name) shelf (Usable bytes scratch shelf × IsName name × Held shelf name)
+      (λ after. (i : ℕ) × Holds shelf name i × OnlyAt shelf i 0 (savedOf shelf i) after × WellFormed after (tableOf bytes))
 
   module _ (state : List ℕ) where
-    pub record Saves : Type 0 where
-      pub done-when : (saveOf bytes state scratch shelf name .check ≡ passes)
-          ↔ (StatePasses bytes scratch state × Usable bytes scratch shelf × IsName name × Room shelf name)
-      -- the name keeps its place or takes the lowest free one, which gets the state
-      pub done : saveOf bytes state scratch shelf name .check ≡ passes → (i : ℕ) × (Holds shelf name i ⊎ LowestFree shelf name i)
-          × OnlyAt shelf i name state (saveOf bytes state scratch shelf name .words)
-      pub formed : saveOf bytes state scratch shelf name .check ≡ passes → WellFormed (saveOf bytes state scratch shelf name .words) (tableOf bytes)
-      pub refused : (n place : ℕ) → saveOf bytes state scratch shelf name .check ≡ refuses n place → saveOf bytes state scratch shelf name .words ≡ shelf
-      -- 1, 2, 3 or 8: the shelf's length is wrong
-      pub wrong : (length shelf ≡ 37656 → ⊥) → saveOf bytes state scratch shelf name .check ≡ firstOf (tableChecks bytes false scratch)
-      -- 9: the shelf is not well formed
-      pub broken : StatePasses bytes scratch state → length shelf ≡ 37656 → (WellFormed shelf (tableOf bytes) → ⊥)
-          → saveOf bytes state scratch shelf name .check ≡ refuses 9 0
-      -- 21: it is no name
-      pub no-name : StatePasses bytes scratch state → Usable bytes scratch shelf → (IsName name → ⊥)
-          → saveOf bytes state scratch shelf name .check ≡ refuses 21 0
-      -- 22: a new name, and no place is free
-      pub full : StatePasses bytes scratch state → Usable bytes scratch shelf → IsName name → (Room shelf name → ⊥)
-          → saveOf bytes state scratch shelf name .check ≡ refuses 22 0
+    -- the name keeps its place or takes the lowest free one, which gets the state
+    abbrev pub Saves : Type 0
+    Saves =
+        Does (saveOf bytes state scratch shelf name) shelf (StatePasses bytes scratch state × Usable bytes scratch shelf × IsName name × Room shelf name)
+        (λ after. (i : ℕ) × (Holds shelf name i ⊎ LowestFree shelf name i) × OnlyAt shelf i name state after × WellFormed after (tableOf bytes))
 
-    pub record Restores : Type 0 where
-      pub done-when : (restoreOf bytes state scratch shelf name .check ≡ passes)
-          ↔ (StatePasses bytes scratch state × Usable bytes scratch shelf × IsName name × Held shelf name)
-      pub done : restoreOf bytes state scratch shelf name .check ≡ passes → (i : ℕ) × Holds shelf name i
-          × (restoreOf bytes state scratch shelf name .words ≡ savedOf shelf i)
-      pub refused : (n place : ℕ) → restoreOf bytes state scratch shelf name .check ≡ refuses n place → restoreOf bytes state scratch shelf name .words ≡ state
-      -- 1, 2, 3 or 8: the shelf's length is wrong
-      pub wrong : (length shelf ≡ 37656 → ⊥) → restoreOf bytes state scratch shelf name .check ≡ firstOf (tableChecks bytes false scratch)
-      -- 9: the shelf is not well formed
-      pub broken : StatePasses bytes scratch state → length shelf ≡ 37656 → (WellFormed shelf (tableOf bytes) → ⊥)
-          → restoreOf bytes state scratch shelf name .check ≡ refuses 9 0
-      -- 21: it is no name, or is not held
-      pub not-held : StatePasses bytes scratch state → Usable bytes scratch shelf → (IsName name × Held shelf name → ⊥)
-          → restoreOf bytes state scratch shelf name .check ≡ refuses 21 0
+    -- the state becomes the one at the name's place
+    abbrev pub Restores : Type 0
+    Restores =
+        Does (restoreOf bytes state scratch shelf name) state (StatePasses bytes scratch state × Usable bytes scratch shelf × IsName name × Held shelf name)
+        (λ after. (i : ℕ) × Holds shelf name i × (after ≡ savedOf shelf i))
 
--- for every input
+-- for every input. Which refusal is answered, Refusals says
 pub record Kept : Type 0 where
   pub well-formed : (t : Table) (shelf : List ℕ) → (shelfFormed shelf t ≡ true) ↔ WellFormed shelf t
   pub saves : (bytes : List ℕ) (scratch : ℕ) (shelf : List ℕ) (name : ℕ) (state : List ℕ) → Saves bytes scratch shelf name state

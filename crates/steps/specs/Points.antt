@@ -2,21 +2,19 @@
 use Prim.Native.Nat.{ℕ}
 use mathlib.Core.Bool.{not, _&&_, _||_}
 use mathlib.Core.List.{List, [], _∷_, _++_}
-use Rattle.table.specs.Checks.{Check, passes, refuses, Refusal, refuseIf, firstOf}
+use Rattle.table.specs.Checks.{Check, Refusal, refuseIf, firstOf, ifPasses}
 use Rattle.table.specs.Tables.{Table, tableOf}
 use Rattle.term.specs.Acceptance.{tableChecks}
 use Rattle.steps.specs.Steps.{stateChecksWith}
-use Rattle.steps.specs.Shelves.{isName, isWholeShelf, isHeld, hasFree, placeOf, savePlace, savedOf, shelfFormed, putSaved, putName}
+use Rattle.steps.specs.Shelves.{isName, isWholeShelf, isHeld, placeOf, savePlace, savedOf, shelfFormed, putSaved, putName}
 
 -- what a call that may write one lent buffer comes to: its check, and the words of that buffer after
 pub record Change : Type 0 where
   pub check : Check
   pub words : List ℕ
 
--- a refusal leaves them as they came
 unfoldable pub change : Check → List ℕ → List ℕ → Change
-change passes was words = record { check = passes; words = words }
-change (refuses number place) was words = record { check = refuses number place; words = was }
+change c was words = record { check = c; words = ifPasses c words was }
 
 -- 9: the shelf is not well formed
 abbrev pub shelfCheck : Table → List ℕ → Refusal
@@ -24,7 +22,7 @@ shelfCheck t shelf = refuseIf 9 (not (shelfFormed shelf t))
 
 -- a save's own: 21, it is no name; 22, a new name meets eight held ones
 abbrev pub saveChecks : List ℕ → ℕ → List Refusal
-saveChecks shelf name = refuseIf 21 (not (isName name)) ∷ refuseIf 22 (not (isHeld shelf name || hasFree shelf)) ∷ []
+saveChecks shelf name = refuseIf 21 (not (isName name)) ∷ refuseIf 22 (not (isHeld shelf name || isHeld shelf 0)) ∷ []
 
 -- a restore's and a drop's: 21, it is no name, or is not held
 abbrev pub heldChecks : List ℕ → ℕ → List Refusal

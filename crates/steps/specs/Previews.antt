@@ -2,19 +2,18 @@
 use Prim.Native.Nat.{ℕ}
 use mathlib.Core.Bool.{true, false}
 use mathlib.Core.Path.{_≡_}
-use mathlib.Core.List.{List}
+use mathlib.Core.List.{List, _++_}
 use Rattle.table.specs.Checks.{passes, refuses, firstOf}
+use Rattle.table.specs.Tables.{tableOf}
 use Rattle.term.specs.Acceptance.{tableChecks}
 use Rattle.state.specs.Layout.{isWhole}
-use Rattle.steps.specs.Steps.{Outcome, refused as refusedAt, outcome, stepWith, stepOf}
-
--- what a call comes to, with the state after in a buffer that holds `next`: a refusal leaves the buffer as it came
-abbrev pub into : List ℕ → Outcome → Outcome
-into next o = outcome (o .check) next (o .tally) (o .state)
+use Rattle.steps.specs.Steps.{Outcome, refused as refusedAt, outcome, tallyOf, after, stepChecks, stateChecksWith, stepOf}
 
 -- `next` is the second buffer as it came; 8 judges its length too
 unfoldable pub previewOf : List ℕ → List ℕ → ℕ → ℕ → ℕ → ℕ → List ℕ → Outcome
-previewOf bytes was scratchLength kind x number next = into next (stepWith (isWhole next) bytes was scratchLength kind x number)
+previewOf bytes was scratchLength kind x number next =
+    outcome (firstOf (stateChecksWith (isWhole next) bytes was scratchLength ++ stepChecks (tableOf bytes) was kind x number)) next
+    (tallyOf (tableOf bytes) was kind x number) (after (tableOf bytes) was kind x number)
 
 -- the same in other words
 pub record OnACopy (bytes was : List ℕ) (scratch kind x number : ℕ) (next : List ℕ) : Type 0 where

@@ -6,7 +6,7 @@ use lib.Dec.{eqb, ltb}
 use lib.ListN.{length, getD, set}
 use Rattle.basis.specs.Numbers.{forEach}
 use Rattle.basis.specs.Bytes.{u16At}
-use Rattle.table.specs.Checks.{Check, passes, refuses, Refusal, refuseIf, firstOf, passed, numberOf}
+use Rattle.table.specs.Checks.{Check, Refusal, refuseIf, firstOf, ifPasses, passed, numberOf}
 use Rattle.table.specs.Tables.{Table, tableOf}
 use Rattle.steps.specs.declared.Tally.{Tally}
 use Rattle.steps.specs.Tallies.{noTally, addTally}
@@ -71,10 +71,4 @@ pub record Rehearsal : Type 0 where
 unfoldable pub runOf : List ℕ → List ℕ → ℕ → List ℕ → List ℕ → Rehearsal
 runOf bytes was scratchLength schedule answers =
     let c = firstOf (stateChecks bytes was scratchLength ++ scheduleChecks schedule answers) in
-    record {
-      check = c;
-      progress = elim c [
-        | passes ↦ ran (tableOf bytes) schedule (stepsOf schedule) (begun was answers)
-        | refuses number place ↦ begun was answers
-      ];
-    }
+    record { check = c; progress = ifPasses c (ran (tableOf bytes) schedule (stepsOf schedule) (begun was answers)) (begun was answers) }

@@ -45,23 +45,17 @@ module _ (shelf : List ℕ) where
   abbrev pub isNamed : ℕ → ℕ → Bool
   isNamed name i = eqb (nameOf i) name
 
-  -- some place has the name; some place is free
+  -- some place has the name; of 0, some place is free
   abbrev pub isHeld : ℕ → Bool
   isHeld name = someBelow (isNamed name) placeLimit
 
-  abbrev pub hasFree : Bool
-  hasFree = someBelow (isNamed 0) placeLimit
-
-  -- the place that a name holds, and the lowest free one; 8, which is no place, where there is none
+  -- the lowest place with the name, of 0 the lowest free one; 8, which is no place, where there is none
   abbrev pub placeOf : ℕ → ℕ
   placeOf name = lowest (isNamed name) placeLimit
 
-  abbrev pub freePlace : ℕ
-  freePlace = lowest (isNamed 0) placeLimit
-
   -- a held name keeps its place; a new one takes the lowest free place
   abbrev pub savePlace : ℕ → ℕ
-  savePlace name = cond (isHeld name) (placeOf name) freePlace
+  savePlace name = cond (isHeld name) (placeOf name) (placeOf 0)
 
   -- WELL FORMED: place i is free; or its name is at most 255, no lower place has it, and its state is well formed
   unfoldable pub placeFormed : Table → ℕ → Bool

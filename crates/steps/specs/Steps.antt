@@ -4,7 +4,7 @@ use mathlib.Core.Bool.{Bool, true, false, not, _&&_, _||_}
 use mathlib.Core.List.{List, [], _∷_, _++_}
 use lib.Dec.{ltb}
 use Rattle.basis.specs.KeySets.{has}
-use Rattle.table.specs.Checks.{Check, passes, refuses, Refusal, refuseIf, firstOf}
+use Rattle.table.specs.Checks.{Check, passes, refuses, Refusal, refuseIf, firstOf, ifPasses}
 use Rattle.table.specs.Tables.{Table, tableOf}
 use Rattle.term.specs.Acceptance.{tableChecks}
 use Rattle.state.specs.Layout.{isWhole, zcOf, zpOf}
@@ -28,8 +28,7 @@ refused number place s = record { check = refuses number place; tally = noTally;
 
 -- a call that is refused leaves the state as it came, and counts nothing
 unfoldable pub outcome : Check → List ℕ → Tally → List ℕ → Outcome
-outcome passes was tally state = done tally state
-outcome (refuses number place) was tally state = refused number place was
+outcome c was tally state = record { check = c; tally = ifPasses c tally noTally; state = ifPasses c state was }
 
 abbrev pub loadOf : List ℕ → List ℕ → ℕ → Outcome
 loadOf bytes was scratchLength =
@@ -74,13 +73,8 @@ stateChecksWith othersFit bytes was scratchLength =
 abbrev pub stateChecks : List ℕ → List ℕ → ℕ → List Refusal
 stateChecks bytes was scratchLength = stateChecksWith true bytes was scratchLength
 
-abbrev pub stepWith : Bool → List ℕ → List ℕ → ℕ → ℕ → ℕ → ℕ → Outcome
-stepWith othersFit bytes was scratchLength kind x number =
-    elim (firstOf (stateChecksWith othersFit bytes was scratchLength)) [
-      | passes ↦ stepIn (tableOf bytes) was kind x number
-      | refuses n place ↦ refused n place was
-    ]
-
 -- a step of any table and state
 unfoldable pub stepOf : List ℕ → List ℕ → ℕ → ℕ → ℕ → ℕ → Outcome
-stepOf bytes was scratchLength kind x number = stepWith true bytes was scratchLength kind x number
+stepOf bytes was scratchLength kind x number =
+    outcome (firstOf (stateChecks bytes was scratchLength ++ stepChecks (tableOf bytes) was kind x number)) was
+    (tallyOf (tableOf bytes) was kind x number) (after (tableOf bytes) was kind x number)

@@ -32,6 +32,11 @@ abbrev pub passed : Check → Bool
 passed passes = true
 passed (refuses number place) = false
 
+-- what comes of it where they pass; a refusal leaves it as it came
+abbrev pub ifPasses : {A : Type 0} → Check → A → A → A
+ifPasses passes after was = after
+ifPasses (refuses number place) after was = was
+
 -- the number and the place to report; 0 and 0 where nothing is refused
 abbrev pub numberOf : Check → ℕ
 numberOf passes = 0

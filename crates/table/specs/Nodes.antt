@@ -17,43 +17,43 @@ fields p q = record { p = p; q = q }
 pub data Row : Type 0 where
   row : ℕ → Field → Field → Row
 
--- the list of kinds, but for the root: kind, p, q, and its name
+-- the list of kinds, but for the root: kind, p, q
 unfoldable pub processRows : List Row
 processRows =
-    row 0 Zero Zero  -- idle
-    ∷ row 1 Zero Zero  -- tick
-    ∷ row 2 Attribute Expression  -- set attribute
-    ∷ row 3 Stigmergy Expression  -- set stigmergy key
-    ∷ row 4 Environment Expression  -- set environment key
-    ∷ row 5 Process Process  -- sequence
-    ∷ row 6 Process Process  -- choice
-    ∷ row 7 Guard Process  -- guarded
-    ∷ row 8 Process Process  -- parallel
-    ∷ row 9 Definition Zero  -- call
+    row kind.idle Zero Zero
+    ∷ row kind.tick Zero Zero
+    ∷ row kind.setAttribute Attribute Expression
+    ∷ row kind.setStigmergy Stigmergy Expression
+    ∷ row kind.setEnvironment Environment Expression
+    ∷ row kind.sequence Process Process
+    ∷ row kind.choice Process Process
+    ∷ row kind.guarded Guard Process
+    ∷ row kind.parallel Process Process
+    ∷ row kind.call Definition Zero
     ∷ []
 
 unfoldable pub guardRows : List Row
 guardRows =
-    row 16 Zero Zero  -- true
-    ∷ row 17 Expression Expression  -- equal
-    ∷ row 18 Expression Expression  -- less
-    ∷ row 19 Expression Expression  -- greater
-    ∷ row 20 Guard Zero  -- not
-    ∷ row 21 Guard Guard  -- and
-    ∷ row 22 Guard Guard  -- or
+    row kind.true Zero Zero
+    ∷ row kind.equal Expression Expression
+    ∷ row kind.less Expression Expression
+    ∷ row kind.greater Expression Expression
+    ∷ row kind.not Guard Zero
+    ∷ row kind.and Guard Guard
+    ∷ row kind.or Guard Guard
     ∷ []
 
 unfoldable pub expressionRows : List Row
 expressionRows =
-    row 32 Value Value  -- constant
-    ∷ row 33 Attribute Party  -- attribute
-    ∷ row 34 Stigmergy Party  -- stigmergy key
-    ∷ row 35 Environment Zero  -- environment key
-    ∷ row 36 Expression Expression  -- +
-    ∷ row 37 Expression Expression  -- -
-    ∷ row 38 Expression Expression  -- ×
-    ∷ row 39 Expression Expression  -- divide
-    ∷ row 40 Expression Expression  -- remainder
+    row kind.constant Value Value
+    ∷ row kind.attribute Attribute Party
+    ∷ row kind.stigmergy Stigmergy Party
+    ∷ row kind.environment Environment Zero
+    ∷ row kind.plus Expression Expression
+    ∷ row kind.minus Expression Expression
+    ∷ row kind.times Expression Expression
+    ∷ row kind.divide Expression Expression
+    ∷ row kind.remainder Expression Expression
     ∷ []
 
 -- the row of a kind; a kind without a row has fields that nothing fits

@@ -7,7 +7,7 @@ use mathlib.Core.List.{List, [], _∷_, _++_}
 use lib.Dec.{eqb}
 use Rattle.agreement.specs.Machine.{afterSteps}
 use Rattle.agreement.specs.Order.{NotOlder}
-use Rattle.table.specs.Checks.{Check, passes, refuses}
+use Rattle.table.specs.Checks.{Check, passes, ifPasses}
 use Rattle.table.specs.Tables.{tableOf}
 use Rattle.state.specs.Layout.{stampOf}
 use Rattle.state.specs.Entries.{entryOf, newer}
@@ -96,11 +96,6 @@ keeping name l kept n = cond (eqb n name) l (kept n)
 abbrev pub keptOr : Option Line → Line → Line
 keptOr (some l) line = l
 keptOr none line = line
-
--- what is done where the check passes
-abbrev pub ifPasses : Check → Lines → Lines → Lines
-ifPasses passes after l = after
-ifPasses (refuses number place) after l = l
 
 -- after an element that came to this check: a step, refused or not, is added to the line, and so are the steps of a run that is done; a load begins
 -- a line, and the kept ones stay; a save keeps the line under its name, a restore takes the one kept under its name back, start and steps, a drop

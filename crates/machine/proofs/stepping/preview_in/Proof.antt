@@ -7,8 +7,8 @@ use mathlib.Core.List.{List}
 use denote.Ref.{now}
 use lib.ListN.{length}
 use Rattle.table.specs.Tables.{Table, table}
-use Rattle.steps.specs.Previews.{into}
 use Rattle.machine.specs.declared.Judged.{Judged}
+use Rattle.machine.specs.Stepping.{into}
 use Rattle.machine.proofs.Outcomes.{steps-as, Copied, copied-asked, copied-finished}
 use borrow.Author.Needs.{needs}
 use Rattle.machine.proofs.stepping.preview_in.Statement.{statement}
