@@ -24,9 +24,10 @@ use Rattle.state.specs.Standing.{HasBlocks}
 use Rattle.state.specs.Evaluation.{linkHolds}
 use Rattle.state.proofs.Places.{Place, KeySet, Zc, Zp, Clock, Mark, Word, Waits, placeAt, placeKind, Inside, same-not, other-agent}
 use Rattle.state.proofs.Frames.{wordAt, SameAt, put-entry-length, drop-length, drop-other, value-same}
+use Rattle.steps.specs.declared.Response.{Response}
 use Rattle.steps.specs.declared.Response.the-variants.{Takes, Propagates, Ignores}
-use Rattle.steps.specs.Offers.{takeEntry, responded, linked, takes, holdsNewer, inserts, response, offer, offered, offerTally, sent}
-use Rattle.steps.proofs.Offers.{not-taken, offer-length, offered-length, offered-other, offered-turn}
+use Rattle.steps.specs.Offers.{takeEntry, responded, linked, inserts, response, offer, offered, offerTally, sent}
+use Rattle.steps.proofs.Offers.{takes, holdsNewer, response-by, not-taken, offer-length, offered-length, offered-other, offered-turn}
 use Rattle.labs.specs.Agents.{⟨_⸴_⸴_⸴_⸴_⟩, Agent, Entry, System, _⟦_≔_⟧, _∪｛_｝, _∖｛_｝, Inserted}
 use Rattle.labs.specs.Systems.{Kind, put, qry, Message, message, Sends, PROPAGATE, CONFIRM, Older, Newer, Linked, Receives, PUT, QRY₁, QRY₂, STAY, Passed}
 use Rattle.labs.specs.Reading.{agentOf, systemOf}
@@ -164,9 +165,14 @@ module _ (t : Table) (limits : Limits (t .sizes)) (was : List ℕ) (narrow : Nar
           (lt-ltb (stampOf was x k) (stampOf was y k) (omega (arith, held, newer .0 o))))) f))
 
       received-by : (z : KeySet) → Result (inserts t was x k true y) (agentOf (dropKey (placeAt (Waits z x)) k spread) y)
-      unfolding offer response
-      received-by z = subst (λ (a : Agent). Result (inserts t was x k true y) a) (sym (drop-away z ∙ turned)) (by-offer (takes t was x k true y) refl (confirming && holdsNewer t was x k true y) refl)
+      unfolding offer
+      received-by z = subst (λ (a : Agent). Result (inserts t was x k true y) a) (sym (drop-away z ∙ turned ∙ answered)) (by-offer (takes t was x k true y) refl (confirming && holdsNewer t was x k true y) refl)
         where
+          answered : agentOf (offer t was x k true confirming y now) y
+              ≡ agentOf (responded k (entryOf was x k) y (cond (takes t was x k true y) (Takes (inserts t was x k true y)) (cond (confirming && holdsNewer t was x k true y) Propagates Ignores)) now) y
+          unfolding offer
+          answered = ap (λ (r : Response). agentOf (responded k (entryOf was x k) y r now) y) (response-by t was x k true confirming y)
+
           drop-away : (z : KeySet) → agentOf (dropKey (placeAt (Waits z x)) k spread) y ≡ agentOf spread y
           drop-away z = agent-same (dropKey (placeAt (Waits z x)) k spread) spread y (drop-length z x k spread)
               (λ p i pos e. drop-other z x k spread p i (other-agent p (Waits z x) (λ (o : _). other (sym e ∙ o))))

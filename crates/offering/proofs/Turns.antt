@@ -23,8 +23,8 @@ use Rattle.steps.specs.declared.Response.{Response}
 use Rattle.steps.specs.declared.Response.the-variants.{Takes, Propagates, Ignores}
 use Rattle.steps.specs.declared.Tally.{Tally}
 use Rattle.steps.specs.Tallies.{tally, noTally, addTally}
-use Rattle.steps.specs.Offers.{responded, linked, takes, holdsNewer, inserts, response, offer, offered, offerTally}
-use Rattle.steps.proofs.Offers.{ruleBy, not-taken, own-entry}
+use Rattle.steps.specs.Offers.{responseBy, responded, linked, inserts, response, offer, offered, offerTally}
+use Rattle.steps.proofs.Offers.{ruleBy, own-entry}
 use Rattle.offering.specs.Passing.{touched, Passed, ruleResponse, responseIn, insertionTally, responseTally, TallyWithin}
 
 -- a set of agents below n that pass: one agent more, and who is in it
@@ -39,7 +39,7 @@ module _ (test : ℕ → Bool) (n : ℕ) {w : ℕ} (e : w ≡ plusAll test n 0) 
 -- a response by tests: o and n, whether x's entry and y's is the newer one; neither is where y is x. z: whether y has none
 by-tests : (c f i l o n z : Bool) → (i ≡ true → (o ≡ false) × (n ≡ false))
     → cond (((c && o) || ((c && f) && n)) && l) (ruleResponse (ruleBy o z)) Ignores
-    ≡ cond ((c && (not i && l)) && o) (Takes (cond (c && (not i && l)) (ruleBy o z) Discard)) (cond (f && ((c && (not i && l)) && n)) Propagates Ignores)
+    ≡ responseBy (cond (c && (not i && l)) (ruleBy o z) Discard) (f && ((c && (not i && l)) && n))
 by-tests false f i l o n z h = rw (and-false f)
 by-tests true f true l o n z h = rw (h refl .0, h refl .1, and-false f)
 by-tests true f false false o n z h = rw (and-false (o || (f && n)), and-false f)
@@ -47,25 +47,20 @@ by-tests true f false true true n true h = refl
 by-tests true f false true true n false h = refl
 by-tests true f false true false n z h = rw (and-true (f && n))
 
--- what a rule counts, and a response
+-- what a response counts is what its rule does
 abbrev counted : Insertion → Tally
 counted r = tally (cond (isAdd r) 1 0) (cond (isUpdate r) 1 0)
 
-rule-counts : (r : Insertion) → insertionTally r ≡ counted r
-rule-counts Add = refl
-rule-counts Update = refl
-rule-counts Discard = refl
+rule-counts : (r : Insertion) (answers : Bool) → responseTally (responseBy r answers) ≡ counted r
+rule-counts Add answers = refl
+rule-counts Update answers = refl
+rule-counts Discard true = refl
+rule-counts Discard false = refl
 
 response-counts : (t : Table) (s : List ℕ) (x k : ℕ) (counts confirming : Bool) (y : ℕ)
     → responseTally (response t s x k counts confirming y) ≡ counted (inserts t s x k counts y)
 unfolding response
-response-counts t s x k counts confirming y = by (takes t s x k counts y) refl (confirming && holdsNewer t s x k counts y)
-  where
-    by : (a : Bool) → takes t s x k counts y ≡ a → (b : Bool)
-        → responseTally (cond a (Takes (inserts t s x k counts y)) (cond b Propagates Ignores)) ≡ counted (inserts t s x k counts y)
-    by true e b = rule-counts (inserts t s x k counts y)
-    by false e true = rw (not-taken t s x k counts y e)
-    by false e false = rw (not-taken t s x k counts y e)
+response-counts t s x k counts confirming y = rule-counts (inserts t s x k counts y) _
 
 module _ (t : Table) (was : List ℕ) (x k : ℕ) (counts confirming : Bool) where
   -- the turns of the agents below y
@@ -91,7 +86,7 @@ module _ (t : Table) (was : List ℕ) (x k : ℕ) (counts confirming : Bool) whe
   module _ (n asked : ℕ) (asks : asked ≡ touched was x k counts confirming n) where
     judged : (reached : ℕ) → ((y : ℕ) → has reached y ≡ (has asked y && linkHolds t was k x y)) → (y : ℕ) → y < n
         → responseIn reached (entryOf was x k) (entryOf was y k) y ≡ response t was x k counts confirming y
-    unfolding response takes holdsNewer inserts linked
+    unfolding response inserts linked
     judged reached links y l =
         rw (links y, in-set _ n asks y l)
         (by-tests counts confirming (eqb x y) (linkHolds t was k x y) _ _ (eqb (stampOf was y k) 0) (λ e. let d = eqb-true x y e in (le-ltb (stampOf was y k) (stampOf was x k) (rw d (omega arith)), le-ltb (stampOf was x k) (stampOf was y k) (rw d (omega arith)))))

@@ -37,8 +37,10 @@ use Rattle.state.specs.Formed.{SetFormed, ResidualFormed, ProperFacts, There, h
 use Rattle.state.proofs.Formed.{sets-of, residual-formed}
 use Rattle.state.proofs.Keep.{Kept, kept-proper, kept-start, kept-later, kept-clock, kept-keys, kept-add, kept-drop, kept-put, kept-entry, pair-kept, writer-kept, set-kept, residual-kept, set-plusAll}
 use Rattle.steps.specs.Acts.{wordIn, leave, valueFor, writesEntry, guardsRead, labelReads, toConfirm, setKey, acted}
+use Rattle.steps.specs.declared.Response.{Response}
 use Rattle.steps.specs.declared.Response.the-variants.{Takes, Propagates, Ignores}
-use Rattle.steps.specs.Offers.{takeEntry, responded, linked, takes, holdsNewer, inserts, response, offer, offered}
+use Rattle.steps.specs.Offers.{takeEntry, responded, linked, inserts, response, offer, offered}
+use Rattle.steps.proofs.Offers.{takes, holdsNewer, response-by}
 use Rattle.steps.proofs.Acts.{set-attribute, set-entry, set-environment}
 use Rattle.steps.proofs.Leave.{leave-length, leave-small, leave-other, leave-size, leave-word}
 
@@ -106,8 +108,10 @@ module _ (t : Table) (limits : Limits (t .sizes)) (was : List ℕ) where
     early = proper .formed .formed .pairs (Entries x) there k k16 .bound
 
     offer-kept : (y : ℕ) → y < agents → (s : List ℕ) → Kept t now now was s → Kept t now now was (offer t was x k counts confirming y s)
-    unfolding offer responded response takes holdsNewer takeEntry
-    offer-kept y l s h = by (takes t was x k counts y) confirming (holdsNewer t was x k counts y) refl
+    unfolding offer responded holdsNewer takeEntry
+    offer-kept y l s h =
+        subst (λ (r : Response). Kept t now now was (responded k (entryOf was x k) y r s)) (sym (response-by t was x k counts confirming y))
+        (by (takes t was x k counts y) confirming (holdsNewer t was x k counts y) refl)
       where
         e : Entry
         e = entryOf was x k

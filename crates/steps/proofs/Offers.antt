@@ -27,15 +27,36 @@ use Rattle.state.proofs.Frames.{wordAt, SameAt, pick-entry, put-entry-length, p
 use Rattle.steps.specs.declared.Response.{Response}
 use Rattle.steps.specs.declared.Response.the-variants.{Takes, Propagates, Ignores}
 use Rattle.steps.specs.Tallies.{taken}
-use Rattle.steps.specs.Offers.{takeEntry, responded, linked, takes, holdsNewer, inserts, response, offer, offered, offerTally}
+use Rattle.steps.specs.Offers.{takeEntry, responseBy, responded, linked, inserts, response, offer, offered, offerTally}
 
 -- THE RULE by which an agent inserts the entry: whether that is later than its own, and whether it has none
 abbrev pub ruleBy : Bool → Bool → Insertion
 ruleBy later none = cond later (cond none Add Update) Discard
 
 module _ (t : Table) (was : List ℕ) (x k : ℕ) (counts : Bool) where
+  -- agent y is linked, and its entry is older, or newer
+  unfoldable pub takes : ℕ → Bool
+  takes y = linked t was x k counts y && newer (entryOf was x k) (entryOf was y k)
+
+  unfoldable pub holdsNewer : ℕ → Bool
+  holdsNewer y = linked t was x k counts y && newer (entryOf was y k) (entryOf was x k)
+
+  -- ITS RESPONSE, by these
+  pub response-by : (confirming : Bool) (y : ℕ) → response t was x k counts confirming y
+      ≡ cond (takes y) (Takes (inserts t was x k counts y)) (cond (confirming && holdsNewer y) Propagates Ignores)
+  unfolding response takes holdsNewer inserts
+  response-by confirming y =
+      by (linked t was x k counts y) (newer (entryOf was x k) (entryOf was y k)) (eqb (stampOf was y k) 0) (newer (entryOf was y k) (entryOf was x k))
+    where
+      by : (a b c n : Bool) → responseBy (cond a (ruleBy b c) Discard) (confirming && (a && n))
+          ≡ cond (a && b) (Takes (cond a (ruleBy b c) Discard)) (cond (confirming && (a && n)) Propagates Ignores)
+      by true true true n = refl
+      by true true false n = refl
+      by true false c n = refl
+      by false b c n = refl
+
   -- what it does not take it discards
-  pub not-taken : (y : ℕ) → takes t was x k counts y ≡ false → inserts t was x k counts y ≡ Discard
+  pub not-taken : (y : ℕ) → takes y ≡ false → inserts t was x k counts y ≡ Discard
   unfolding takes inserts
   not-taken y e = by (linked t was x k counts y) (newer (entryOf was x k) (entryOf was y k)) e
     where
@@ -45,7 +66,7 @@ module _ (t : Table) (was : List ℕ) (x k : ℕ) (counts : Bool) where
       by false b f = refl
 
   -- and what it takes is added or replaces an older one, not both
-  counts-one : (y : ℕ) → cond (isAdd (inserts t was x k counts y)) 1 0 + cond (isUpdate (inserts t was x k counts y)) 1 0 ≡ cond (takes t was x k counts y) 1 0
+  counts-one : (y : ℕ) → cond (isAdd (inserts t was x k counts y)) 1 0 + cond (isUpdate (inserts t was x k counts y)) 1 0 ≡ cond (takes y) 1 0
   unfolding takes inserts
   counts-one y = by (linked t was x k counts y) (newer (entryOf was x k) (entryOf was y k)) (eqb (stampOf was y k) 0)
     where
@@ -56,7 +77,7 @@ module _ (t : Table) (was : List ℕ) (x k : ℕ) (counts : Bool) where
       by false b c = refl
 
   -- THOSE THAT TAKE THE ENTRY are those that had none and those that had an older one
-  pub taken-takes : (agents : ℕ) → taken (offerTally t was x k counts agents) ≡ howMany (takes t was x k counts) agents
+  pub taken-takes : (agents : ℕ) → taken (offerTally t was x k counts agents) ≡ howMany takes agents
   unfolding howMany
   taken-takes zero = refl
   taken-takes (suc n) = omega (arith, taken-takes n, counts-one n)
@@ -153,7 +174,7 @@ module _ (t : Table) (was : List ℕ) (x k : ℕ) (counts confirming : Bool) whe
 
   -- x is offered nothing
   pub offer-self : (s : List ℕ) → offer t was x k counts confirming x s ≡ s
-  unfolding offer responded response takes holdsNewer linked
+  unfolding offer responded response inserts linked
   offer-self s = simp (eq-eqb x x refl, and-false)
 
   module _ (key : k < keyLimit) where
@@ -207,8 +228,8 @@ module _ (t : Table) (was : List ℕ) (x k : ℕ) (counts confirming : Bool) whe
         answer a b q = respondedWord k (entryOf was x k) y (cond a (Takes (inserts t was x k counts y)) (cond b Propagates Ignores)) (wordAt was) q
 
         offered-answer : (q : Place) → Inside q → placeAgent q ≡ y → wordAt (offered t was x k counts confirming agents) q ≡ answer T N q
-        unfolding response
-        offered-answer q h e = offered-word y there q h e
+        offered-answer q h e =
+            offered-word y there q h e ∙ ap (λ (r : Response). respondedWord k (entryOf was x k) y r (wordAt was) q) (response-by t was x k counts confirming y)
 
         -- its entry for key j: x's where it takes that
         pub offered-entry : (j : ℕ) → j < keyLimit → entryOf (offered t was x k counts confirming agents) y j ≡ cond (takes t was x k counts y && eqb j k) (entryOf was x k) (entryOf was y j)

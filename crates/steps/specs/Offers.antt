@@ -7,7 +7,7 @@ use Rattle.basis.specs.Numbers.{forEach, howMany}
 use Rattle.table.specs.Tables.{Table}
 use Rattle.state.specs.declared.Entry.{Entry}
 use Rattle.state.specs.declared.Insertion.{Insertion}
-use Rattle.state.specs.declared.Insertion.the-variants.{Discard}
+use Rattle.state.specs.declared.Insertion.the-variants.{Add, Update, Discard}
 use Rattle.state.specs.Layout.{zcAt, zpAt, addKey, dropKey}
 use Rattle.state.specs.Entries.{entryOf, newer, insertion, isAdd, isUpdate, putEntry}
 use Rattle.state.specs.Evaluation.{linkHolds}
@@ -19,6 +19,12 @@ use Rattle.steps.specs.Tallies.{tally}
 -- agent y takes entry e with its stamp and its writer: it no longer has to confirm the key, and has to propagate it
 unfoldable pub takeEntry : ℕ → Entry → ℕ → List ℕ → List ℕ
 takeEntry k e y s = addKey (zpAt y) k (dropKey (zcAt y) k (putEntry y k e s))
+
+-- an agent takes an entry that is inserted there, by that rule; one that is discarded it may answer
+abbrev pub responseBy : Insertion → Bool → Response
+responseBy Add answers = Takes Add
+responseBy Update answers = Takes Update
+responseBy Discard answers = cond answers Propagates Ignores
 
 -- agent y's words after its response to entry e
 unfoldable pub responded : ℕ → Entry → ℕ → Response → List ℕ → List ℕ
@@ -32,20 +38,13 @@ module _ (t : Table) (was : List ℕ) (x k : ℕ) (counts : Bool) where
   unfoldable pub linked : ℕ → Bool
   linked y = counts && (not (eqb x y) && linkHolds t was k x y)
 
-  -- and its entry is older, or newer
-  unfoldable pub takes : ℕ → Bool
-  takes y = linked y && newer (entryOf was x k) (entryOf was y k)
-
-  unfoldable pub holdsNewer : ℕ → Bool
-  holdsNewer y = linked y && newer (entryOf was y k) (entryOf was x k)
-
   -- by which rule of Table 1 the entry is inserted at y: where the link does not reach y, it is not
   unfoldable pub inserts : ℕ → Insertion
   inserts y = cond (linked y) (insertion (entryOf was x k) (entryOf was y k)) Discard
 
   -- in a confirm, a linked agent with a newer entry only gains the key in Zp
   unfoldable pub response : Bool → ℕ → Response
-  response confirming y = cond (takes y) (Takes (inserts y)) (cond (confirming && holdsNewer y) Propagates Ignores)
+  response confirming y = responseBy (inserts y) (confirming && (linked y && newer (entryOf was y k) (entryOf was x k)))
 
   -- what an offer does to y
   unfoldable pub offer : Bool → ℕ → List ℕ → List ℕ

@@ -21,8 +21,8 @@ use Rattle.state.specs.Entries.{entryOf, newer}
 use Rattle.state.specs.Standing.{HasBlocks}
 use Rattle.state.proofs.Places.{Place, Zp, Zc, Mark, Word, Writer, Waits, Inside, placeAgent}
 use Rattle.state.proofs.Frames.{SameAt, drop-other, drop-word}
-use Rattle.steps.specs.Offers.{takes as takesEntry, holdsNewer as answersEntry, linked, offered, sent}
-use Rattle.steps.proofs.Offers.{offered-length, offered-other, offered-entry, offered-zp}
+use Rattle.steps.specs.Offers.{linked, offered, sent}
+use Rattle.steps.proofs.Offers.{takes as takesEntry, holdsNewer as answersEntry, offered-length, offered-other, offered-entry, offered-zp}
 use Rattle.theorems.proofs.Views.{seen, links, same-entry, Shows, shows-same, shows-itself, shows-key}
 
 -- AN OFFER of agent x's entry for key k
