@@ -53,7 +53,8 @@ pub enum Acceptance {
 // Refusals 6 and 7.
 fn judge_terms(sizes: Sizes, kinds: &[u8], operands: &[u8], scratch: &mut [u32]) -> Acceptance
     requires { ⌜ Sound (tableFrom sizes (now kinds) (now operands)) × (scratchWords sizes ≤ length (now scratch)) ⌝ }
-    ensures { λ r. ⌜ Judged (tableFrom sizes (now (kinds .entry)) (now (operands .entry))) (termChecks (tableFrom sizes (now (kinds .entry)) (now (operands .entry)))) (now (scratch .exit)) r ⌝ }
+    ensures { λ r. ⌜ Judged (tableFrom sizes (now (kinds .entry)) (now (operands .entry)))
+        (termChecks (tableFrom sizes (now (kinds .entry)) (now (operands .entry)))) (now (scratch .exit)) r ⌝ }
 {
     let call = lowest_bad_call(sizes, kinds, operands, scratch);
     if call < sizes.definitions {
@@ -69,7 +70,8 @@ fn judge_terms(sizes: Sizes, kinds: &[u8], operands: &[u8], scratch: &mut [u32])
 // Refusals 4 to 7.
 fn judge(sizes: Sizes, kinds: &[u8], operands: &[u8], scratch: &mut [u32]) -> Acceptance
     requires { ⌜ Shaped (tableFrom sizes (now kinds) (now operands)) × (scratchWords sizes ≤ length (now scratch)) ⌝ }
-    ensures { λ r. ⌜ Judged (tableFrom sizes (now (kinds .entry)) (now (operands .entry))) (contentChecks (tableFrom sizes (now (kinds .entry)) (now (operands .entry)))) (now (scratch .exit)) r ⌝ }
+    ensures { λ r. ⌜ Judged (tableFrom sizes (now (kinds .entry)) (now (operands .entry)))
+        (contentChecks (tableFrom sizes (now (kinds .entry)) (now (operands .entry)))) (now (scratch .exit)) r ⌝ }
 {
     let scan = lowest_bad(sizes, kinds, operands, scratch);
     if scan.bad < sizes.nodes {
@@ -85,7 +87,9 @@ fn judge(sizes: Sizes, kinds: &[u8], operands: &[u8], scratch: &mut [u32]) -> Ac
 // Refusal 8, where another lent buffer does not fit or the words are too few, and then 4 to 7.
 fn judge_lent(table: &[u8], sizes: Sizes, fits: bool, scratch: &mut [u32]) -> Acceptance
     requires { ⌜ (firstOf (sizeChecks (now table)) ≡ passes) × (sizes ≡ sizesOf (now table)) ⌝ }
-    ensures { λ r. ⌜ Judged (tableOf (now (table .entry))) (lentCheck (now (table .entry)) fits (length (now (scratch .entry))) ∷ contentChecks (tableOf (now (table .entry)))) (now (scratch .exit)) r ⌝ }
+    ensures { λ r. ⌜ Judged (tableOf (now (table .entry)))
+        (lentCheck (now (table .entry)) fits (length (now (scratch .entry))) ∷ contentChecks (tableOf (now (table .entry))))
+        (now (scratch .exit)) r ⌝ }
 {
     if !fits {
         return Acceptance::Refused(8, 0);

@@ -30,7 +30,8 @@ fn compare_all(
     node: usize,
 ) -> AgentSets
     requires { ⌜ Placed (now kinds) (now operands) (now state) sender × (node < length (now kinds)) ⌝ }
-    ensures { λ r. ⌜ InTables (now (kinds .entry)) (now (operands .entry)) (λ t. Found agents (λ y. comparison t (now (state .entry)) sender y node) r) ⌝ }
+    ensures { λ r. ⌜ InTables (now (kinds .entry)) (now (operands .entry))
+        (λ t. Found agents (λ y. comparison t (now (state .entry)) sender y node) r) ⌝ }
 {
     if agents == 0 {
         return NOBODY;
@@ -82,7 +83,8 @@ fn truths_below(
     node: usize,
 ) -> AgentSets
     requires { ⌜ Placed (now kinds) (now operands) (now state) sender × (limit ≤ length (now kinds)) ⌝ }
-    ensures { λ r. ⌜ InTables (now (kinds .entry)) (now (operands .entry)) (λ t. Found agents (λ y. truthBelow t (now (state .entry)) sender y limit node) r) ⌝ }
+    ensures { λ r. ⌜ InTables (now (kinds .entry)) (now (operands .entry))
+        (λ t. Found agents (λ y. truthBelow t (now (state .entry)) sender y limit node) r) ⌝ }
 {
     if limit <= node {
         return NOBODY;

@@ -35,7 +35,8 @@ fn rehearse(
     scratch: &mut [u32],
     answers: &mut [u8],
 ) -> Ran
-    ensures { λ r. ⌜ Rehearses (rehearsed (now (table .entry)) (now (schedule .entry)) (now (state .entry)) (length (now (scratch .entry))) (now (answers .entry))) r (now (state .exit)) (now (answers .exit)) ⌝ }
+    ensures { λ r. ⌜ Rehearses (rehearsed (now (table .entry)) (now (schedule .entry)) (now (state .entry))
+        (length (now (scratch .entry))) (now (answers .entry))) r (now (state .exit)) (now (answers .exit)) ⌝ }
 {
     let loaded = machine::load(table, state, scratch);
     match loaded {
@@ -46,7 +47,8 @@ fn rehearse(
 
 // The same for a table and a schedule that stand one after the other.
 fn rehearse_input(input: &[u8], state: &mut [u32], scratch: &mut [u32], answers: &mut [u8]) -> Ran
-    ensures { λ r. ⌜ Rehearses (rehearsedInput (now (input .entry)) (now (state .entry)) (length (now (scratch .entry))) (now (answers .entry))) r (now (state .exit)) (now (answers .exit)) ⌝ }
+    ensures { λ r. ⌜ Rehearses (rehearsedInput (now (input .entry)) (now (state .entry)) (length (now (scratch .entry))) (now (answers .entry)))
+        r (now (state .exit)) (now (answers .exit)) ⌝ }
 {
     let end = table_end(input);
     rehearse(&input[..end], &input[end..], state, scratch, answers)
@@ -61,7 +63,8 @@ pub fn show_rehearsal(
     out: &mut [u8],
 ) -> usize
     requires { ⌜ shownBytes ≤ length (now out) ⌝ }
-    ensures { λ r. ⌜ Wrote (shown (rehearsedInput (now (input .entry)) (now (state .entry)) (length (now (scratch .entry))) (now (answers .entry)))) 0 (now (out .entry)) (now (out .exit)) r ⌝ }
+    ensures { λ r. ⌜ Wrote (shown (rehearsedInput (now (input .entry)) (now (state .entry))
+        (length (now (scratch .entry))) (now (answers .entry)))) 0 (now (out .entry)) (now (out .exit)) r ⌝ }
 {
     let ran = rehearse_input(input, state, scratch, answers);
     match ran {

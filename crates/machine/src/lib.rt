@@ -117,7 +117,9 @@ pub fn preview(
     number: u16,
     next: &mut [u32],
 ) -> Stepped
-    ensures { λ r. ⌜ Steps (previewOf (now (table .entry)) (now (state .entry)) (length (now (scratch .entry))) kind agent number (now (next .entry))) r (now (next .exit)) ⌝ }
+    ensures { λ r. ⌜ Steps
+        (previewOf (now (table .entry)) (now (state .entry)) (length (now (scratch .entry))) kind agent number (now (next .entry)))
+        r (now (next .exit)) ⌝ }
 {
     let opened = open(table, state, next.len() == state::STATE_WORDS, scratch);
     match opened {
@@ -147,7 +149,9 @@ pub fn run(
     schedule: &[u8],
     answers: &mut [u8],
 ) -> Ran
-    ensures { λ r. ⌜ Runs (runOf (now (table .entry)) (now (state .entry)) (length (now (scratch .entry))) (now (schedule .entry)) (now (answers .entry))) r (now (state .exit)) (now (answers .exit)) ⌝ }
+    ensures { λ r. ⌜ Runs
+        (runOf (now (table .entry)) (now (state .entry)) (length (now (scratch .entry))) (now (schedule .entry)) (now (answers .entry)))
+        r (now (state .exit)) (now (answers .exit)) ⌝ }
 {
     let opened = open(table, state, true, scratch);
     match opened {

@@ -59,7 +59,9 @@ fn step_at(
     requires { λ t. ⌜ Prepared t (now scratch) ⌝ }
     requires { λ t. ⌜ Proper t (now state) ⌝ }
     requires { λ t. ⌜ (length (now schedule) ≡ 2 + 5 * n) × (n ≡ stepsOf (now schedule)) × (i < n) ⌝ }
-    ensures { λ t r. ⌜ Steps (stepIn t (now (state .entry)) (kindIn (now (schedule .entry)) i) (agentIn (now (schedule .entry)) i) (numberIn (now (schedule .entry)) i)) r (now (state .exit)) ⌝ }
+    ensures { λ t r. ⌜ Steps
+        (stepIn t (now (state .entry)) (kindIn (now (schedule .entry)) i) (agentIn (now (schedule .entry)) i) (numberIn (now (schedule .entry)) i))
+        r (now (state .exit)) ⌝ }
 {
     let kind = schedule[2 + i];
     let at = 2 + n + 4 * i;
@@ -114,7 +116,8 @@ pub fn run_steps(
     requires { λ t. ⌜ Prepared t (now scratch) ⌝ }
     requires { λ t. ⌜ Proper t (now state) ⌝ }
     requires { λ t. ⌜ Runnable (now schedule) (now answers) n ⌝ }
-    ensures { λ t r. ⌜ Reports (ran t (now (schedule .entry)) n (begun (now (state .entry)) (now (answers .entry)))) r (now (state .exit)) (now (answers .exit)) ⌝ }
+    ensures { λ t r. ⌜ Reports (ran t (now (schedule .entry)) n (begun (now (state .entry)) (now (answers .entry))))
+        r (now (state .exit)) (now (answers .exit)) ⌝ }
 {
     let none = no_tally();
     let mut totals = Totals {

@@ -46,7 +46,8 @@ pub fn offer(
     ghost { Table }
     requires { λ t. ⌜ table sizes (now kinds) (now operands) ≡ t ⌝ }
     requires { λ t. ⌜ Passing t (now state) agent key ⌝ }
-    ensures { λ t r. ⌜ Passed (offerTally t (now (state .entry)) agent key counts (sizes .agents)) (sent t (now (state .entry)) agent key counts confirming (sizes .agents)) r (now (state .exit)) ⌝ }
+    ensures { λ t r. ⌜ Passed (offerTally t (now (state .entry)) agent key counts (sizes .agents))
+        (sent t (now (state .entry)) agent key counts confirming (sizes .agents)) r (now (state .exit)) ⌝ }
 {
     let tally = offer_all(
         sizes,

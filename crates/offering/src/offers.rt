@@ -58,7 +58,8 @@ pub fn offer_all(
     ghost { Table }
     requires { λ t. ⌜ table sizes (now kinds) (now operands) ≡ t ⌝ }
     requires { λ t. ⌜ Passing t (now state) agent key ⌝ }
-    ensures { λ t r. ⌜ Passed (offerTally t (now (state .entry)) agent key counts (sizes .agents)) (offered t (now (state .entry)) agent key counts confirming (sizes .agents)) r (now (state .exit)) ⌝ }
+    ensures { λ t r. ⌜ Passed (offerTally t (now (state .entry)) agent key counts (sizes .agents))
+        (offered t (now (state .entry)) agent key counts confirming (sizes .agents)) r (now (state .exit)) ⌝ }
 {
     let asked = receivers(state, sizes.agents, agent, key, counts, confirming);
     let mut tally = no_tally();

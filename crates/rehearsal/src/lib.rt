@@ -34,7 +34,8 @@ pub extern "C" fn labs_step(
     agent: u16,
     number: u16,
 ) -> u64
-    ensures { λ r. ⌜ StepPacked (stepOf (now (table .entry)) (now (state .entry)) (length (now (scratch .entry))) kind agent number) r (now (state .exit)) ⌝ }
+    ensures { λ r. ⌜ StepPacked (stepOf (now (table .entry)) (now (state .entry)) (length (now (scratch .entry))) kind agent number)
+        r (now (state .exit)) ⌝ }
 {
     pack_step(machine::step(table, state, scratch, kind, agent, number))
 }
@@ -51,7 +52,9 @@ pub extern "C" fn labs_preview(
     number: u16,
     next: &mut [u32],
 ) -> u64
-    ensures { λ r. ⌜ StepPacked (previewOf (now (table .entry)) (now (state .entry)) (length (now (scratch .entry))) kind agent number (now (next .entry))) r (now (next .exit)) ⌝ }
+    ensures { λ r. ⌜ StepPacked
+        (previewOf (now (table .entry)) (now (state .entry)) (length (now (scratch .entry))) kind agent number (now (next .entry)))
+        r (now (next .exit)) ⌝ }
 {
     pack_step(machine::preview(table, state, scratch, kind, agent, number, next))
 }
@@ -67,7 +70,9 @@ pub extern "C" fn labs_run(
     answers: &mut [u8],
     totals: &mut [u32],
 ) -> u64
-    ensures { λ r. ⌜ RunPacked (runOf (now (table .entry)) (now (state .entry)) (length (now (scratch .entry))) (now (schedule .entry)) (now (answers .entry))) (now (totals .entry)) r (now (state .exit)) (now (answers .exit)) (now (totals .exit)) ⌝ }
+    ensures { λ r. ⌜ RunPacked
+        (runOf (now (table .entry)) (now (state .entry)) (length (now (scratch .entry))) (now (schedule .entry)) (now (answers .entry)))
+        (now (totals .entry)) r (now (state .exit)) (now (answers .exit)) (now (totals .exit)) ⌝ }
 {
     let answer = machine::run(table, state, scratch, schedule, answers);
     write_totals(totals, totals_of(answer));
@@ -84,7 +89,8 @@ pub extern "C" fn labs_save(
     shelf: &mut [u32],
     name: u32,
 ) -> u64
-    ensures { λ r. ⌜ ChangePacked (saveOf (now (table .entry)) (now (state .entry)) (length (now (scratch .entry))) (now (shelf .entry)) name) r (now (shelf .exit)) ⌝ }
+    ensures { λ r. ⌜ ChangePacked
+        (saveOf (now (table .entry)) (now (state .entry)) (length (now (scratch .entry))) (now (shelf .entry)) name) r (now (shelf .exit)) ⌝ }
 {
     pack_answer(shelf::save(table, state, scratch, shelf, name))
 }
@@ -98,7 +104,8 @@ pub extern "C" fn labs_restore(
     shelf: &[u32],
     name: u32,
 ) -> u64
-    ensures { λ r. ⌜ ChangePacked (restoreOf (now (table .entry)) (now (state .entry)) (length (now (scratch .entry))) (now (shelf .entry)) name) r (now (state .exit)) ⌝ }
+    ensures { λ r. ⌜ ChangePacked
+        (restoreOf (now (table .entry)) (now (state .entry)) (length (now (scratch .entry))) (now (shelf .entry)) name) r (now (state .exit)) ⌝ }
 {
     pack_answer(shelf::restore(table, state, scratch, shelf, name))
 }

@@ -31,7 +31,8 @@ ghost use Rattle.residual.specs.Wholes.{residualTerm, Whole, Taking, Off
 // How many derivations the residual has, and whether each of its subterms has few (refusals 12 and 13).
 pub fn count_choices(sizes: Sizes, scratch: &[u32], words: &[u32]) -> Choices
     requires { ⌜ ((t : Table) × (t .sizes ≡ sizes) × Prepared t (now scratch)) ⌝ }
-    ensures { λ r. ⌜ ((t : Table) → t .sizes ≡ sizes → Prepared t (now (scratch .entry)) → Whole t (now (words .entry)) → Offered t (residualTerm (now (words .entry))) r) ⌝ }
+    ensures { λ r. ⌜ ((t : Table) → t .sizes ≡ sizes → Prepared t (now (scratch .entry)) →
+        Whole t (now (words .entry)) → Offered t (residualTerm (now (words .entry))) r) ⌝ }
 {
     let all = measure(first_root(sizes), scratch, words, Cursor::start());
     Choices {
@@ -56,7 +57,8 @@ pub fn collect(
     requires { λ t. ⌜ Whole t (now words) ⌝ }
     requires { λ t. ⌜ Taking t (residualTerm (now words)) c ⌝ }
     requires { λ t. ⌜ WalkMarks t (now marks) ⌝ }
-    ensures { λ t r. ⌜ Walked t (derivationAt (process t (residualTerm (now (words .entry)))) c) (limitOf t (residualTerm (now (words .entry)))) (now (marks .entry)) r (now (marks .exit)) ⌝ }
+    ensures { λ t r. ⌜ Walked t (derivationAt (process t (residualTerm (now (words .entry)))) c)
+        (limitOf t (residualTerm (now (words .entry)))) (now (marks .entry)) r (now (marks .exit)) ⌝ }
 {
     let roots = first_root(sizes);
     let mut target = whole(0, c);
@@ -103,7 +105,8 @@ pub fn rewrite(
     requires { λ t. ⌜ Whole t (take size (now words)) ⌝ }
     requires { λ t. ⌜ Taking t (residualTerm (take size (now words))) c ⌝ }
     requires { λ t. ⌜ length (wordsOf (derivationAt (process t (residualTerm (take size (now words)))) c .leaving)) ≤ length (now words) ⌝ }
-    ensures { λ t r. ⌜ Rewritten (wordsOf (derivationAt (process t (residualTerm (take size (now (words .entry))))) c .leaving)) (now (words .entry)) r (now (words .exit)) ⌝ }
+    ensures { λ t r. ⌜ Rewritten (wordsOf (derivationAt (process t (residualTerm (take size (now (words .entry))))) c .leaving))
+        (now (words .entry)) r (now (words .exit)) ⌝ }
 {
     let room = words.len();
     let at = room - size;

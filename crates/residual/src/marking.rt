@@ -27,7 +27,8 @@ pub fn mark_tick_at(
     requires { λ t. ⌜ Prepared t (now scratch) ⌝ }
     requires { λ t. ⌜ ((T : Term) × Stands t T target (now words)) ⌝ }
     requires { λ t. ⌜ WalkMarks t (now marks) ⌝ }
-    ensures { λ t r. ⌜ ((T : Term) → Stands t T target (now (words .entry)) → Marked t (going t T target .guards) (now (marks .entry)) (now (marks .exit))) ⌝ }
+    ensures { λ t r. ⌜
+        ((T : Term) → Stands t T target (now (words .entry)) → Marked t (going t T target .guards) (now (marks .entry)) (now (marks .exit))) ⌝ }
 {
     let step = step_at(first_root(sizes), scratch, words, target);
     match step {

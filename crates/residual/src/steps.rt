@@ -96,7 +96,8 @@ fn toward(mode: Mode, left: Cursor, right: Cursor, end: Cursor, pick: Pick) -> S
 // At the end of the words stands no term: any step will do there.
 pub fn step_at(roots: usize, scratch: &[u32], words: &[u32], target: Target) -> Step
     requires { ⌜ Pairs roots (now scratch) ⌝ }
-    ensures { λ r. ⌜ ((t : Table) → firstRoot t ≡ roots → Counted t (now (scratch .entry)) → (T : Term) → Stands t T target (now (words .entry)) → Stepped t T target r) ⌝ }
+    ensures { λ r. ⌜ ((t : Table) → firstRoot t ≡ roots → Counted t (now (scratch .entry)) →
+        (T : Term) → Stands t T target (now (words .entry)) → Stepped t T target r) ⌝ }
 {
     let from = target.from;
     let mode = target.mode;

@@ -36,7 +36,8 @@ pub fn place(
     requires { λ t. ⌜ Whole t (drop at (now words)) ⌝ }
     requires { λ t. ⌜ Taking t (residualTerm (drop at (now words))) c ⌝ }
     requires { λ t. ⌜ length (wordsOf (derivationAt (process t (residualTerm (drop at (now words)))) c .leaving)) ≤ length (now words) ⌝ }
-    ensures { λ t r. ⌜ Placed (wordsOf (derivationAt (process t (residualTerm (drop at (now (words .entry))))) c .leaving)) (length (now (words .entry))) r (now (words .exit)) ⌝ }
+    ensures { λ t r. ⌜ Placed (wordsOf (derivationAt (process t (residualTerm (drop at (now (words .entry))))) c .leaving))
+        (length (now (words .entry))) r (now (words .exit)) ⌝ }
 {
     let roots = first_root(sizes);
     let mut front: usize = 0;

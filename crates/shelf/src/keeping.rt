@@ -16,7 +16,8 @@ ghost use Rattle.shelf.specs.Answers.{Changes};
 
 pub fn save_in(state: &[u32], shelf: &mut [u32], name: u32) -> Answer
     requires { ⌜ (length (now state) ≡ stateWords) × (length (now shelf) ≡ shelfWords) ⌝ }
-    ensures { λ r. ⌜ Changes (change (firstOf (saveChecks (now (shelf .entry)) name)) (now (shelf .entry)) (saved (now (state .entry)) (now (shelf .entry)) name)) r (now (shelf .exit)) ⌝ }
+    ensures { λ r. ⌜ Changes (change (firstOf (saveChecks (now (shelf .entry)) name)) (now (shelf .entry))
+        (saved (now (state .entry)) (now (shelf .entry)) name)) r (now (shelf .exit)) ⌝ }
 {
     if !is_name(name) {
         return Answer::Refused(21, 0);
@@ -34,7 +35,8 @@ pub fn save_in(state: &[u32], shelf: &mut [u32], name: u32) -> Answer
 
 pub fn restore_in(state: &mut [u32], shelf: &[u32], name: u32) -> Answer
     requires { ⌜ (length (now state) ≡ stateWords) × (length (now shelf) ≡ shelfWords) ⌝ }
-    ensures { λ r. ⌜ Changes (change (firstOf (heldChecks (now (shelf .entry)) name)) (now (state .entry)) (restored (now (shelf .entry)) name)) r (now (state .exit)) ⌝ }
+    ensures { λ r. ⌜ Changes (change (firstOf (heldChecks (now (shelf .entry)) name)) (now (state .entry)) (restored (now (shelf .entry)) name))
+        r (now (state .exit)) ⌝ }
 {
     let place = held_place(shelf, name);
     if PLACES <= place {
@@ -48,7 +50,8 @@ pub fn restore_in(state: &mut [u32], shelf: &[u32], name: u32) -> Answer
 
 pub fn drop_in(shelf: &mut [u32], name: u32) -> Answer
     requires { ⌜ length (now shelf) ≡ shelfWords ⌝ }
-    ensures { λ r. ⌜ Changes (change (firstOf (heldChecks (now (shelf .entry)) name)) (now (shelf .entry)) (dropped (now (shelf .entry)) name)) r (now (shelf .exit)) ⌝ }
+    ensures { λ r. ⌜ Changes (change (firstOf (heldChecks (now (shelf .entry)) name)) (now (shelf .entry)) (dropped (now (shelf .entry)) name))
+        r (now (shelf .exit)) ⌝ }
 {
     let place = held_place(shelf, name);
     if PLACES <= place {

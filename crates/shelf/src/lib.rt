@@ -22,7 +22,8 @@ pub fn save(
     shelf: &mut [u32],
     name: u32,
 ) -> Answer
-    ensures { λ r. ⌜ Changes (saveOf (now (table .entry)) (now (state .entry)) (length (now (scratch .entry))) (now (shelf .entry)) name) r (now (shelf .exit)) ⌝ }
+    ensures { λ r. ⌜ Changes (saveOf (now (table .entry)) (now (state .entry)) (length (now (scratch .entry))) (now (shelf .entry)) name)
+        r (now (shelf .exit)) ⌝ }
 {
     let opened = open(table, state, shelf.len() == SHELF_WORDS, scratch);
     let judged = judge_shelf(table, shelf, opened);
@@ -40,7 +41,8 @@ pub fn restore(
     shelf: &[u32],
     name: u32,
 ) -> Answer
-    ensures { λ r. ⌜ Changes (restoreOf (now (table .entry)) (now (state .entry)) (length (now (scratch .entry))) (now (shelf .entry)) name) r (now (state .exit)) ⌝ }
+    ensures { λ r. ⌜ Changes (restoreOf (now (table .entry)) (now (state .entry)) (length (now (scratch .entry))) (now (shelf .entry)) name)
+        r (now (state .exit)) ⌝ }
 {
     let opened = open(table, state, shelf.len() == SHELF_WORDS, scratch);
     let judged = judge_shelf(table, shelf, opened);

@@ -42,7 +42,8 @@ fn agent_formed(sizes: Sizes, kinds: &[u8], state: &[u32], agent: usize) -> bool
 
 pub fn agents_formed(sizes: Sizes, kinds: &[u8], state: &[u32]) -> bool
     requires { ⌜ CheckGiven sizes (now kinds) (now state) ⌝ }
-    ensures { λ r. ⌜ ((operands : List ℕ) → r ≡ every (agentFormed (table sizes (now (kinds .entry)) operands) (now (state .entry))) (sizes .agents)) ⌝ }
+    ensures { λ r. ⌜
+        ((operands : List ℕ) → r ≡ every (agentFormed (table sizes (now (kinds .entry)) operands) (now (state .entry))) (sizes .agents)) ⌝ }
 {
     let agents = sizes.agents;
     let mut agent: usize = 0;

@@ -17,7 +17,8 @@ ghost use Rattle.wellformed.specs.Given.{LoadGiven};
 // Each agent's residual becomes the node that its root names.
 fn start(sizes: Sizes, operands: &[u8], state: &mut [u32])
     requires { ⌜ LoadGiven sizes (now operands) (now state) ⌝ }
-    ensures { λ _. ⌜ ((kinds : List ℕ) → now (state .exit) ≡ forEach (started (table sizes kinds (now (operands .entry)))) (sizes .agents) (now (state .entry))) ⌝ }
+    ensures { λ _. ⌜ ((kinds : List ℕ) → now (state .exit) ≡
+        forEach (started (table sizes kinds (now (operands .entry)))) (sizes .agents) (now (state .entry))) ⌝ }
 {
     let first = first_root(sizes) + sizes.definitions + sizes.stigmergy;
     let agents = sizes.agents;
