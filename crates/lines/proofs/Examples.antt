@@ -16,7 +16,8 @@ use Rattle.lines.specs.Lines.{value, totalsLine, refusedLine, clockLine,
 
 -- what the examples compute with
 unfoldable computing : Unit {0}
-unfolding has plus valueIn put addKey digitsOf decimal signedDecimal spaced line eachBelow totalsLine refusedLine clockLine environmentLine attributeLine entryLine pendingLine valueLine keyLine memberLine agentLines stateLines shown
+unfolding has plus valueIn put addKey digitsOf decimal signedDecimal spaced line eachBelow
+    totalsLine refusedLine clockLine environmentLine attributeLine entryLine pendingLine valueLine keyLine memberLine agentLines stateLines shown
 computing = tt
 
 -- NUMBERS, as bytes

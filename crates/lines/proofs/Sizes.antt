@@ -22,7 +22,8 @@ use Rattle.steps.specs.Runs.{Rehearsal}
 use Rattle.machine.specs.declared.Totals.{Totals}
 use Rattle.machine.specs.Answers.{totalsOf}
 use Rattle.lines.specs.Text.{decimal, eachBelow}
-use Rattle.lines.specs.Lines.{value, totalsLine, refusedLine, clockLine, environmentLine, attributeLine, entryLine, pendingLine, valueLine, keyLine, storeLines, memberLine, pendingLines, agentLines, stateLines, shown}
+use Rattle.lines.specs.Lines.{value, totalsLine, refusedLine, clockLine, environmentLine, attributeLine, entryLine, pendingLine}
+use Rattle.lines.specs.Lines.{valueLine, keyLine, storeLines, memberLine, pendingLines, agentLines, stateLines, shown}
 use Rattle.lines.specs.Sizes.{totalsBytes, clockBytes, environmentBytes, attributeBytes, entryBytes, pendingBytes, agentBytes, shownBytes}
 use Rattle.lines.proofs.Decimal.{decimal-few, value-low, value-high}
 use Rattle.lines.proofs.Writing.{line-size}

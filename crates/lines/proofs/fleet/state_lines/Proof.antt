@@ -10,6 +10,18 @@ use borrow.Author.Needs.{needs}
 use Rattle.lines.proofs.fleet.state_lines.Statement.{statement}
 use Rattle.lines.proofs.fleet.state_lines.Tie as tie
 
+abbrev start : tie.After-clock-of → tie.Start
+start c = c .before .before .before .before
+
+abbrev read : tie.After-clock-line → tie.After-clock-of
+read c = c .before .before
+
+abbrev dated : tie.After-store-lines → tie.After-clock-line
+dated c = c .before .before .before .before
+
+abbrev stored : tie.After-fleet-lines → tie.After-store-lines
+stored c = c .before .before .before .before
+
 shared-slice-read-agents : tie.Need-shared-slice-read-agents
 shared-slice-read-agents c = search needs
 
@@ -21,22 +33,36 @@ clock-of-requires c κs = search needs
 
 clock-line-requires : tie.Need-clock-line-requires
 unfolding stateLines
-clock-line-requires c κs = let h = simp length-append at (c .before .before .before .before .before .pre .1 .fits) in room-same (ap clockLine (sym (c .before .clock-of .ensures))) (omega arith)
+clock-line-requires c κs =
+    let h = simp length-append at (start (c .before) .pre .1 .fits) in
+    room-same (ap clockLine (sym (c .before .clock-of .ensures))) (omega arith)
 
 store-lines-requires : tie.Need-store-lines-requires
 unfolding stateLines
-store-lines-requires c κs = let h = simp length-append at (c .before .before .before .before .before .before .before .before .before .pre .1 .fits) in (c .before .before .before .before .before .before .before .before .before .pre .0 .blocks, search needs, omega (arith, ap (λ (k : ℕ). length (clockLine k)) (c .before .before .before .before .before .clock-of .ensures)))
+store-lines-requires c κs =
+    let r = read (c .before .before .before) in
+    let a = start r in
+    let h = simp length-append at (a .pre .1 .fits) in
+    (a .pre .0 .blocks, search needs, omega (arith, ap (λ (k : ℕ). length (clockLine k)) (r .clock-of .ensures)))
 
 fleet-lines-requires : tie.Need-fleet-lines-requires
 unfolding stateLines
-fleet-lines-requires c κs = let h = simp length-append at (c .before .before .before .before .before .before .before .before .before .before .before .before .before .pre .1 .fits) in (c .before .before .before .before .before .before .before .before .before .before .before .before .before .pre .0 .blocks, c .before .before .before .before .before .before .before .before .before .before .before .before .before .pre .0 .agents, omega (arith, ap (λ (k : ℕ). length (clockLine k)) (c .before .before .before .before .before .before .before .before .before .clock-of .ensures)))
+fleet-lines-requires c κs =
+    let r = read (dated (c .before .before .before)) in
+    let a = start r in
+    let h = simp length-append at (a .pre .1 .fits) in
+    (a .pre .0 .blocks, a .pre .0 .agents, omega (arith, ap (λ (k : ℕ). length (clockLine k)) (r .clock-of .ensures)))
 
 same-length : tie.Need-same-length
 same-length c = search needs
 
 returns : tie.Need-returns
 unfolding stateLines
-returns c = wrote-then (wrote-then (wrote-same (ap clockLine (c .before .before .before .before .before .before .before .before .before .before .before .before .clock-of .ensures)) (c .before .before .before .before .before .before .before .before .before .before .clock-line .ensures)) (c .before .before .before .before .before .before .store-lines .ensures)) (c .before .before .fleet-lines .ensures)
+returns c =
+    let z = c .before .before in
+    let s = stored z in
+    let d = dated s in
+    wrote-then (wrote-then (wrote-same (ap clockLine (read d .clock-of .ensures)) (d .clock-line .ensures)) (s .store-lines .ensures)) (z .fleet-lines .ensures)
 
 pub state-lines-spec : {M : Type 1} → statement M
 state-lines-spec =

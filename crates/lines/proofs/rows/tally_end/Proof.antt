@@ -10,6 +10,15 @@ use borrow.Author.Needs.{needs}
 use Rattle.lines.proofs.rows.tally_end.Statement.{statement}
 use Rattle.lines.proofs.rows.tally_end.Tie as tie
 
+abbrev start : tie.After-put-named → tie.Start
+start c = c .before .before .before .before .before
+
+abbrev taken : tie.After-put-named2 → tie.After-put-named
+taken c = c .before .before .before .before .before .before
+
+abbrev added : tie.After-put-named3 → tie.After-put-named2
+added c = c .before .before .before .before .before .before
+
 -- equal numbers have as many digits
 digits : {m n : ℕ} → m ≡ n → length (decimal m) ≡ length (decimal n)
 digits e = ap (λ (k : ℕ). length (decimal k)) e
@@ -30,7 +39,9 @@ cast-put-named : tie.Need-cast-put-named
 cast-put-named c = search needs
 
 put-named-requires-2 : tie.Need-put-named-requires-2
-put-named-requires-2 c κs = let h = simp spaced-size at (c .before .before .before .before .before .before .before .before .before .before .pre .fits) in omega (arith, digits (c .before .before .before .before .before .before .before .taken .ensures))
+put-named-requires-2 c κs =
+    let h = simp spaced-size at (start (c .before .before .before .before .before) .pre .fits) in
+    omega (arith, digits (c .before .before .before .before .before .before .before .taken .ensures))
 
 slice-aggregate-put-named-3 : tie.Need-slice-aggregate-put-named-3
 slice-aggregate-put-named-3 c = search needs
@@ -39,10 +50,16 @@ cast-put-named-2 : tie.Need-cast-put-named-2
 cast-put-named-2 c = search needs
 
 put-named-requires-3 : tie.Need-put-named-requires-3
-put-named-requires-3 c κs = let h = simp spaced-size at (c .before .before .before .before .before .before .before .before .before .before .before .before .before .before .before .before .pre .fits) in omega (arith, digits (c .before .before .before .before .before .before .before .before .before .before .before .before .before .taken .ensures))
+put-named-requires-3 c κs =
+    let a = c .before .before .before .before .before in
+    let h = simp spaced-size at (start (taken a) .pre .fits) in
+    omega (arith, digits (taken a .before .before .taken .ensures))
 
 end-line-requires : tie.Need-end-line-requires
-end-line-requires c κs = let h = simp spaced-size at (c .before .before .before .before .before .before .before .before .before .before .before .before .before .before .before .before .before .before .before .before .pre .fits) in omega (arith, digits (c .before .before .before .before .before .before .before .before .before .before .before .before .before .before .before .before .before .taken .ensures))
+end-line-requires c κs =
+    let a = added (c .before .before .before) in
+    let h = simp spaced-size at (start (taken a) .pre .fits) in
+    omega (arith, digits (taken a .before .before .taken .ensures))
 
 same-length : tie.Need-same-length
 same-length c = search needs
@@ -50,11 +67,11 @@ same-length c = search needs
 returns : tie.Need-returns
 unfolding spaced
 returns c =
-    let replaced = c .before .before .before .before .before .before in
-    let added = replaced .before .before .before .before .before .before in
-    let taken = added .before .before .before .before .before .before in
-    wrote-then (rw (taken .before .before .taken .ensures) at (taken .put-named .ensures))
-    (wrote-then (added .put-named2 .ensures) (wrote-then (replaced .put-named3 .ensures) (c .before .before .end-line .ensures)))
+    let r = c .before .before .before .before .before .before in
+    let d = r .before .before .before .before .before .before in
+    let k = d .before .before .before .before .before .before in
+    wrote-then (rw (k .before .before .taken .ensures) at (k .put-named .ensures))
+    (wrote-then (d .put-named2 .ensures) (wrote-then (r .put-named3 .ensures) (c .before .before .end-line .ensures)))
 
 pub tally-end-spec : {M : Type 1} → statement M
 tally-end-spec =

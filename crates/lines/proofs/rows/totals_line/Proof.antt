@@ -8,6 +8,12 @@ use borrow.Author.Needs.{needs}
 use Rattle.lines.proofs.rows.totals_line.Statement.{statement}
 use Rattle.lines.proofs.rows.totals_line.Tie as tie
 
+abbrev start : tie.After-put-named → tie.Start
+start c = c .before .before .before .before .before
+
+abbrev done : tie.After-put-named2 → tie.After-put-named
+done c = c .before .before .before .before .before .before
+
 slice-aggregate-put-named : tie.Need-slice-aggregate-put-named
 slice-aggregate-put-named c = search needs
 
@@ -26,11 +32,11 @@ cast-put-named-2 c = search needs
 
 put-named-requires-2 : tie.Need-put-named-requires-2
 unfolding totalsLine
-put-named-requires-2 c κs = let h = simp line-size at (c .before .before .before .before .before .before .before .before .before .before .pre .fits) in omega arith
+put-named-requires-2 c κs = let h = simp line-size at (start (c .before .before .before .before .before) .pre .fits) in omega arith
 
 tally-end-requires : tie.Need-tally-end-requires
 unfolding totalsLine
-tally-end-requires c κs = let h = simp line-size at (c .before .before .before .before .before .before .before .before .before .before .before .before .before .before .pre .fits) in record { fits = simp spaced-size (omega arith) }
+tally-end-requires c κs = let h = simp line-size at (start (done (c .before .before .before)) .pre .fits) in record { fits = simp spaced-size (omega arith) }
 
 same-length : tie.Need-same-length
 same-length c = search needs
@@ -38,8 +44,8 @@ same-length c = search needs
 returns : tie.Need-returns
 unfolding totalsLine line spaced
 returns c =
-    let refused = c .before .before .before .before .before .before in
-    wrote-then (refused .before .before .before .before .before .before .put-named .ensures) (wrote-then (refused .put-named2 .ensures) (c .before .before .tally-end .ensures))
+    let r = c .before .before .before .before .before .before in
+    wrote-then (done r .put-named .ensures) (wrote-then (r .put-named2 .ensures) (c .before .before .tally-end .ensures))
 
 pub totals-line-spec : {M : Type 1} → statement M
 totals-line-spec =

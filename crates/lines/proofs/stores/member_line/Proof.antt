@@ -13,6 +13,12 @@ use borrow.Author.Needs.{needs}
 use Rattle.lines.proofs.stores.member_line.Statement.{statement}
 use Rattle.lines.proofs.stores.member_line.Tie as tie
 
+abbrev start : tie.After-has → tie.Start
+start c = c .before .before .before
+
+abbrev asked : tie.After-pending-line → tie.After-has
+asked c = c .before .before .before
+
 module _ (name : List ℕ) (agent keys key : ℕ) where
   has-key : has keys key ≡ true → memberLine name agent keys key ≡ pendingLine name agent key
   unfolding memberLine
@@ -26,16 +32,26 @@ has-requires : tie.Need-has-requires
 has-requires c κs = search needs
 
 pending-line-requires : tie.Need-pending-line-requires
-pending-line-requires c κs = room-same (has-key (now (c .before .before .before .before .before .args .name)) (c .before .before .before .before .before .args .agent) (c .before .before .before .before .before .args .keys) (c .before .before .before .before .before .args .key) (sym (c .before .before .has .ensures) ∙ c .before .if1 .taken)) (c .before .before .before .before .before .pre .1)
+pending-line-requires c κs =
+    let a = c .before .before in
+    let s = start a in
+    room-same (has-key (now (s .args .name)) (s .args .agent) (s .args .keys) (s .args .key) (sym (a .has .ensures) ∙ c .before .if1 .taken)) (s .pre .1)
 
 same-length : tie.Need-same-length
 same-length c = search needs
 
 returns : tie.Need-returns
-returns c = wrote-same (sym (has-key (now (c .before .before .before .before .before .before .before .before .args .name)) (c .before .before .before .before .before .before .before .before .args .agent) (c .before .before .before .before .before .before .before .before .args .keys) (c .before .before .before .before .before .before .before .before .args .key) (sym (c .before .before .before .before .before .has .ensures) ∙ c .before .before .before .before .if1 .taken))) (c .before .before .pending-line .ensures)
+returns c =
+    let z = c .before .before in
+    let a = asked z in
+    let s = start a in
+    wrote-same (sym (has-key (now (s .args .name)) (s .args .agent) (s .args .keys) (s .args .key) (sym (a .has .ensures) ∙ z .before .before .if1 .taken)))
+    (z .pending-line .ensures)
 
 returns-2 : tie.Need-returns-2
-returns-2 c = let a = c .before .before .before .before .args in wrote-same (sym (has-not (now (a .name)) (a .agent) (a .keys) (a .key) (sym (c .before .has .ensures) ∙ c .if1 .left))) (wrote-nothing (omega arith))
+returns-2 c =
+    let a = start (c .before) .args in
+    wrote-same (sym (has-not (now (a .name)) (a .agent) (a .keys) (a .key) (sym (c .before .has .ensures) ∙ c .if1 .left))) (wrote-nothing (omega arith))
 
 pub member-line-spec : {M : Type 1} → statement M
 member-line-spec =

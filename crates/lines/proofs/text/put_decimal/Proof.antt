@@ -7,6 +7,9 @@ use Rattle.lines.proofs.Decimal.{decimal-is}
 use Rattle.lines.proofs.text.put_decimal.Statement.{statement}
 use Rattle.lines.proofs.text.put_decimal.Tie as tie
 
+abbrev start : tie.After-decimal → tie.Start
+start c = c .before .before .before
+
 decimal-requires : tie.Need-decimal-requires
 decimal-requires c κs = search needs
 
@@ -18,16 +21,19 @@ slice-aggregate-put c = search needs
 
 put-requires : tie.Need-put-requires
 put-requires c κs =
-    let d = c .before .before .decimal in
-    room-same (sym (d .ensures .1 .1 ∙ decimal-is (c .before .before .before .before .before .args .n) (d .result) (d .ensures .1 .0))) (c .before .before .before .before .before .pre)
+    let z = c .before .before in
+    let a = start z in
+    let d = z .decimal in
+    room-same (sym (d .ensures .1 .1 ∙ decimal-is (a .args .n) (d .result) (d .ensures .1 .0))) (a .pre)
 
 same-length : tie.Need-same-length
 same-length c = search needs
 
 returns : tie.Need-returns
 returns c =
-    let d = c .before .before .before .before .before .decimal in
-    wrote-same (d .ensures .1 .1 ∙ decimal-is (c .before .before .before .before .before .before .before .before .args .n) (d .result) (d .ensures .1 .0)) (c .before .before .put .ensures)
+    let z = c .before .before .before .before .before in
+    let d = z .decimal in
+    wrote-same (d .ensures .1 .1 ∙ decimal-is (start z .args .n) (d .result) (d .ensures .1 .0)) (c .before .before .put .ensures)
 
 pub put-decimal-spec : {M : Type 1} → statement M
 put-decimal-spec =

@@ -12,6 +12,9 @@ use borrow.Author.Needs.{needs}
 use Rattle.lines.proofs.text.put_value.Statement.{statement}
 use Rattle.lines.proofs.text.put_value.Tie as tie
 
+abbrev start : tie.After-put → tie.Start
+start c = c .before .before .before .before .before
+
 low : (w : ℕ) → w < 2147483648 → ascii " " ++ value w ≡ ascii " " ++ decimal w
 low w h = ap (λ (s : List ℕ). ascii " " ++ s) (value-low w h)
 
@@ -19,13 +22,13 @@ high : (w : ℕ) → 2147483648 ≤ w → w < 4294967296 → ascii " " ++ value 
 high w l h = ap (λ (s : List ℕ). ascii " " ++ s) (value-high w l h)
 
 put-number-requires : tie.Need-put-number-requires
-put-number-requires c κs = room-same (low (c .before .before .before .args .word) (omega arith)) (c .before .before .before .pre)
+put-number-requires c κs = let a = c .before .before .before in room-same (low (a .args .word) (omega arith)) (a .pre)
 
 slice-aggregate-put : tie.Need-slice-aggregate-put
 slice-aggregate-put c = search needs
 
 put-requires : tie.Need-put-requires
-put-requires c κs = let h = room-same (high (c .before .before .before .before .args .word) (omega arith) (omega arith)) (c .before .before .before .before .pre) in omega arith
+put-requires c κs = let a = c .before .before .before .before in let h = room-same (high (a .args .word) (omega arith) (omega arith)) (a .pre) in omega arith
 
 sub-size : tie.Need-sub-size
 sub-size c = search needs
@@ -37,7 +40,11 @@ cast-put-decimal : tie.Need-cast-put-decimal
 cast-put-decimal c = search needs
 
 put-decimal-requires : tie.Need-put-decimal-requires
-put-decimal-requires c κs = let h = room-same (high (c .before .before .before .before .before .before .before .before .args .word) (omega arith) (omega arith)) (c .before .before .before .before .before .before .before .before .pre) in omega (arith, c .before .before .before .put .ensures .ends, c .before .before .before .put .kept)
+put-decimal-requires c κs =
+    let z = c .before .before .before in
+    let a = start z in
+    let h = room-same (high (a .args .word) (omega arith) (omega arith)) (a .pre) in
+    omega (arith, z .put .ensures .ends, z .put .kept)
 
 same-length : tie.Need-same-length
 same-length c = search needs
@@ -49,7 +56,9 @@ same-length-2 : tie.Need-same-length-2
 same-length-2 c = search needs
 
 returns-2 : tie.Need-returns-2
-returns-2 c = wrote-same (sym (high (c .before .before .before .before .before .before .before .before .before .before .before .args .word) (omega arith) (omega arith))) (wrote-then (c .before .before .before .before .before .before .put .ensures) (c .before .before .put-decimal .ensures))
+returns-2 c =
+    let z = c .before .before .before .before .before .before in
+    wrote-same (sym (high (start z .args .word) (omega arith) (omega arith))) (wrote-then (z .put .ensures) (c .before .before .put-decimal .ensures))
 
 pub put-value-spec : {M : Type 1} → statement M
 put-value-spec =
