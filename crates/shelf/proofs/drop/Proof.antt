@@ -11,11 +11,17 @@ use borrow.Author.Needs.{needs}
 use Rattle.shelf.proofs.drop.Statement.{statement}
 use Rattle.shelf.proofs.drop.Tie as tie
 
+abbrev start : tie.After-accept → tie.Start
+start c = c .before .before .before .before .before
+
+abbrev accepted : tie.After-judge-shelf → tie.After-accept
+accepted c = c .before .before .before .before
+
 accept-requires : tie.Need-accept-requires
 accept-requires c κs = search needs
 
 judge-shelf-requires : tie.Need-judge-shelf-requires
-judge-shelf-requires c κs = accepts-given (now (c .before .before .before .before .before .before .before .before .args .shelf)) (c .before .before .before .accept .ensures)
+judge-shelf-requires c κs = let a = c .before .before .before in accepts-given (now (start a .args .shelf)) (a .accept .ensures)
 
 enum-told : tie.Need-enum-told
 enum-told c = search needs
@@ -23,7 +29,8 @@ enum-told c = search needs
 drop-in-requires : tie.Need-drop-in-requires
 drop-in-requires c κs =
     let j = c .before .before .before in
-    accepts-whole (now (j .before .before .before .before .before .before .before .before .before .args .shelf)) (j .before .before .before .before .accept .ensures) (j .judge-shelf .ensures) (c .before .enum-told .given .1)
+    let a = accepted j in
+    accepts-whole (now (start a .args .shelf)) (a .accept .ensures) (j .judge-shelf .ensures) (c .before .enum-told .given .1)
 
 enum-known-judged : tie.Need-enum-known-judged
 enum-known-judged c = search needs
@@ -38,10 +45,12 @@ returns : tie.Need-returns
 unfolding dropOf
 returns c =
     let j = c .before .before .before .before .before .before in
-    let o = j .before .before .before .before .accept .ensures in
-    let a = j .before .before .before .before .before .before .before .before .before .args in
+    let z = accepted j in
+    let o = z .accept .ensures in
+    let a = start z .args in
     let s = now (a .shelf) in
-    then-own (j .judge-shelf .ensures) (tableChecks (now (a .table)) (isWholeShelf s) (length (now (a .scratch)))) (heldChecks s (a .name)) (o .check) s (dropped s (a .name))
+    then-own (j .judge-shelf .ensures) (tableChecks (now (a .table)) (isWholeShelf s) (length (now (a .scratch))))
+    (heldChecks s (a .name)) (o .check) s (dropped s (a .name))
     (c .before .before .before .before .enum-told .given .1) (c .before .before .drop-in .ensures)
 
 same-length-3 : tie.Need-same-length-3
@@ -54,10 +63,12 @@ returns-2 : tie.Need-returns-2
 unfolding dropOf
 returns-2 c =
     let j = c .before .before .before in
-    let o = j .before .before .before .before .accept .ensures in
-    let a = j .before .before .before .before .before .before .before .before .before .args in
+    let z = accepted j in
+    let o = z .accept .ensures in
+    let a = start z .args in
     let s = now (a .shelf) in
-    stops (j .judge-shelf .ensures) (tableChecks (now (a .table)) (isWholeShelf s) (length (now (a .scratch)))) (heldChecks s (a .name)) (o .check) s (dropped s (a .name))
+    stops (j .judge-shelf .ensures) (tableChecks (now (a .table)) (isWholeShelf s) (length (now (a .scratch))))
+    (heldChecks s (a .name)) (o .check) s (dropped s (a .name))
     (c .before .judged .given .1)
 
 pub drop-spec : {M : Type 1} → statement M

@@ -11,11 +11,17 @@ use borrow.Author.Needs.{needs}
 use Rattle.shelf.proofs.save.Statement.{statement}
 use Rattle.shelf.proofs.save.Tie as tie
 
+abbrev start : tie.After-open → tie.Start
+start c = c .before .before .before .before .before .before
+
+abbrev opened : tie.After-judge-shelf → tie.After-open
+opened c = c .before .before .before .before
+
 open-requires : tie.Need-open-requires
 open-requires c κs = search needs
 
 judge-shelf-requires : tie.Need-judge-shelf-requires
-judge-shelf-requires c κs = opens-given (now (c .before .before .before .before .before .before .before .before .before .args .shelf)) (c .before .before .before .«open» .ensures)
+judge-shelf-requires c κs = let o = c .before .before .before in opens-given (now (start o .args .shelf)) (o .«open» .ensures)
 
 enum-told : tie.Need-enum-told
 enum-told c = search needs
@@ -23,7 +29,8 @@ enum-told c = search needs
 save-in-requires : tie.Need-save-in-requires
 save-in-requires c κs =
     let j = c .before .before .before in
-    opens-whole (now (j .before .before .before .before .before .before .before .before .before .before .args .shelf)) (j .before .before .before .before .«open» .ensures) (j .judge-shelf .ensures) (c .before .enum-told .given .1)
+    let o = opened j in
+    opens-whole (now (start o .args .shelf)) (o .«open» .ensures) (j .judge-shelf .ensures) (c .before .enum-told .given .1)
 
 enum-known-judged : tie.Need-enum-known-judged
 enum-known-judged c = search needs
@@ -38,10 +45,12 @@ returns : tie.Need-returns
 unfolding saveOf
 returns c =
     let j = c .before .before .before .before .before .before in
-    let o = j .before .before .before .before .«open» .ensures in
-    let a = j .before .before .before .before .before .before .before .before .before .before .args in
+    let z = opened j in
+    let o = z .«open» .ensures in
+    let a = start z .args in
     let s = now (a .shelf) in
-    then-own (j .judge-shelf .ensures) (stateChecksWith (isWholeShelf s) (now (a .table)) (now (a .state)) (length (now (a .scratch)))) (saveChecks s (a .name)) (o .check) s (saved (now (a .state)) s (a .name))
+    then-own (j .judge-shelf .ensures) (stateChecksWith (isWholeShelf s) (now (a .table)) (now (a .state)) (length (now (a .scratch))))
+    (saveChecks s (a .name)) (o .check) s (saved (now (a .state)) s (a .name))
     (c .before .before .before .before .enum-told .given .1) (c .before .before .save-in .ensures)
 
 same-length-3 : tie.Need-same-length-3
@@ -54,10 +63,12 @@ returns-2 : tie.Need-returns-2
 unfolding saveOf
 returns-2 c =
     let j = c .before .before .before in
-    let o = j .before .before .before .before .«open» .ensures in
-    let a = j .before .before .before .before .before .before .before .before .before .before .args in
+    let z = opened j in
+    let o = z .«open» .ensures in
+    let a = start z .args in
     let s = now (a .shelf) in
-    stops (j .judge-shelf .ensures) (stateChecksWith (isWholeShelf s) (now (a .table)) (now (a .state)) (length (now (a .scratch)))) (saveChecks s (a .name)) (o .check) s (saved (now (a .state)) s (a .name))
+    stops (j .judge-shelf .ensures) (stateChecksWith (isWholeShelf s) (now (a .table)) (now (a .state)) (length (now (a .scratch))))
+    (saveChecks s (a .name)) (o .check) s (saved (now (a .state)) s (a .name))
     (c .before .judged .given .1)
 
 pub save-spec : {M : Type 1} → statement M

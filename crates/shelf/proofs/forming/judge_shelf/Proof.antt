@@ -12,11 +12,14 @@ use borrow.Author.Needs.{needs}
 use Rattle.shelf.proofs.forming.judge_shelf.Statement.{statement}
 use Rattle.shelf.proofs.forming.judge_shelf.Tie as tie
 
+abbrev start : tie.After-earlier → tie.Start
+start c = c .before .before .before .before
+
 enum-known-earlier : tie.Need-enum-known-earlier
 enum-known-earlier c = search needs
 
 add-operands : tie.Need-add-operands
-add-operands c = let l = c .before .before .before .before .before .before .pre _ (c .before .before .earlier .given .1) .limits .nodes in omega arith
+add-operands c = let z = c .before .before in let l = start z .pre _ (z .earlier .given .1) .limits .nodes in omega arith
 
 sub-shelf-formed : tie.Need-sub-shelf-formed
 sub-shelf-formed c = search needs
@@ -25,11 +28,11 @@ part-shelf-formed-start : tie.Need-part-shelf-formed-start
 part-shelf-formed-start c = search needs
 
 part-shelf-formed-end : tie.Need-part-shelf-formed-end
-part-shelf-formed-end c = let l = c .before .before .before .before .before .before .pre _ (c .before .before .earlier .given .1) .size in omega arith
+part-shelf-formed-end c = let z = c .before .before in let l = start z .pre _ (z .earlier .given .1) .size in omega arith
 
 shelf-formed-requires : tie.Need-shelf-formed-requires
 shelf-formed-requires c κs =
-    let a = c .before .before .before .before .before .before .before in
+    let a = start (c .before .before .before) in
     form-given (now (a .args .table)) (now (a .args .shelf)) _ (a .pre _ (c .before .before .before .earlier .given .1))
 
 enum-known-earlier-2 : tie.Need-enum-known-earlier-2
@@ -37,7 +40,7 @@ enum-known-earlier-2 c = search needs
 
 returns : tie.Need-returns
 returns c =
-    let a = c .before .before .before .before .before .before .before .before .before in
+    let a = start (c .before .before .before .before .before) in
     let e = c .before .before .before .before .before .earlier .given .1 in
     let s = now (a .args .shelf) in
     judged-formed (now (a .args .table)) s (a .args .earlier) e
@@ -45,7 +48,7 @@ returns c =
 
 returns-2 : tie.Need-returns-2
 returns-2 c =
-    let a = c .before .before .before .before .before .before .before .before .before in
+    let a = start (c .before .before .before .before .before) in
     let e = c .before .before .before .before .before .earlier .given .1 in
     let s = now (a .args .shelf) in
     judged-broken (now (a .args .table)) s (a .args .earlier) e
