@@ -170,7 +170,6 @@ module _ (t : Table) (limits : Limits (t .sizes)) (was : List ℕ) (narrow : Nar
         where
           answered : agentOf (offer t was x k true confirming y now) y
               ≡ agentOf (responded k (entryOf was x k) y (cond (takes t was x k true y) (Takes (inserts t was x k true y)) (cond (confirming && holdsNewer t was x k true y) Propagates Ignores)) now) y
-          unfolding offer
           answered = ap (λ (r : Response). agentOf (responded k (entryOf was x k) y r now) y) (response-by t was x k true confirming y)
 
           drop-away : (z : KeySet) → agentOf (dropKey (placeAt (Waits z x)) k spread) y ≡ agentOf spread y
