@@ -180,7 +180,7 @@ module _ (shelf : List ℕ) (whole : length shelf ≡ shelfWords) (free : NoName
         computed .at-save,
         record { table = computed .table; whole = whole; formed = formed },
         is-name,
-        inr (0, omega arith, free 0 (omega arith)),
+        inr (0, record { place = omega arith; named = free 0 (omega arith) }),
       )
 
   abbrev then : List ℕ
