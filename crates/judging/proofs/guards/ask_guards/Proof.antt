@@ -1,4 +1,4 @@
--- `judging::guards::ask_guards` meets its contract: guard after marked guard, none before the loop's has failed, and what they read has been added.
+-- `judging::guards::ask_guards` meets its contract. The loop's invariant: no marked guard before n fails, and the keys
 -- are those that they read.
 -- Assumes nothing.
 use Prim.Native.Nat.{ℕ, _-_, _<_}
@@ -82,8 +82,8 @@ loop-again c =
     let a = start (c .before .before .before .before .before .before) in
     let l = c .before .before .before .before .before .before .loop in
     let g = c .before .before .before .before .before .next-guard in (
-      some-next (g .ensures) (fails a) (omega (arith, a .pre .situated .shaped .kinds)) ∙ rw
-          (l .inv .0, ← c .before .before .holds .ensures) (c .before .if2 .left),
+      some-next (g .ensures) (fails a) (omega (arith, a .pre .situated .shaped .kinds))
+          ∙ rw (l .inv .0, ← c .before .before .holds .ensures) (c .before .if2 .left),
       reads-more (here a) (now (a .args .marks)) (g .ensures) (l .inv .1) (omega (arith, a .pre .situated .shaped .kinds)) (c .keys-read .ensures),
     )
 

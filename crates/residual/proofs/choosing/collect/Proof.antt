@@ -1,4 +1,5 @@
--- `residual::choosing::collect` meets its contract: down towards the choice, marking the guards of what a step passes.
+-- `collect` meets its contract: the loop steps towards choice c (`Toward`), and what it passes has been marked and counted.
+-- Assumes nothing.
 use Prim.Native.Nat.{ℕ, _+_, _-_, _*_, _≤_, _<_}
 use mathlib.Core.List.{List}
 use mathlib.Core.Path.{_≡_, sym, subst}

@@ -1,4 +1,5 @@
--- `residual::choosing::rewrite` meets its contract: the words are moved to the end, what the choice leaves is written at the front, the rest is cleared.
+-- `rewrite` meets its contract: the words are moved to the end, what the choice leaves is placed around a gap, which is closed and cleared.
+-- Assumes nothing.
 use Prim.Native.Nat.{ℕ}
 use mathlib.Core.List.{List}
 use mathlib.Core.Path.{subst}

@@ -1,4 +1,5 @@
--- `residual::writing::place` meets its contract: down towards the choice, writing before the place what a step leaves beside it.
+-- `place` meets its contract: the loop steps towards choice c (`Spot`), and the words before the gap are what it leaves of those passed.
+-- Assumes nothing.
 use Prim.Native.Nat.{ℕ, _-_, _≤_, _<_}
 use mathlib.Core.List.{List}
 use mathlib.Core.Path.{_≡_, sym, ap, subst}
