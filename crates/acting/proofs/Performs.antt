@@ -61,7 +61,8 @@ module _ (t : Table) (scratch : List ℕ) (ready : Prepared t scratch) (was : Li
   -- WHAT A LABEL'S KEY LEAVES
   label-other : (l : Label) → Labelled t l → (q : Place) → Still x q → SameAt (setKey t was x l) was q
   label-other Ticking h q s = ap (λ (u : List ℕ). wordAt u q) (set-tick t was x)
-  label-other (Acting n) h q s = set-key-other t was x n (action-key t was x (ready .checked .sound) n h) q (s .inside) (s .clock) (s .waits) (s .mark (storeOf t x n) (pAt t n)) (s .word (storeOf t x n) (pAt t n)) (s .writer (pAt t n))
+  label-other (Acting n) h q s = set-key-other t was x n (action-key t was x (ready .checked .sound) n h) q (s .inside) (s .clock) (s .waits)
+      (s .mark (storeOf t x n) (pAt t n)) (s .word (storeOf t x n) (pAt t n)) (s .writer (pAt t n))
 
   module _ (c : ℕ) (label : Label) (v keys : ℕ) (j : Judges t was x c (Allowed label v keys)) where
     abbrev D : Derivation

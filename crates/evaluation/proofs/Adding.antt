@@ -76,9 +76,12 @@ module _ (t : Table) where
   reads-none limit n w h = adds-none (λ k l. reads-out limit n k h)
 
   -- its own key, then those of its parts
-  pub reads-parts : (limit n : ℕ) {w u v z : ℕ} → n < limit → Adds (isKey t n) w u → Adds (λ (k : ℕ). leftNode t n && readsBelow t n (pAt t n) k) u v → Adds (λ (k : ℕ). rightNode t n && readsBelow t n (qAt t n) k) v z → Adds (readsBelow t limit n) w z
+  pub reads-parts : (limit n : ℕ) {w u v z : ℕ} → n < limit → Adds (isKey t n) w u
+      → Adds (λ (k : ℕ). leftNode t n && readsBelow t n (pAt t n) k) u v
+      → Adds (λ (k : ℕ). rightNode t n && readsBelow t n (qAt t n) k) v z → Adds (readsBelow t limit n) w z
   unfolding readsStep
   reads-parts limit n h a b c =
       adds-same
-      (λ k. ap (λ (f : ℕ → Bool). f k) (below-at (readsStep t) (λ (j : ℕ). false) limit n h) ∙ sym (or-assoc (isKey t n k) (leftNode t n && readsBelow t n (pAt t n) k) (rightNode t n && readsBelow t n (qAt t n) k)))
+      (λ k. ap (λ (f : ℕ → Bool). f k) (below-at (readsStep t) (λ (j : ℕ). false) limit n h)
+      ∙ sym (or-assoc (isKey t n k) (leftNode t n && readsBelow t n (pAt t n) k) (rightNode t n && readsBelow t n (qAt t n) k)))
       (adds-both (adds-both a b) c)

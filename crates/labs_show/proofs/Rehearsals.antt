@@ -55,7 +55,8 @@ module _ (table schedule was : List ℕ) (scratch : ℕ) (answers : List ℕ) {r
         let start : mid ≡ loaded (tableOf table) = l .words ∙ ap (λ (o : Outcome). o .state) (accepted-load table was scratch a) in
         subst (λ (p : Progress). Fleet (p .state)) (sym (run-passes table mid scratch schedule answers f))
         (proper-fleet (tableOf table) _ (a .table .sound .shaped .limits)
-        (ran-proper (tableOf table) (a .table .sound) (λ i. rw (getD-drop (12 + sizesOf table .nodes) table i 0) (narrow (12 + sizesOf table .nodes + i))) schedule (stepsOf schedule) (begun mid answers)
+        (ran-proper (tableOf table) (a .table .sound) (λ i. rw (getD-drop (12 + sizesOf table .nodes) table i 0) (narrow (12 + sizesOf table .nodes + i)))
+        schedule (stepsOf schedule) (begun mid answers)
         (subst (λ (s : List ℕ). ProperFacts (tableOf table) s) (sym start) (load-proper table (isWhole was) scratch (accepted-passes table (isWhole was) scratch a)))))
 
     pub loaded-runs : {later : ℕ} → later ≡ scratch → {x : Ran} {after bytes : List ℕ} → Runs (runOf table mid later schedule answers) x after bytes

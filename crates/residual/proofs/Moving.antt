@@ -68,6 +68,7 @@ pub up-step : (ws : List ℕ) (from to n j : ℕ) (out : List ℕ) → from ≤ 
     Moved ws from to (to + (j - 1)) (to + n) (set out (to + (j - 1)) (getD out (from + (j - 1)) 0))
 up-step ws from to n j out h g p q m =
     let f : from + (j - 1) ≡ from + (to + (j - 1) - to) = omega arith in
-    moved-more ws from to (to + j) (to + n) out (to + (j - 1)) (getD out (from + (j - 1)) 0) m (omega arith) (m .outside (from + (j - 1)) (inl (omega arith)) ∙ ap (λ (i : ℕ). getD ws i 0) f) (to + (j - 1)) (to + n)
+    moved-more ws from to (to + j) (to + n) out (to + (j - 1)) (getD out (from + (j - 1)) 0) m (omega arith)
+    (m .outside (from + (j - 1)) (inl (omega arith)) ∙ ap (λ (i : ℕ). getD ws i 0) f) (to + (j - 1)) (to + n)
     (λ i l r. ⊎-elim (λ (x : to + (j - 1) ≡ i). inl (sym x)) (λ (x : to + (j - 1) < i). inr (omega arith, r, λ y. omega arith)) (eq-or-lt-of-le {n = to + (j - 1)} {m = i} l))
     (λ i l. ⊎-elim (λ (x : i < to + (j - 1)). (inl (omega arith), λ y. omega arith)) (λ (x : to + n ≤ i). (inr x, λ y. omega arith)) l)

@@ -47,7 +47,8 @@ module _ (t : Table) (s : List ℕ) (ready : Prepared t s) (at : ℕ) (ws : List
   there = sym (append-nil (words T) ∙ read .1)
 
   -- what is found of it
-  pub offered : {roots : ℕ} → firstRoot t ≡ roots → (r : Measured) → Found roots s ws at r → (n : ℕ) → n ≡ totalOf Any (r .counts) → Offered t (residualTerm (drop at ws)) (record { few = r .few; count = n })
+  pub offered : {roots : ℕ} → firstRoot t ≡ roots → (r : Measured) → Found roots s ws at r → (n : ℕ) → n ≡ totalOf Any (r .counts)
+      → Offered t (residualTerm (drop at ws)) (record { few = r .few; count = n })
   offered e r f n d =
       let w = f .right t e (ready .counted) T [] (read .0) there in
       record {

@@ -16,7 +16,8 @@ use Rattle.table.specs.declared.Field.{Field}
 use Rattle.table.specs.declared.Field.the-variants.{Never, Zero, Process, Guard}
 use Rattle.table.specs.declared.Fields.{Fields}
 use Rattle.table.specs.Tables.{Table, sizesOf, withinLimits, tableOf, kindAt, pAt, qAt, firstRoot, firstLinkRoot, firstAgentRoot, bodyAt, linkAt, startAt}
-use Rattle.table.specs.Nodes.{processRows, guardRows, expressionRows, rowOf, fields, fieldsOf, fieldsHere, fieldsAt, rootNames, isProcess, isGuard, isExpression, inner, fitting, leftNode, rightNode, names, named, namesAgain, badNode}
+use Rattle.table.specs.Nodes.{processRows, guardRows, expressionRows, rowOf, fields, fieldsOf, fieldsHere, fieldsAt, rootNames}
+use Rattle.table.specs.Nodes.{isProcess, isGuard, isExpression, inner, fitting, leftNode, rightNode, names, named, namesAgain, badNode}
 use Rattle.table.specs.Sound.{LowerProcess, LowerGuard, LowerExpression}
 use Rattle.table.specs.Reach.{processNode, linkRoot, reachedFrom, wrongKey}
 use Rattle.table.specs.Sound.{Sound}

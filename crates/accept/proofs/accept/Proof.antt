@@ -25,7 +25,10 @@ same-length : tie.Need-same-length
 same-length c = c .before .before .judge-lent .kept .1 .1 .1 .0
 
 returns : tie.Need-returns
-returns c = accepts-judged (c .before .before .before .before .before .before .before .measure .ensures) _ (c .before .before .judge-lent .kept .1 .1 .1 .0) (c .before .before .before .before .before .measured .given .1) (c .before .before .judge-lent .ensures)
+returns c =
+    let z = c .before .before in
+    accepts-judged (z .before .before .before .before .before .measure .ensures) _ (z .judge-lent .kept .1 .1 .1 .0)
+    (z .before .before .before .measured .given .1) (z .judge-lent .ensures)
 
 returns-2 : tie.Need-returns-2
 returns-2 c = accepts-refused (c .before .before .before .measure .ensures) _ refl (c .before .measured2 .given .1)

@@ -18,6 +18,12 @@ use Rattle.accept.proofs.judge_lent.Statement.{statement}
 use Rattle.accept.proofs.judge_lent.Tie as tie
 use Rattle.accept.proofs.Answering.{judged-refused, judged-later, lent-table, lent-not, lent-short, lent-enough}
 
+abbrev start : tie.After-scratch-words → tie.Start
+start c = c .before .before .before .before
+
+abbrev measured : tie.After-judge → tie.After-scratch-words
+measured c = c .before .before .before .before .before .before
+
 abbrev bytes : tie.Start → List ℕ
 bytes a = now (a .args .table)
 
@@ -44,8 +50,9 @@ scratch-words-requires c κs = let a = c .before .before .before in subst Limits
 
 returns-2 : tie.Need-returns-2
 returns-2 c =
-    let a = c .before .before .before .before .before in
-    judged-refused (lent-short (bytes a) (a .args .fits) _ (not-false (a .args .fits) (c .before .before .if1 .left)) (omega (arith, same-nodes a, c .before .scratch-words .ensures))) refl
+    let a = start (c .before) in
+    judged-refused (lent-short (bytes a) (a .args .fits) _ (not-false (a .args .fits) (c .before .before .if1 .left))
+    (omega (arith, same-nodes a, c .before .scratch-words .ensures))) refl
 
 add-operands : tie.Need-add-operands
 add-operands c = search needs
@@ -57,20 +64,20 @@ part-judge-start : tie.Need-part-judge-start
 part-judge-start c = search needs
 
 part-judge-end : tie.Need-part-judge-end
-part-judge-end c = let w = whole (c .before .before .before .before .before .before) in omega arith
+part-judge-end c = let w = whole (start (c .before .before)) in omega arith
 
 sub-judge-2 : tie.Need-sub-judge-2
-sub-judge-2 c = let w = whole (c .before .before .before .before .before .before .before) in omega arith
+sub-judge-2 c = let w = whole (start (c .before .before .before)) in omega arith
 
 part-judge-start-2 : tie.Need-part-judge-start-2
-part-judge-start-2 c = let w = whole (c .before .before .before .before .before .before .before) in omega arith
+part-judge-start-2 c = let w = whole (start (c .before .before .before)) in omega arith
 
 part-judge-end-2 : tie.Need-part-judge-end-2
 part-judge-end-2 c = search needs
 
 judge-requires : tie.Need-judge-requires
 judge-requires c κs =
-    let a = c .before .before .before .before .before .before .before .before .before in
+    let a = start (c .before .before .before .before .before) in
     (subst Shaped (sym (is-table a)) (measured-shape (bytes a) (a .pre .0)), omega arith)
 
 same-length : tie.Need-same-length
@@ -78,10 +85,12 @@ same-length c = c .before .before .judge .kept .1 .1 .1 .0
 
 returns-3 : tie.Need-returns-3
 returns-3 c =
-    let a = c .before .before .before .before .before .before .before .before .before .before .before .before in
+    let z = c .before .before in
+    let a = start (measured z) in
     let e = same-nodes a in
-    judged-later (lent-enough (bytes a) (a .args .fits) _ (not-false (a .args .fits) (c .before .before .before .before .before .before .before .before .before .if1 .left)) (omega (arith, c .before .before .before .before .before .before .before .before .scratch-words .ensures)))
-    (subst (λ (t : Table). Judged t (contentChecks t) (c .before .before .judge .last .1 .1 .1 .0) (c .before .before .judge .result)) (is-table a) (c .before .before .judge .ensures))
+    judged-later (lent-enough (bytes a) (a .args .fits) _ (not-false (a .args .fits) (measured z .before .if1 .left))
+    (omega (arith, measured z .scratch-words .ensures)))
+    (subst (λ (t : Table). Judged t (contentChecks t) (z .judge .last .1 .1 .1 .0) (z .judge .result)) (is-table a) (z .judge .ensures))
 
 pub judge-lent-spec : {M : Type 1} → statement M
 judge-lent-spec =

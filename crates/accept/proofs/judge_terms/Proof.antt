@@ -11,6 +11,9 @@ use Rattle.accept.proofs.judge_terms.Tie as tie
 use Rattle.accept.proofs.Fullness.{counted}
 use Rattle.accept.proofs.Answering.{judged-later, judged-none, refuses-at, passes-at, none-at, ends-at}
 
+abbrev begun : tie.After-lowest-bad-call → tie.Start
+begun c = c .before .before .before .before .before
+
 abbrev tableAt : tie.Start → Table
 tableAt a = table (a .args .sizes) (now (a .args .kinds)) (now (a .args .operands))
 
@@ -19,7 +22,7 @@ abbrev called : tie.Else1 → tie.After-lowest-bad-call
 called c = c .before .before .before .before
 
 abbrev start : tie.Else1 → tie.Start
-start c = called c .before .before .before .before .before
+start c = begun (called c)
 
 abbrev D : tie.Else1 → ℕ
 D c = start c .args .sizes .definitions
@@ -34,7 +37,7 @@ same-length : tie.Need-same-length
 same-length c = c .before .before .before .before .lowest-bad-call .kept .1 .1 .1 .0
 
 returns : tie.Need-returns
-returns c = refuses-at 6 _ (badCall (tableAt (c .before .before .before .before .before .before .before .before .before))) (c .before .before .before .before .lowest-bad-call .ensures .is) (c .if1 .taken)
+returns c = let s = c .before .before .before .before in refuses-at 6 _ (badCall (tableAt (begun s))) (s .lowest-bad-call .ensures .is) (c .if1 .taken)
 
 lowest-overfull-requires : tie.Need-lowest-overfull-requires
 lowest-overfull-requires c κs =
@@ -42,31 +45,33 @@ lowest-overfull-requires c κs =
     j .held (ends-at 6 (D (c .before)) (badCall (tableAt (start (c .before)))) (j .is) (c .before .if1 .left))
 
 same-length-2 : tie.Need-same-length-2
-same-length-2 c = c .before .before .before .before .lowest-overfull .kept .1 .1 .1 .0 ∙ called (passed (c .before .before .before .before)) .lowest-bad-call .kept .1 .1 .1 .0
+same-length-2 c = let z = c .before .before .before .before in z .lowest-overfull .kept .1 .1 .1 .0 ∙ called (passed z) .lowest-bad-call .kept .1 .1 .1 .0
 
 returns-2 : tie.Need-returns-2
 returns-2 c =
     let x = c .before .before .before .before in
     let l = passed x in
-    judged-later (passes-at 6 (D l) (badCall (tableAt (start l))) (called l .lowest-bad-call .ensures .is) (l .if1 .left))
-    (refuses-at 7 _ (overfull (tableAt (start l))) (x .lowest-overfull .ensures .is) (c .if2 .taken))
+    let a = start l in
+    judged-later (passes-at 6 (D l) (badCall (tableAt a)) (called l .lowest-bad-call .ensures .is) (l .if1 .left))
+    (refuses-at 7 _ (overfull (tableAt a)) (x .lowest-overfull .ensures .is) (c .if2 .taken))
 
 same-length-3 : tie.Need-same-length-3
-same-length-3 c = c .before .before .before .before .lowest-overfull .kept .1 .1 .1 .0 ∙ called (passed (c .before .before .before .before)) .lowest-bad-call .kept .1 .1 .1 .0
+same-length-3 c = let z = c .before .before .before .before in z .lowest-overfull .kept .1 .1 .1 .0 ∙ called (passed z) .lowest-bad-call .kept .1 .1 .1 .0
 
 returns-3 : tie.Need-returns-3
 returns-3 c =
     let x = c .before .before .before .before in
     let l = passed x in
-    let t = tableAt (start l) in
-    let N = start l .args .sizes .nodes in
+    let a = start l in
+    let t = tableAt a in
+    let N = a .args .sizes .nodes in
     let e = called l .lowest-bad-call .ensures .is in
     let j = x .lowest-overfull .ensures in
     judged-later (passes-at 6 (D l) (badCall t) e (l .if1 .left))
     (judged-later (passes-at 7 N (overfull t) (j .is) (c .if2 .left))
     (judged-none
     (counted (j .held) (j .all (ends-at 7 N (overfull t) (j .is) (c .if2 .left)))
-    (record { sound = start l .pre .0; calls = none-at 6 (D l) (badCall t) e (l .if1 .left); nodes = none-at 7 N (overfull t) (j .is) (c .if2 .left) }))))
+    (record { sound = a .pre .0; calls = none-at 6 (D l) (badCall t) e (l .if1 .left); nodes = none-at 7 N (overfull t) (j .is) (c .if2 .left) }))))
 
 pub judge-terms-spec : {M : Type 1} → statement M
 judge-terms-spec =

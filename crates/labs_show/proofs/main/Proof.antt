@@ -24,7 +24,10 @@ array-share-prefix-input : tie.Need-array-share-prefix-input
 array-share-prefix-input c = subst (λ (r : Input). Holds r (c .before .before .before .before .read-input .last .0)) (c .before .got .given .1) (c .before .before .before .before .read-input .ensures)
 
 slice-aggregate-print : tie.Need-slice-aggregate-print
-slice-aggregate-print c = sym (length-take-le _ (c .before .before .before .before .before .read-input .last .0) (subst (λ (r : Input). Holds r (c .before .before .before .before .before .read-input .last .0)) (c .before .before .got .given .1) (c .before .before .before .before .before .read-input .ensures)))
+slice-aggregate-print c =
+    let z = c .before .before .before .before .before in
+    sym (length-take-le _ (z .read-input .last .0) (subst (λ (r : Input). Holds r (z .read-input .last .0))
+    (c .before .before .got .given .1) (z .read-input .ensures)))
 
 print-requires : tie.Need-print-requires
 print-requires c κs = search needs

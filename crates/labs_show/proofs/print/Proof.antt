@@ -21,7 +21,10 @@ array-share-prefix-out : tie.Need-array-share-prefix-out
 array-share-prefix-out c = search needs
 
 slice-aggregate-write-all : tie.Need-slice-aggregate-write-all
-slice-aggregate-write-all c = let w = c .before .before .show .ensures in sym (length-take-le (c .before .before .show .result) (c .before .before .show .last .1 .0) (omega (arith, w .room, w .ends, wrote-length w)))
+slice-aggregate-write-all c =
+    let z = c .before .before in
+    let w = z .show .ensures in
+    sym (length-take-le (z .show .result) (z .show .last .1 .0) (omega (arith, w .room, w .ends, wrote-length w)))
 
 write-all-requires : tie.Need-write-all-requires
 write-all-requires c κs = search needs

@@ -6,6 +6,9 @@ use Rattle.rehearsal.proofs.Packed.{place-near, run-packs}
 use Rattle.rehearsal.proofs.labs_run.Statement.{statement}
 use Rattle.rehearsal.proofs.labs_run.Tie as tie
 
+abbrev ran : tie.After-write-totals-arg → tie.After-run
+ran c = c .before .before .before .before .before .before .before
+
 run-requires : tie.Need-run-requires
 run-requires c κs = search needs
 
@@ -16,7 +19,7 @@ write-totals-requires : tie.Need-write-totals-requires
 write-totals-requires c κs = search needs
 
 pack-run-requires : tie.Need-pack-run-requires
-pack-run-requires c κs = place-near (c .before .before .before .before .before .before .before .before .before .before .before .run .ensures .check) (run-near _ _ _ _ _)
+pack-run-requires c κs = place-near (ran (c .before .before .before .before) .run .ensures .check) (run-near _ _ _ _ _)
 
 same-length : tie.Need-same-length
 same-length c = search needs
@@ -34,7 +37,7 @@ returns : tie.Need-returns
 returns c =
     let w = c .before .before .before in
     let t = w .before in
-    run-packs (t .before .before .before .before .before .before .before .before .run .ensures) (t .totals-of .ensures) (w .write-totals .ensures) (c .pack-run .ensures)
+    run-packs (ran (t .before) .run .ensures) (t .totals-of .ensures) (w .write-totals .ensures) (c .pack-run .ensures)
 
 pub labs-run-spec : {M : Type 1} → statement M
 labs-run-spec =

@@ -1,4 +1,4 @@
--- `accept::calls::count_up` meets its contract.
+-- `accept::calls::count_up` meets its contract: the words stay such as `settle` takes and leaves.
 -- Assumes nothing.
 use Prim.Native.Nat.{_+_, _-_}
 use mathlib.Core.Path.{_≡_, refl, _∙_}

@@ -1,4 +1,4 @@
--- `accept::calls::lowest_bad_call` meets its contract.
+-- `accept::calls::lowest_bad_call` meets its contract: the definitions below the loop's expose only lower calls, and their bodies are counted.
 -- Assumes nothing.
 use Prim.Native.Nat.{ℕ, _+_, _-_, _<_}
 use mathlib.Core.Bool.{not}
@@ -49,15 +49,16 @@ turn c = c .if1 .taken
 
 place : (c : tie.Then1 Inv-loop μ-loop) → roots (loopAt c) + loopAt c .loop .d < start (loopAt c) .args .sizes .nodes
 place c =
-    let f = first (loopAt c) in
+    let l = loopAt c in
+    let f = first l in
     let h = turn c in
-    omega (arith, start (loopAt c) .pre .0 .shaped .limits .roots)
+    omega (arith, start l .pre .0 .shaped .limits .roots)
 
 is-body : (c : tie.After-p-at Inv-loop μ-loop) → c .p-at .result ≡ bodyAt (tableAt (loopAt (c .before))) (loopAt (c .before) .loop .d)
-is-body c = c .p-at .ensures .is ∙ ap (λ (r : ℕ). pAt (tableAt (loopAt (c .before))) (r + loopAt (c .before) .loop .d)) (first (loopAt (c .before)))
+is-body c = let l = loopAt (c .before) in c .p-at .ensures .is ∙ ap (λ (r : ℕ). pAt (tableAt l) (r + l .loop .d)) (first l)
 
 inner : (c : tie.Then1 Inv-loop μ-loop) → bodyAt (tableAt (loopAt c)) (loopAt c .loop .d) < firstRoot (tableAt (loopAt c))
-inner c = body-process (tableAt (loopAt c)) (start (loopAt c) .pre .0) (loopAt c .loop .d) (turn c) .0
+inner c = let l = loopAt c in body-process (tableAt l) (start l .pre .0) (l .loop .d) (turn c) .0
 
 -- the body is settled, or exposes a call that is not lower
 abbrev at : tie.After-settle Inv-loop μ-loop → tie.Then1 Inv-loop μ-loop
@@ -67,8 +68,13 @@ at c = c .before .before .before .before .before .before .before
 abbrev tried : tie.After-settle Inv-loop μ-loop → List ℕ
 tried c = c .before .before .before .before .count-up .last .1 .1 .1 .0
 
-settles : (c : tie.After-settle Inv-loop μ-loop) → Settles (tableAt (loopAt (at c))) (loopAt (at c) .loop .d) (bodyAt (tableAt (loopAt (at c))) (loopAt (at c) .loop .d)) (tried c) (c .settle .last .1 .1 .1 .0) (c .settle .result)
-settles c = subst (λ (n : ℕ). Settles (tableAt (loopAt (at c))) (loopAt (at c) .loop .d) n (tried c) (c .settle .last .1 .1 .1 .0) (c .settle .result)) (is-body (c .before .before .before .before .before .before)) (c .settle .ensures)
+settles : (c : tie.After-settle Inv-loop μ-loop)
+    → Settles (tableAt (loopAt (at c))) (loopAt (at c) .loop .d) (bodyAt (tableAt (loopAt (at c))) (loopAt (at c) .loop .d))
+    (tried c) (c .settle .last .1 .1 .1 .0) (c .settle .result)
+settles c =
+    let l = loopAt (at c) in
+    subst (λ (n : ℕ). Settles (tableAt l) (l .loop .d) n (tried c) (c .settle .last .1 .1 .1 .0) (c .settle .result))
+    (is-body (c .before .before .before .before .before .before)) (c .settle .ensures)
 
 long : (c : tie.After-settle Inv-loop μ-loop) → length (c .settle .last .1 .1 .1 .0) ≡ length (loopAt (at c) .loop .scratch)
 long c = c .settle .kept .1 .1 .1 .0 ∙ c .before .before .before .before .count-up .kept .1 .1 .1 .0
@@ -90,8 +96,8 @@ discard-requires c κs =
 
 loop-holds : tie.Need-loop-holds Inv-loop μ-loop
 loop-holds c =
-    let a = c .before .before .before .before .before .before .before .before in
     let x = c .before .before in
+    let a = x .before .before .before .before .before .before in
     let f = x .before .before .first-root .ensures in
     (held-start (a .pre .0) (omega (arith, a .pre .1, x .discard .kept .0)) (λ k h. x .discard .ensures k (omega arith)), refl)
 
@@ -119,7 +125,8 @@ returns c =
     let l = loopAt (at x) in
     let h = turn (at x) in
     record {
-      is = sym (lowest-at (badCall (tableAt l)) _ (l .loop .d) h (ap not (settles x .high (not-true (x .settle .result) (c .if2 .taken)))) (l .loop .inv .0 .lower));
+      is = sym (lowest-at (badCall (tableAt l)) _ (l .loop .d) h
+          (ap not (settles x .high (not-true (x .settle .result) (c .if2 .taken)))) (l .loop .inv .0 .lower));
       held = λ e. absurd (omega arith);
     }
 
@@ -132,12 +139,13 @@ loop-less c = omega arith
 loop-again : tie.Need-loop-again Inv-loop μ-loop
 loop-again c =
     let x = c .before .before .before in
+    let a = at x in
     let y = settles x in
     let e = y .counted (not-false (x .settle .result) (c .if2 .left)) in
-    (held-next (y .held) (turn (at x)) (ap not (y .held .nodes _ (inner (at x)) e .calls)) e, long x ∙ loopAt (at x) .loop .inv .1)
+    (held-next (y .held) (turn a) (ap not (y .held .nodes _ (inner a) e .calls)) e, long x ∙ loopAt a .loop .inv .1)
 
 same-length-2 : tie.Need-same-length-2 Inv-loop μ-loop
-same-length-2 c = c .before .before .loop .inv .1 ∙ discarded (c .before .before) .discard .kept .0
+same-length-2 c = let l = c .before .before in l .loop .inv .1 ∙ discarded l .discard .kept .0
 
 returns-2 : tie.Need-returns-2 Inv-loop μ-loop
 returns-2 c =

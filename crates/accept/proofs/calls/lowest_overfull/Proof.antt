@@ -1,4 +1,4 @@
--- `accept::calls::lowest_overfull` meets its contract.
+-- `accept::calls::lowest_overfull` meets its contract: the nodes below the loop's are counted, and none has too many derivations.
 -- Assumes nothing.
 use Prim.Native.Nat.{ℕ, _-_, _≤_, _<_}
 use mathlib.Core.Bool.{true, false}

@@ -1,4 +1,4 @@
--- `accept::calls::settle` meets its contract.
+-- `accept::calls::settle` meets its contract: a walk down to a node that can be counted, and back up; `left` falls.
 -- Assumes nothing.
 use mathlib.Core.Path.{_≡_, refl, sym, subst, _∙_}
 use native.Mathlib.Omega.{arith}
@@ -22,6 +22,12 @@ Inv-loop sizes kinds operands scratch₀ level top n₀ scratch n = Walk (table 
 abbrev μ-loop : tie.MeasureT-loop
 μ-loop sizes kinds operands scratch₀ level top n₀ scratch n = left (table sizes kinds operands) scratch n
 
+abbrev led : tie.After-store Inv-loop μ-loop → tie.After-leads-to Inv-loop μ-loop
+led c = c .before .before
+
+abbrev visited : tie.After-leads-to Inv-loop μ-loop → tie.After-visit Inv-loop μ-loop
+visited c = c .before .before .before .before .before
+
 abbrev start : tie.At-loop Inv-loop μ-loop → tie.Start Inv-loop μ-loop
 start c = c .before .before .before .before .before .before .before
 
@@ -32,8 +38,9 @@ abbrev loopAt : tie.After-visit Inv-loop μ-loop → tie.At-loop Inv-loop μ-loo
 loopAt c = c .before .before
 
 -- what the visit found
-found : (c : tie.After-visit Inv-loop μ-loop) (v : Visit) → c .visit .result ≡ v → Visits (tableAt (loopAt c)) (start (loopAt c) .args .level) (loopAt c .loop .scratch) (loopAt c .loop .n) v
-found c v e = subst (λ (v : Visit). Visits (tableAt (loopAt c)) (start (loopAt c) .args .level) (loopAt c .loop .scratch) (loopAt c .loop .n) v) e (c .visit .ensures)
+found : (c : tie.After-visit Inv-loop μ-loop) (v : Visit) → c .visit .result ≡ v
+    → Visits (tableAt (loopAt c)) (start (loopAt c) .args .level) (loopAt c .loop .scratch) (loopAt c .loop .n) v
+found c v e = let l = loopAt c in subst (λ (v : Visit). Visits (tableAt l) (start l .args .level) (l .loop .scratch) (l .loop .n) v) e (c .visit .ensures)
 
 is-counted-requires : tie.Need-is-counted-requires Inv-loop μ-loop
 is-counted-requires c κs =
@@ -67,40 +74,43 @@ enum-known-found c = search needs
 
 leads-to-requires : tie.Need-leads-to-requires Inv-loop μ-loop
 leads-to-requires c κs =
-    let w = c .before .before .before .before .before .before .loop .inv in
+    let w = loopAt (c .before .before .before .before) .loop .inv in
     (node-room (w .held) _ (w .inner), leb-false _ 65536 (w .waits))
 
 store-requires : tie.Need-store-requires Inv-loop μ-loop
 store-requires c κs =
-    let x = c .before .before .before .before .before .before in
+    let x = visited (c .before) in
     let w = loopAt x .loop .inv in
     (node-room (w .held) _ (w .inner), rw (found x _ (c .before .before .before .before .found .given .1) .0) (counts-small _))
 
 same-length-2 : tie.Need-same-length-2 Inv-loop μ-loop
 same-length-2 c =
-    let x = c .before .before .before .before .before .before .before .before .before .before in
+    let x = visited (led (c .before .before .before)) in
     c .before .before .before .store .kept .0 ∙ loopAt x .loop .inv .long
 
 returns-2 : tie.Need-returns-2 Inv-loop μ-loop
 returns-2 c =
-    let x = c .before .before .before .before .before .before .before .before .before .before in
-    rw (c .before .before .before .store .ensures)
-    (walk-done (loopAt x .loop .inv) (found x _ (c .before .before .before .before .before .before .before .before .found .given .1)) (c .if2 .taken))
+    let z = c .before .before .before in
+    let x = visited (led z) in
+    rw (z .store .ensures)
+    (walk-done (loopAt x .loop .inv) (found x _ (led z .before .before .before .found .given .1)) (c .if2 .taken))
 
 loop-less : tie.Need-loop-less Inv-loop μ-loop
 loop-less c =
-    let x = c .before .before .before .before .before .before .before .before .before .before in
+    let z = c .before .before .before in
+    let x = visited (led z) in
     let w = loopAt x .loop .inv in
-    let v = found x _ (c .before .before .before .before .before .before .before .before .found .given .1) in
-    rw (c .before .before .before .store .ensures)
-    (back-less w v (walk-back w v (c .if2 .left) (c .before .before .before .before .before .leads-to .ensures)))
+    let v = found x _ (led z .before .before .before .found .given .1) in
+    rw (z .store .ensures)
+    (back-less w v (walk-back w v (c .if2 .left) (led z .leads-to .ensures)))
 
 loop-again : tie.Need-loop-again Inv-loop μ-loop
 loop-again c =
-    let x = c .before .before .before .before .before .before .before .before .before .before in
-    let v = found x _ (c .before .before .before .before .before .before .before .before .found .given .1) in
-    rw (c .before .before .before .store .ensures)
-    (walk-back (loopAt x .loop .inv) v (c .if2 .left) (c .before .before .before .before .before .leads-to .ensures))
+    let z = c .before .before .before in
+    let x = visited (led z) in
+    let v = found x _ (led z .before .before .before .found .given .1) in
+    rw (z .store .ensures)
+    (walk-back (loopAt x .loop .inv) v (c .if2 .left) (led z .leads-to .ensures))
 
 enum-known-found-2 : tie.Need-enum-known-found-2 Inv-loop μ-loop
 enum-known-found-2 c = search needs
@@ -130,10 +140,10 @@ enum-told : tie.Need-enum-told Inv-loop μ-loop
 enum-told c = search needs
 
 same-length-3 : tie.Need-same-length-3 Inv-loop μ-loop
-same-length-3 c = c .before .before .before .before .loop .inv .long
+same-length-3 c = loopAt (c .before .before) .loop .inv .long
 
 returns-3 : tie.Need-returns-3 Inv-loop μ-loop
-returns-3 c = walk-high (c .before .before .before .before .loop .inv) (found (c .before .before) High (c .enum-told .given .1))
+returns-3 c = let v = c .before .before in walk-high (loopAt v .loop .inv) (found v High (c .enum-told .given .1))
 
 pub settle-spec : {M : Type 1} → statement M
 settle-spec =

@@ -133,10 +133,16 @@ returns-4 : tie.Need-returns-4
 returns-4 c = act-found (start (c .before) .pre .0) (start (c .before) .pre .1) 4 (c .match .keys4) refl
 
 returns-5 : tie.Need-returns-5
-returns-5 c = by-pair (c .before .before) _ 5 (c .visit-pair .ensures) (c .before .match .keys5) (seq-found (start (c .before .before) .pre .0) (start (c .before .before) .pre .1) (c .before .match .keys5))
+returns-5 c =
+    let a = c .before .before in
+    let s = start a in
+    by-pair a _ 5 (c .visit-pair .ensures) (c .before .match .keys5) (seq-found (s .pre .0) (s .pre .1) (c .before .match .keys5))
 
 returns-6 : tie.Need-returns-6
-returns-6 c = by-pair (c .before .before) _ 6 (c .visit-pair2 .ensures) (c .before .match .keys6) (choice-found (start (c .before .before) .pre .0) (start (c .before .before) .pre .1) (c .before .match .keys6))
+returns-6 c =
+    let a = c .before .before in
+    let s = start a in
+    by-pair a _ 6 (c .visit-pair2 .ensures) (c .before .match .keys6) (choice-found (s .pre .0) (s .pre .1) (c .before .match .keys6))
 
 returns-7 : tie.Need-returns-7
 returns-7 c =
@@ -155,7 +161,10 @@ returns-8 c =
     (guarded-part (start a .pre .0) (start a .pre .1) (c .before .before .match .keys7) (ap (isCounted (words a)) (sym e) ∙ sym (r .ensures) ∙ c .if1 .left))
 
 returns-9 : tie.Need-returns-9
-returns-9 c = by-pair (c .before .before) _ 8 (c .visit-pair3 .ensures) (c .before .match .keys8) (par-found (start (c .before .before) .pre .0) (start (c .before .before) .pre .1) (c .before .match .keys8))
+returns-9 c =
+    let a = c .before .before in
+    let s = start a in
+    by-pair a _ 8 (c .visit-pair3 .ensures) (c .before .match .keys8) (par-found (s .pre .0) (s .pre .1) (c .before .match .keys8))
 
 returns-10 : tie.Need-returns-10
 returns-10 c =
@@ -173,8 +182,10 @@ returns-11 c =
 
 returns-12 : tie.Need-returns-12
 returns-12 c =
+    let a = start (c .before) in
     let r = c .match .rest in
-    none-found (start (c .before) .pre .0) (start (c .before) .pre .1) _ refl (r .0 .0 .0 .0 .0 .0 .0 .0 .1) (r .0 .0 .0 .0 .0 .0 .0 .1) (r .0 .0 .0 .0 .0 .0 .1) (r .0 .0 .0 .0 .0 .1) (r .0 .0 .0 .0 .1) (r .0 .0 .0 .1) (r .0 .0 .1) (r .0 .1) (r .1)
+    none-found (a .pre .0) (a .pre .1) _ refl (r .0 .0 .0 .0 .0 .0 .0 .0 .1) (r .0 .0 .0 .0 .0 .0 .0 .1) (r .0 .0 .0 .0 .0 .0 .1)
+    (r .0 .0 .0 .0 .0 .1) (r .0 .0 .0 .0 .1) (r .0 .0 .0 .1) (r .0 .0 .1) (r .0 .1) (r .1)
 
 pub visit-spec : {M : Type 1} → statement M
 visit-spec =

@@ -13,14 +13,20 @@ use borrow.Author.Needs.{needs}
 use Rattle.accept.proofs.nodes.visit_pair.Statement.{statement}
 use Rattle.accept.proofs.nodes.visit_pair.Tie as tie
 
+abbrev start : tie.After-struct-known → tie.Start
+start c = c .before .before .before .before .before
+
+abbrev known : tie.After-is-counted2 → tie.After-struct-known
+known c = c .before .before
+
 left-is : (c : tie.Else1) → isCounted (now (c .before .before .before .args .scratch)) (c .before .before .before .args .p) ≡ true
 left-is c = sym (c .before .is-counted .ensures) ∙ not-false (c .before .is-counted .result) (c .if1 .left)
 
-hidden-is : (c : tie.After-struct-known) (b : Bool) → (eqb (c .before .before .before .before .before .args .kind) 5 && eqb (c .before .pair .result .ticks) 0) ≡ b
-    → rightHidden (c .before .before .before .before .before .args .kind) (pairAt (now (c .before .before .before .before .before .args .scratch)) (c .before .before .before .before .before .args .p)) ≡ b
-hidden-is c b e = sym (ap (λ (x : Counts). rightHidden (c .before .before .before .before .before .args .kind) x) (c .before .pair .ensures)) ∙ e
+hidden-is : (c : tie.After-struct-known) (b : Bool) → (eqb (start c .args .kind) 5 && eqb (c .before .pair .result .ticks) 0) ≡ b
+    → rightHidden (start c .args .kind) (pairAt (now (start c .args .scratch)) (start c .args .p)) ≡ b
+hidden-is c b e = sym (ap (λ (x : Counts). rightHidden (start c .args .kind) x) (c .before .pair .ensures)) ∙ e
 
-right-is : (c : tie.Else3) → isCounted (now (c .before .before .before .before .before .before .before .before .args .scratch)) (c .before .before .before .before .before .before .before .before .args .q) ≡ true
+right-is : (c : tie.Else3) → isCounted (now (start (known (c .before)) .args .scratch)) (start (known (c .before)) .args .q) ≡ true
 right-is c = sym (c .before .is-counted2 .ensures) ∙ not-false (c .before .is-counted2 .result) (c .if3 .left)
 
 is-counted-requires : tie.Need-is-counted-requires
@@ -45,8 +51,8 @@ unfolding pairVisit
 returns-3 c =
     rw (
       pairVisit,
-      left-is (c .before .before .before .before .before),
-      hidden-is (c .before .before .before) false (c .before .before .if2 .left),
+      left-is (known (c .before) .before .before),
+      hidden-is (known (c .before)) false (c .before .before .if2 .left),
       sym (c .before .is-counted2 .ensures) ∙ not-true (c .before .is-counted2 .result) (c .if3 .taken),
     )
 
@@ -55,21 +61,23 @@ pair-requires-2 c κs = search needs
 
 joined-requires : tie.Need-joined-requires
 joined-requires c κs =
-    let a = c .before .before .before .before .before .before .before .before .before in (
-      rw (c .before .before .before .before .before .pair .ensures) (a .pre .1 .0 (left-is (c .before .before .before .before .before .before))),
+    let z = c .before .before in
+    let a = start (known z) in (
+      rw (known z .before .pair .ensures) (a .pre .1 .0 (left-is (known z .before .before))),
       rw (c .pair2 .ensures) (a .pre .1 .1 (right-is (c .before))),
     )
 
 returns-4 : tie.Need-returns-4
 unfolding pairVisit
 returns-4 c =
+    let z = c .before .before .before in
     rw (
       pairVisit,
-      left-is (c .before .before .before .before .before .before .before),
-      hidden-is (c .before .before .before .before .before) false (c .before .before .before .before .if2 .left),
+      left-is (known z .before .before),
+      hidden-is (known z) false (z .before .if2 .left),
       right-is (c .before .before),
     )
-    (ap Done (c .joined .ensures ∙ ap₂ (joinedCounts _) (c .before .before .before .before .before .before .pair .ensures) (c .before .pair2 .ensures)))
+    (ap Done (c .joined .ensures ∙ ap₂ (joinedCounts _) (known z .before .pair .ensures) (c .before .pair2 .ensures)))
 
 pub visit-pair-spec : {M : Type 1} → statement M
 visit-pair-spec =

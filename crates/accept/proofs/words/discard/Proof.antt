@@ -1,4 +1,4 @@
--- `accept::words::discard` meets its contract.
+-- `accept::words::discard` meets its contract: the words below the loop's hold no count.
 -- Assumes nothing.
 use Prim.Native.Nat.{ℕ, _+_, _*_, _-_, _<_, _≤_}
 use mathlib.Core.Path.{_≡_, refl}

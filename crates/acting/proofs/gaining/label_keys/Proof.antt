@@ -35,7 +35,8 @@ returns c =
 returns-2 : tie.Need-returns-2
 returns-2 c =
     let a = c .before .before .before .before .before .before .before in
-    label-expression (tb a) (a .args .label) (c .before .before .before .label .given .1) (c .before .q-at .result) (c .before .q-at .ensures .is) (a .args .keys) (a .pre .2) (c .keys-read .result) (c .keys-read .ensures)
+    label-expression (tb a) (a .args .label) (c .before .before .before .label .given .1) (c .before .q-at .result) (c .before .q-at .ensures .is)
+    (a .args .keys) (a .pre .2) (c .keys-read .result) (c .keys-read .ensures)
 
 pub label-keys-spec : {M : Type 1} → statement M
 label-keys-spec =

@@ -45,8 +45,10 @@ loop-again c =
     let m = c .before .before .before .entry-of in
     let h = c .before .before .has in (
       omega (arith, c .before .before .before .before .loop-test .taken),
-      ⊎-elim (λ w. entry-more (now (a .args .state)) (a .args .agent) (a .args .keys) (l .key) (l .found) (m .result) (h .result) true (c .if1 .found) (h .ensures) (m .ensures) (l .inv .1) (w .0 .taken) (w .2 ∙ w .1 .ensures))
-          (λ w. entry-more (now (a .args .state)) (a .args .agent) (a .args .keys) (l .key) (l .found) (m .result) (h .result) false (c .if1 .found) (h .ensures) (m .ensures) (l .inv .1) (w .0 .left) (w .1)) (c .if1 .came),
+      ⊎-elim (λ w. entry-more (now (a .args .state)) (a .args .agent) (a .args .keys) (l .key) (l .found) (m .result) (h .result) true
+          (c .if1 .found) (h .ensures) (m .ensures) (l .inv .1) (w .0 .taken) (w .2 ∙ w .1 .ensures))
+          (λ w. entry-more (now (a .args .state)) (a .args .agent) (a .args .keys) (l .key) (l .found) (m .result) (h .result) false
+          (c .if1 .found) (h .ensures) (m .ensures) (l .inv .1) (w .0 .left) (w .1)) (c .if1 .came),
     )
 
 returns : tie.Need-returns Inv-loop μ-loop

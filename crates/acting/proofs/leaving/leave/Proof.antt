@@ -10,6 +10,12 @@ use borrow.Author.Needs.{needs}
 use Rattle.acting.proofs.leaving.leave.Statement.{statement}
 use Rattle.acting.proofs.leaving.leave.Tie as tie
 
+abbrev start : tie.After-residual-at → tie.Start
+start c = c .before .before .before .before .before .before
+
+abbrev found : tie.After-rewrite → tie.After-residual-at
+found c = c .before .before .before
+
 abbrev tb : tie.Start → Table
 tb a = table (a .args .sizes) (now (a .args .kinds)) (now (a .args .operands))
 
@@ -45,15 +51,25 @@ part-rewrite-end c = search needs
 
 rewrite-requires : tie.Need-rewrite-requires
 rewrite-requires c κs =
-    let a = c .before .before .before .before .before .before .before .before in
-    let r = c .before .before .residual-at .result in
-    (a .pre .0, lends (tb a) (now (a .args .state)) (a .args .agent) (a .args .c) (a .pre .1) r (r + 63 - r) _ (c .before .before .residual-at .ensures .is) (omega arith) (ap (λ (i : ℕ). getD (now (a .args .state)) i 0) (c .before .before .before .length-at .ensures .is)))
+    let f = c .before .before in
+    let a = start f in
+    let r = f .residual-at .result in (
+      a .pre .0,
+      lends (tb a) (now (a .args .state)) (a .args .agent) (a .args .c) (a .pre .1) r (r + 63 - r) _ (f .residual-at .ensures .is)
+          (omega arith) (ap (λ (i : ℕ). getD (now (a .args .state)) i 0) (f .before .length-at .ensures .is)),
+    )
 
 cast-state : tie.Need-cast-state
 cast-state c =
-    let a = c .before .before .before .before .before .before .before .before .before .before .before in
-    let r = c .before .before .before .before .before .residual-at .result in
-    omega (arith, left-size (tb a) (now (a .args .state)) (a .args .agent) (a .args .c) (a .pre .1) r (r + 63 - r) _ (c .before .before .before .before .before .residual-at .ensures .is) (omega arith) (ap (λ (i : ℕ). getD (now (a .args .state)) i 0) (c .before .before .before .before .before .before .length-at .ensures .is)) _ _ (c .before .before .rewrite .ensures))
+    let z = c .before .before in
+    let f = found z in
+    let a = start f in
+    let r = f .residual-at .result in
+    omega (
+      arith,
+      left-size (tb a) (now (a .args .state)) (a .args .agent) (a .args .c) (a .pre .1) r (r + 63 - r) _ (f .residual-at .ensures .is)
+          (omega arith) (ap (λ (i : ℕ). getD (now (a .args .state)) i 0) (f .before .length-at .ensures .is)) _ _ (z .rewrite .ensures),
+    )
 
 mul-state : tie.Need-mul-state
 mul-state c = search needs
@@ -66,9 +82,12 @@ same-length c = search needs
 
 returns : tie.Need-returns
 returns c =
-    let a = c .before .before .before .before .before .before .before .before .before .before .before in
-    let r = c .before .before .before .before .before .residual-at .result in
-    left (tb a) (now (a .args .state)) (a .args .agent) (a .args .c) (a .pre .1) r (r + 63 - r) _ (c .before .before .before .before .before .residual-at .ensures .is) (omega arith) (ap (λ (i : ℕ). getD (now (a .args .state)) i 0) (c .before .before .before .before .before .before .length-at .ensures .is)) _ _ (c .before .before .rewrite .ensures) _ (c .before .before .before .before .before .before .length-at .ensures .is)
+    let z = c .before .before in
+    let f = found z in
+    let a = start f in
+    let r = f .residual-at .result in
+    left (tb a) (now (a .args .state)) (a .args .agent) (a .args .c) (a .pre .1) r (r + 63 - r) _ (f .residual-at .ensures .is) (omega arith)
+    (ap (λ (i : ℕ). getD (now (a .args .state)) i 0) (f .before .length-at .ensures .is)) _ _ (z .rewrite .ensures) _ (f .before .length-at .ensures .is)
 
 pub leave-spec : {M : Type 1} → statement M
 leave-spec =

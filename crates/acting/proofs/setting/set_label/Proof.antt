@@ -6,6 +6,9 @@ use borrow.Author.Needs.{needs}
 use Rattle.acting.proofs.setting.set_label.Statement.{statement}
 use Rattle.acting.proofs.setting.set_label.Tie as tie
 
+abbrev start : tie.After-label → tie.Start
+start c = c .before .before .before .before .before
+
 abbrev tb : tie.Start → Table
 tb a = table (a .args .sizes) (now (a .args .kinds)) (now (a .args .operands))
 
@@ -16,7 +19,7 @@ enum-known-label : tie.Need-enum-known-label
 enum-known-label c = search needs
 
 set-key-requires : tie.Need-set-key-requires
-set-key-requires c κs = c .before .before .before .before .before .before .before .pre _ (c .before .before .label .given .1)
+set-key-requires c κs = let z = c .before .before in start z .pre _ (z .label .given .1)
 
 returns : tie.Need-returns
 returns c =
@@ -28,8 +31,10 @@ same-length c = search needs
 
 returns-2 : tie.Need-returns-2
 returns-2 c =
-    let a = c .before .before .before .before .before .before .before .before .before .before in
-    action-sets (tb a) (now (a .args .state)) (a .args .agent) (a .args .label) (c .before .before .before .before .before .label .given .1) (c .before .before .set-key .last .1 .1 .1 .0) (c .before .before .set-key .ensures)
+    let z = c .before .before in
+    let a = start (z .before .before .before) in
+    action-sets (tb a) (now (a .args .state)) (a .args .agent) (a .args .label) (z .before .before .before .label .given .1)
+    (z .set-key .last .1 .1 .1 .0) (z .set-key .ensures)
 
 pub set-label-spec : {M : Type 1} → statement M
 set-label-spec =

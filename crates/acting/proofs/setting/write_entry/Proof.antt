@@ -29,7 +29,15 @@ same-length c = search needs
 
 returns : tie.Need-returns
 returns c =
-    rw (c .before .before .set-clock .ensures, c .before .before .before .before .before .before .add-key .ensures, c .before .before .before .before .before .before .before .before .before .before .put-entry .ensures, c .before .before .before .before .before .before .before .before .before .before .before .before .clock-of .ensures, c .before .before .before .before .before .before .before .before .before .before .before .before .before .before .zp-at .ensures .is)
+    let k = c .before .before .before .before .before .before in
+    let e = k .before .before .before .before in
+    rw (
+      c .before .before .set-clock .ensures,
+      k .add-key .ensures,
+      e .put-entry .ensures,
+      e .before .before .clock-of .ensures,
+      e .before .before .before .before .zp-at .ensures .is,
+    )
 
 pub write-entry-spec : {M : Type 1} → statement M
 write-entry-spec =

@@ -41,7 +41,20 @@ mark-tick-below t =
 
 module _ (t : ℕ) where
   abbrev claims : mark-tick-lts.Claims
-  claims = (pair-reads.Asked, pair-reads.Learnt, only-tick-reads.Asked, only-tick-reads.Learnt, has-mark-reads.Asked, has-mark-reads.Learnt, turn-at-reads.Asked, turn-at-reads.Learnt, mark-reads.Asked, mark-reads.Learnt, mark-tick-below t, mark-tick.Post)
+  claims = (
+    pair-reads.Asked,
+    pair-reads.Learnt,
+    only-tick-reads.Asked,
+    only-tick-reads.Learnt,
+    has-mark-reads.Asked,
+    has-mark-reads.Learnt,
+    turn-at-reads.Asked,
+    turn-at-reads.Learnt,
+    mark-reads.Asked,
+    mark-reads.Learnt,
+    mark-tick-below t,
+    mark-tick.Post,
+  )
 
   abbrev Tested : Type 0
   Tested = mark-tick-lts.After-only-tick claims (mark-tick-at t) mark-tick.Post

@@ -18,6 +18,9 @@ Inv-loop kinds marks from n₀ n = Next (markedGuard kinds marks) 0 from n
 abbrev μ-loop : tie.MeasureT-loop
 μ-loop kinds marks from n₀ n = length kinds - n
 
+abbrev start : tie.At-loop Inv-loop μ-loop → tie.Start Inv-loop μ-loop
+start c = c .before .before .before
+
 loop-holds : tie.Need-loop-holds Inv-loop μ-loop
 loop-holds c = record { ahead = omega arith; none = λ k h l. absurd (omega arith); is = λ h. absurd (omega arith) }
 
@@ -31,7 +34,9 @@ has-mark-requires : tie.Need-has-mark-requires Inv-loop μ-loop
 has-mark-requires c κs = omega arith
 
 returns : tie.Need-returns Inv-loop μ-loop
-returns c = next-at (c .before .before .before .before .before .loop .inv) (λ h. ap₂ _&&_ (sym (c .before .before .is-guard .ensures)) (sym (c .before .has-mark .ensures)) ∙ c .if1 .taken)
+returns c =
+    next-at (c .before .before .before .before .before .loop .inv)
+    (λ h. ap₂ _&&_ (sym (c .before .before .is-guard .ensures)) (sym (c .before .has-mark .ensures)) ∙ c .if1 .taken)
 
 unmarked-after-requires : tie.Need-unmarked-after-requires Inv-loop μ-loop
 unmarked-after-requires c κs = omega arith
@@ -47,8 +52,9 @@ loop-less c = omega arith
 
 loop-again : tie.Need-loop-again Inv-loop μ-loop
 loop-again c =
-    let a = c .before .before .before .before .before .before .before .before .before .args in
-    let l = c .before .before .before .before .before .before .loop in
+    let z = c .before .before .before .before .before .before in
+    let a = start z .args in
+    let l = z .loop in
     let u = c .unmarked-after .ensures in
     next-on (now (a .kinds)) (now (a .marks)) (l .inv)
     (ap₂ _&&_ (sym (c .before .before .before .is-guard .ensures)) (sym (c .before .before .has-mark .ensures)) ∙ c .before .if1 .left)

@@ -56,7 +56,8 @@ returns-4 c =
     let e = z .before .before .before .acting .ensures in
     let f = z .total .ensures .0 in
     rw (c .before .quotient2 .ensures, c .remainder2 .ensures, c .before .before .total2 .ensures .0, e, f)
-    (sym (picks-fourth (a .mode) (a .c) (a .beside) (a .left) (a .right) (rw e at (z .before .before .if1 .left)) (rw e at (z .before .if2 .left)) (rw (e, f) at (c .before .before .before .if3 .left))))
+    (sym (picks-fourth (a .mode) (a .c) (a .beside) (a .left) (a .right) (rw e at (z .before .before .if1 .left))
+    (rw e at (z .before .if2 .left)) (rw (e, f) at (c .before .before .before .if3 .left))))
 
 pub pick-spec : {M : Type 1} → statement M
 pick-spec =

@@ -30,7 +30,8 @@ enum-known-pick-4 c = search needs
 on-to-requires-2 : tie.Need-on-to-requires-2
 on-to-requires-2 c κs = search needs
 
-picked : (a : tie.Start) (x : Pick) → a .args .pick ≡ x → pickTurn (a .args .operator) (a .args .mode) (a .args .p) (a .args .q) x ≡ pickTurn (a .args .operator) (a .args .mode) (a .args .p) (a .args .q) (a .args .pick)
+picked : (a : tie.Start) (x : Pick) → a .args .pick ≡ x → pickTurn (a .args .operator) (a .args .mode) (a .args .p) (a .args .q) x
+    ≡ pickTurn (a .args .operator) (a .args .mode) (a .args .p) (a .args .q) (a .args .pick)
 picked a x e = ap (pickTurn (a .args .operator) (a .args .mode) (a .args .p) (a .args .q)) (sym e)
 
 returns : tie.Need-returns

@@ -100,7 +100,8 @@ returns-2 : tie.Need-returns-2
 returns-2 c =
     let z = c .before .before .before .before .before in
     subst (Is z) (sym (c .part .ensures))
-    (turned-seq (here z) (c .before .before .before .before .match .keys2) _ (c .before .pick .ensures ∙ ap₂ (pickOf _ _ 0) (c .before .before .before .pair .ensures) (c .before .before .pair2 .ensures)))
+    (turned-seq (here z) (c .before .before .before .before .match .keys2) _
+    (c .before .pick .ensures ∙ ap₂ (pickOf _ _ 0) (c .before .before .before .pair .ensures) (c .before .before .pair2 .ensures)))
 
 returns-3 : tie.Need-returns-3
 returns-3 c =

@@ -14,6 +14,9 @@ Inv-loop sizes kinds operands scratch words₀ rest₀ at₀ words rest at = Ont
 abbrev μ-loop : tie.MeasureT-loop
 μ-loop sizes kinds operands scratch words₀ rest₀ at₀ words rest at = ahead (table sizes kinds operands) at
 
+abbrev turned : tie.After-put-last Inv-loop μ-loop → tie.After-turn-at Inv-loop μ-loop
+turned c = c .before .before .before .before .before
+
 abbrev At : Type 0
 At = tie.After-turn-at Inv-loop μ-loop
 
@@ -27,10 +30,12 @@ step : (c : At) (r : Turn) → c .turn-at .result ≡ r → Turned (tb c) (c .be
 step c r e = subst (Turned (tb c) (c .before .loop .at)) e (c .turn-at .ensures)
 
 -- where the walk ends, and where it goes on
-ended : (c : tie.After-turn Inv-loop μ-loop) → let v = c .turn .given .0 in Ended (chosenAt (tb (c .before .before)) (c .before .before .before .loop .at)) (v .0) (v .1 .0)
+ended : (c : tie.After-turn Inv-loop μ-loop)
+    → let v = c .turn .given .0 in Ended (chosenAt (tb (c .before .before)) (c .before .before .before .loop .at)) (v .0) (v .1 .0)
 ended c = step (c .before .before) _ (c .turn .given .1)
 
-onward : (c : tie.After-turn2 Inv-loop μ-loop) → let v = c .turn2 .given .0 in Onward (tb (c .before .before)) (c .before .before .before .loop .at) (v .0) (v .1 .0) (v .1 .1 .0)
+onward : (c : tie.After-turn2 Inv-loop μ-loop)
+    → let v = c .turn2 .given .0 in Onward (tb (c .before .before)) (c .before .before .before .loop .at) (v .0) (v .1 .0) (v .1 .1 .0)
 onward c = step (c .before .before) _ (c .turn2 .given .1)
 
 loop-holds : tie.Need-loop-holds Inv-loop μ-loop
@@ -49,7 +54,7 @@ put-last-requires c κs =
     onto-last _ _ _ _ (i .at) (i .rest) (i .words) (i .inv) _ _ (ended o)
 
 same-length : tie.Need-same-length Inv-loop μ-loop
-same-length c = c .before .before .put-last .ensures .same ∙ c .before .before .before .before .before .before .before .before .loop .inv .same
+same-length c = let z = c .before .before in z .put-last .ensures .same ∙ turned z .before .loop .inv .same
 
 returns : tie.Need-returns Inv-loop μ-loop
 returns c =

@@ -52,6 +52,9 @@ module _ (t : ℕ) where
   returns : lts.Need-returns (callees t) (at t) compare-all.Post
   returns c = λ sizes e. found-nobody (c .if1 .taken)
 
+  abbrev counted : lts.After-compare-values (callees t) (at t) compare-all.Post → lts.After-compare-all (callees t) (at t) compare-all.Post
+  counted c = c .before .before .before .before .before .before
+
   lowest-requires : lts.Need-lowest-requires (callees t) (at t) compare-all.Post
   lowest-requires c κs = omega (arith, c .if1 .left)
 
@@ -59,7 +62,13 @@ module _ (t : ℕ) where
   minus-requires c κs = omega arith
 
   compare-all-requires : lts.Need-compare-all-requires (callees t) (at t) compare-all.Post
-  compare-all-requires c κs = omega (arith, c .minus .ensures, minus-less (c .before .before .before .before .before .before .args .agents) (c .before .lowest .result) (c .before .lowest .ensures .1))
+  compare-all-requires c κs =
+      omega (
+        arith,
+        c .minus .ensures,
+        minus-less (c .before .before .before .before .before .before .args .agents)
+            (c .before .lowest .result) (c .before .lowest .ensures .1),
+      )
 
   p-at-requires : lts.Need-p-at-requires (callees t) (at t) compare-all.Post
   p-at-requires c κs = omega arith
@@ -86,9 +95,14 @@ module _ (t : ℕ) where
   plus-if-requires-2 c κs = omega arith
 
   returns-2 : lts.Need-returns-2 (callees t) (at t) compare-all.Post
-  returns-2 c = λ sizes e.
-      let is = comparison-found _ _ _ _ _ e (c .before .before .before .before .before .before .before .p-at .ensures .is) (c .before .before .before .before .before .before .q-at .ensures .is) (c .before .before .before .before .before .value-below .ensures sizes e) (c .before .before .before .before .value-below2 .ensures sizes e) (c .before .before .compare-values .ensures) in
-      found-more _ (c .before .before .before .before .before .before .before .before .before .before .lowest .ensures .1) (c .before .before .before .before .before .before .before .before .before .minus .ensures) is (c .before .plus-if .ensures) (c .plus-if2 .ensures) (c .before .before .before .before .before .before .before .before .compare-all .ensures sizes e)
+  returns-2 c =
+      let z = c .before .before in
+      λ sizes e.
+      let is = comparison-found _ _ _ _ _ e (z .before .before .before .before .before .p-at .ensures .is)
+      (z .before .before .before .before .q-at .ensures .is) (z .before .before .before .value-below .ensures sizes e)
+      (z .before .before .value-below2 .ensures sizes e) (z .compare-values .ensures) in
+      found-more _ (counted z .before .before .lowest .ensures .1) (counted z .before .minus .ensures) is
+      (c .before .plus-if .ensures) (c .plus-if2 .ensures) (counted z .compare-all .ensures sizes e)
 
 pub +compare-all-spec : {M : Type 1} → statement M
 +compare-all-spec = close agents λ t. lts.spec (callees t) (at t) compare-all.Post

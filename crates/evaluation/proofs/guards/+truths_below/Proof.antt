@@ -42,6 +42,9 @@ module _ (t : ℕ) where
   returns : lts.Need-returns (callees t) (at t) truths-below.Post
   returns c = λ sizes e. found-none (λ y. truth-out _ _ _ _ _ _ (c .if1 .taken))
 
+  abbrev left : lts.After-q-at (callees t) (at t) truths-below.Post → lts.After-truths-below (callees t) (at t) truths-below.Post
+  left c = c .before .before
+
   shared-slice-read-kind : lts.Need-shared-slice-read-kind (callees t) (at t) truths-below.Post
   shared-slice-read-kind c = search needs
 
@@ -52,7 +55,9 @@ module _ (t : ℕ) where
   compare-all-requires c κs = omega arith
 
   returns-3 : lts.Need-returns-3 (callees t) (at t) truths-below.Post
-  returns-3 c = λ sizes e. found-same (λ y. truth-comparison _ _ _ _ _ _ (c .before .before .before .before .if1 .left) (c .before .before .if2 .left) (c .before .if3 .taken)) (c .compare-all .ensures sizes e)
+  returns-3 c =
+      λ sizes e. found-same (λ y. truth-comparison _ _ _ _ _ _ (c .before .before .before .before .if1 .left)
+      (c .before .before .if2 .left) (c .before .if3 .taken)) (c .compare-all .ensures sizes e)
 
   p-at-requires : lts.Need-p-at-requires (callees t) (at t) truths-below.Post
   p-at-requires c κs = search needs
@@ -66,7 +71,8 @@ module _ (t : ℕ) where
   returns-4 : lts.Need-returns-4 (callees t) (at t) truths-below.Post
   returns-4 c = λ sizes e.
       let a = c .before .before .truths-below .ensures sizes e in
-      found-same (λ y. truth-not _ _ _ _ _ _ (c .before .before .before .before .before .before .before .if1 .left) (c .before .if4 .taken) (c .before .before .before .p-at .ensures .is)) (c .connect-all .ensures _ _ _ a a)
+      found-same (λ y. truth-not _ _ _ _ _ _ (c .before .before .before .before .before .before .before .if1 .left) (c .before .if4 .taken)
+      (c .before .before .before .p-at .ensures .is)) (c .connect-all .ensures _ _ _ a a)
 
   q-at-requires : lts.Need-q-at-requires (callees t) (at t) truths-below.Post
   q-at-requires c κs = search needs
@@ -78,9 +84,12 @@ module _ (t : ℕ) where
   connect-all-requires-2 c κs = search needs
 
   returns-5 : lts.Need-returns-5 (callees t) (at t) truths-below.Post
-  returns-5 c = λ sizes e.
-      found-same (λ y. truth-node _ _ _ _ _ _ (c .before .before .before .before .before .before .before .before .before .if1 .left) (c .before .before .before .before .before .before .if3 .left) (c .before .before .before .before .before .p-at .ensures .is) (c .before .before .q-at .ensures .is))
-      (c .connect-all2 .ensures _ _ _ (c .before .before .before .before .truths-below .ensures sizes e) (c .before .truths-below2 .ensures sizes e))
+  returns-5 c =
+      let z = c .before .before in
+      λ sizes e.
+      found-same (λ y. truth-node _ _ _ _ _ _ (left z .before .before .before .before .before .if1 .left)
+      (left z .before .before .if3 .left) (left z .before .p-at .ensures .is) (z .q-at .ensures .is))
+      (c .connect-all2 .ensures _ _ _ (left z .truths-below .ensures sizes e) (c .before .truths-below2 .ensures sizes e))
 
 pub +truths-below-spec : {M : Type 1} → statement M
 +truths-below-spec = close limit λ t. lts.spec (callees t) (at t) truths-below.Post

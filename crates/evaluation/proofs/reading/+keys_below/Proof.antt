@@ -52,16 +52,23 @@ module _ (t : ℕ) where
   abbrev tb : lts.Start (callees t) (at t) keys-below.Post → Table
   tb a = table (a .args .sizes) (a .args .kinds .now) (a .args .operands .now)
 
+  abbrev start : lts.After-fields-here (callees t) (at t) keys-below.Post → lts.Start (callees t) (at t) keys-below.Post
+  start c = c .before .before .before .before .before
+
   -- the left part's keys, where p is a node
   left : (c : lts.Joined2 (callees t) (at t) keys-below.Post)
-      → let a = c .before .before .before .before .before .before .before .before in Adds (λ (k : ℕ). leftNode (tb a) (a .args .node) && readsBelow (tb a) (a .args .node) (pAt (tb a) (a .args .node)) k) (c .before .before .own-key .result) (c .if2 .found)
+      → let a = start (c .before .before .before) in Adds
+      (λ (k : ℕ). leftNode (tb a) (a .args .node) && readsBelow (tb a) (a .args .node) (pAt (tb a) (a .args .node)) k)
+      (c .before .before .own-key .result) (c .if2 .found)
   left c =
-      let a = c .before .before .before .before .before .before .before .before .args in
-      let on = ap (λ (f : Fields). isNode (f .p)) (sym (c .before .before .before .fields-here .ensures (a .kinds .now) (a .operands .now))) ∙ sym (c .before .is-node .ensures) in
-      ⊎-elim (λ yes. rw (yes .3) (adds-made (on ∙ yes .0 .taken) (rw (← yes .1 .ensures .is) (yes .2 .ensures)))) (λ no. rw (no .1) (adds-unmade _ (on ∙ no .0 .left))) (c .if2 .came)
+      let z = c .before .before .before in
+      let a = start z .args in
+      let on = ap (λ (f : Fields). isNode (f .p)) (sym (z .fields-here .ensures (a .kinds .now) (a .operands .now))) ∙ sym (c .before .is-node .ensures) in
+      ⊎-elim (λ yes. rw (yes .3) (adds-made (on ∙ yes .0 .taken) (rw (← yes .1 .ensures .is) (yes .2 .ensures))))
+      (λ no. rw (no .1) (adds-unmade _ (on ∙ no .0 .left))) (c .if2 .came)
 
   returns : lts.Need-returns (callees t) (at t) keys-below.Post
-  returns c = let a = c .before .before .before .args in reads-none (tb (c .before .before .before)) (a .limit) (a .node) (a .keys) (c .if1 .taken)
+  returns c = let s = c .before .before .before in let a = s .args in reads-none (tb s) (a .limit) (a .node) (a .keys) (c .if1 .taken)
 
   shared-slice-read-fields-here : lts.Need-shared-slice-read-fields-here (callees t) (at t) keys-below.Post
   shared-slice-read-fields-here c = omega arith
@@ -70,7 +77,7 @@ module _ (t : ℕ) where
   fields-here-requires c κs = search needs
 
   own-key-requires : lts.Need-own-key-requires (callees t) (at t) keys-below.Post
-  own-key-requires c κs = (c .before .before .before .before .before .pre .1 .0, omega arith)
+  own-key-requires c κs = (start c .pre .1 .0, omega arith)
 
   is-node-requires : lts.Need-is-node-requires (callees t) (at t) keys-below.Post
   is-node-requires c κs = search needs
@@ -79,7 +86,7 @@ module _ (t : ℕ) where
   p-at-requires c κs = omega arith
 
   keys-below-requires : lts.Need-keys-below-requires (callees t) (at t) keys-below.Post
-  keys-below-requires c κs = (omega arith, (c .before .before .before .before .before .before .before .before .before .pre .1 .0, omega arith))
+  keys-below-requires c κs = (omega arith, (start (c .before .before .before .before) .pre .1 .0, omega arith))
 
   is-node-requires-2 : lts.Need-is-node-requires-2 (callees t) (at t) keys-below.Post
   is-node-requires-2 c κs = search needs
@@ -87,22 +94,26 @@ module _ (t : ℕ) where
   returns-2 : lts.Need-returns-2 (callees t) (at t) keys-below.Post
   returns-2 c =
       let j = c .before .before in
-      let a = j .before .before .before .before .before .before .before .before .args in
-      let on = ap (λ (f : Fields). isNode (f .q)) (sym (j .before .before .before .fields-here .ensures (a .kinds .now) (a .operands .now))) ∙ sym (c .before .is-node2 .ensures) in
-      reads-parts _ _ _ (j .before .before .before .before .before .if1 .left) (j .before .before .own-key .ensures) (left j) (adds-unmade _ (on ∙ not-true _ (c .if3 .taken)))
+      let z = j .before .before .before in
+      let a = start z .args in
+      let on = ap (λ (f : Fields). isNode (f .q)) (sym (z .fields-here .ensures (a .kinds .now) (a .operands .now))) ∙ sym (c .before .is-node2 .ensures) in
+      reads-parts _ _ _ (z .before .before .if1 .left) (j .before .before .own-key .ensures) (left j) (adds-unmade _ (on ∙ not-true _ (c .if3 .taken)))
 
   q-at-requires : lts.Need-q-at-requires (callees t) (at t) keys-below.Post
   q-at-requires c κs = omega arith
 
   keys-below-requires-2 : lts.Need-keys-below-requires-2 (callees t) (at t) keys-below.Post
-  keys-below-requires-2 c κs = (omega arith, (c .before .before .before .before .before .before .before .before .before .before .before .pre .1 .0, omega arith))
+  keys-below-requires-2 c κs = (omega arith, (start (c .before .before .before .before .before .before) .pre .1 .0, omega arith))
 
   returns-3 : lts.Need-returns-3 (callees t) (at t) keys-below.Post
   returns-3 c =
       let j = c .before .before .before .before in
-      let a = j .before .before .before .before .before .before .before .before .args in
-      let on = ap (λ (f : Fields). isNode (f .q)) (sym (j .before .before .before .fields-here .ensures (a .kinds .now) (a .operands .now))) ∙ sym (c .before .before .before .is-node2 .ensures) in
-      reads-parts _ _ _ (j .before .before .before .before .before .if1 .left) (j .before .before .own-key .ensures) (left j) (adds-made (on ∙ not-false _ (c .before .before .if3 .left)) (rw (← c .before .q-at .ensures .is) (c .keys-below2 .ensures)))
+      let z = j .before .before .before in
+      let a = start z .args in
+      let on = ap (λ (f : Fields). isNode (f .q)) (sym (z .fields-here .ensures (a .kinds .now) (a .operands .now)))
+      ∙ sym (c .before .before .before .is-node2 .ensures) in
+      reads-parts _ _ _ (z .before .before .if1 .left) (j .before .before .own-key .ensures) (left j)
+      (adds-made (on ∙ not-false _ (c .before .before .if3 .left)) (rw (← c .before .q-at .ensures .is) (c .keys-below2 .ensures)))
 
 pub +keys-below-spec : {M : Type 1} → statement M
 +keys-below-spec = close limit λ t. lts.spec (callees t) (at t) keys-below.Post

@@ -51,6 +51,9 @@ module _ (t : ℕ) where
   returns : lts.Need-returns (callees t) (at t) value-below.Post
   returns c = λ sizes e. sym (value-out _ _ _ _ _ _ (c .if1 .taken))
 
+  abbrev read : lts.After-value-below (callees t) (at t) value-below.Post → lts.After-p-at (callees t) (at t) value-below.Post
+  read c = c .before .before .before .before
+
   shared-slice-read-kind : lts.Need-shared-slice-read-kind (callees t) (at t) value-below.Post
   shared-slice-read-kind c = search needs
 
@@ -86,23 +89,59 @@ module _ (t : ℕ) where
 
   returns-2 : lts.Need-returns-2 (callees t) (at t) value-below.Post
   unfolding valueStep
-  returns-2 c = λ sizes e. rw (value-at _ _ _ _ _ _ (c .before .before .before .before .before .before .if1 .left), c .before .match .keys1) (ap Present (c .constant-at .ensures))
+  returns-2 c =
+      λ sizes e. rw (value-at _ _ _ _ _ _ (c .before .before .before .before .before .before .if1 .left), c .before .match .keys1)
+      (ap Present (c .constant-at .ensures))
 
   returns-3 : lts.Need-returns-3 (callees t) (at t) value-below.Post
   unfolding valueStep
-  returns-3 c = λ sizes e. rw (value-at _ _ _ _ _ _ (c .before .before .before .before .before .before .if1 .left), c .before .match .keys2, ← c .before .before .before .before .p-at .ensures .is, ← c .before .before .before .q-at .ensures .is, ← c .before .before .agent-of .ensures .is) (c .value-in .ensures)
+  returns-3 c =
+      λ sizes e. rw (
+        value-at _ _ _ _ _ _ (c .before .before .before .before .before .before .if1 .left),
+        c .before .match .keys2,
+        ← c .before .before .before .before .p-at .ensures .is,
+        ← c .before .before .before .q-at .ensures .is,
+        ← c .before .before .agent-of .ensures .is,
+      )
+      (c .value-in .ensures)
 
   returns-4 : lts.Need-returns-4 (callees t) (at t) value-below.Post
   unfolding valueStep
-  returns-4 c = λ sizes e. rw (value-at _ _ _ _ _ _ (c .before .before .before .before .before .before .if1 .left), c .before .match .keys3, ← c .before .before .before .before .p-at .ensures .is, ← c .before .before .before .q-at .ensures .is, ← c .before .before .agent-of .ensures .is) (c .value-in2 .ensures)
+  returns-4 c =
+      λ sizes e. rw (
+        value-at _ _ _ _ _ _ (c .before .before .before .before .before .before .if1 .left),
+        c .before .match .keys3,
+        ← c .before .before .before .before .p-at .ensures .is,
+        ← c .before .before .before .q-at .ensures .is,
+        ← c .before .before .agent-of .ensures .is,
+      )
+      (c .value-in2 .ensures)
 
   returns-5 : lts.Need-returns-5 (callees t) (at t) value-below.Post
   unfolding valueStep
-  returns-5 c = λ sizes e. rw (value-at _ _ _ _ _ _ (c .before .before .before .before .before .before .if1 .left), c .before .match .keys4, ← c .before .before .before .before .p-at .ensures .is) (c .value-in3 .ensures)
+  returns-5 c =
+      λ sizes e. rw (
+        value-at _ _ _ _ _ _ (c .before .before .before .before .before .before .if1 .left),
+        c .before .match .keys4,
+        ← c .before .before .before .before .p-at .ensures .is,
+      ) (c .value-in3 .ensures)
 
   returns-6 : lts.Need-returns-6 (callees t) (at t) value-below.Post
   unfolding valueStep
-  returns-6 c = let r = c .before .before .before .match .rest in λ sizes e. rw (value-at _ _ _ _ _ _ (c .before .before .before .before .before .before .before .before .if1 .left), ne-eqb _ _ (r .0 .0 .0 .1), ne-eqb _ _ (r .0 .0 .1), ne-eqb _ _ (r .0 .1), ne-eqb _ _ (r .1), ← c .before .before .before .before .before .before .p-at .ensures .is, ← c .before .before .before .before .before .q-at .ensures .is, ← c .before .before .value-below .ensures sizes e, ← c .before .value-below2 .ensures sizes e) (c .operate .ensures)
+  returns-6 c =
+      let z = c .before .before in
+      let r = z .before .match .rest in
+      λ sizes e. rw (
+        value-at _ _ _ _ _ _ (read z .before .before .if1 .left),
+        ne-eqb _ _ (r .0 .0 .0 .1),
+        ne-eqb _ _ (r .0 .0 .1),
+        ne-eqb _ _ (r .0 .1),
+        ne-eqb _ _ (r .1),
+        ← read z .p-at .ensures .is,
+        ← z .before .before .before .q-at .ensures .is,
+        ← z .value-below .ensures sizes e,
+        ← c .before .value-below2 .ensures sizes e,
+      ) (c .operate .ensures)
 
 pub +value-below-spec : {M : Type 1} → statement M
 +value-below-spec = close limit λ t. lts.spec (callees t) (at t) value-below.Post

@@ -11,6 +11,12 @@ use Rattle.judging.proofs.Choosing.{agent-11, agent-short, agent-given}
 use Rattle.judging.proofs.acts.judge.Statement.{statement}
 use Rattle.judging.proofs.acts.judge.Tie as tie
 
+abbrev begun : tie.After-zc-at → tie.Start
+begun c = c .before .before .before .before .before
+
+abbrev waited : tie.After-shared-slice-known6 → tie.After-zc-at
+waited c = c .before .before .before
+
 abbrev here : tie.Start → Table
 here a = table (a .args .sizes) (now (a .args .kinds)) (now (a .args .operands))
 
@@ -34,8 +40,9 @@ shared-slice-read-if1-2 c = search needs
 
 returns : tie.Need-returns
 returns c =
-    let a = c .before .before .before .before .before .before .before .before .before in
-    agent-11 (here a) (now (a .args .state)) (a .args .agent) _ _ (c .before .before .before .before .zc-at .ensures .is) (c .before .before .before .zp-at .ensures .is) (c .if1 .taken) (a .args .c)
+    let a = begun (waited (c .before)) in
+    agent-11 (here a) (now (a .args .state)) (a .args .agent) _ _ (waited (c .before) .zc-at .ensures .is)
+    (c .before .before .before .zp-at .ensures .is) (c .if1 .taken) (a .args .c)
 
 length-at-requires : tie.Need-length-at-requires
 length-at-requires c κs = search needs
@@ -54,7 +61,7 @@ residual-at-requires c κs = search needs
 
 -- the residual's words are in the state
 abbrev start : tie.After-residual-at → tie.Start
-start c = c .before .before .before .before .before .before .before .before .before .before .before .before
+start c = begun (waited (c .before .before .before .before))
 
 short : (c : tie.After-residual-at) → getD (now (start c .args .state)) (c .before .before .length-at .result) 0 ≤ residualWords
 short c = let a = start c in agent-short (a .pre .0) (a .pre .1 .0) (a .pre .1 .1) _ (c .before .before .length-at .ensures .is)
@@ -78,7 +85,9 @@ judge-choice-requires : tie.Need-judge-choice-requires
 judge-choice-requires c κs =
     let r = c .before in
     let a = start r in
-    agent-given (here a) (now (a .args .state)) (a .args .agent) _ _ (r .before .before .before .before .before .before .before .zc-at .ensures .is) (r .before .before .before .before .before .before .zp-at .ensures .is) (r .before .before .before .if1 .left) (a .pre .0) (a .pre .1 .0) (a .pre .1 .1) _ (r .before .before .length-at .ensures .is) _ (r .residual-at .ensures .is)
+    agent-given (here a) (now (a .args .state)) (a .args .agent) _ _ (waited (r .before .before .before .before) .zc-at .ensures .is)
+    (r .before .before .before .before .before .before .zp-at .ensures .is) (r .before .before .before .if1 .left) (a .pre .0) (a .pre .1 .0)
+    (a .pre .1 .1) _ (r .before .before .length-at .ensures .is) _ (r .residual-at .ensures .is)
 
 returns-2 : tie.Need-returns-2
 returns-2 c = search needs

@@ -83,7 +83,9 @@ returns-4 : tie.Need-returns-4
 returns-4 c =
     let w = c .before .before .before .before .before .before .before in
     let z = w .before .before in
-    agent-last (start z .pre) (start z .args .c) (taking z) (w .collect .ensures) (c .before .before .before .before .ask-guards .ensures) (c .before .before .asked .given .1) (c .judge-outcome .result) (c .judge-outcome .ensures)
+    let a = start z in
+    agent-last (a .pre) (a .args .c) (taking z) (w .collect .ensures) (c .before .before .before .before .ask-guards .ensures)
+    (c .before .before .asked .given .1) (c .judge-outcome .result) (c .judge-outcome .ensures)
 
 pub judge-choice-spec : {M : Type 1} → statement M
 judge-choice-spec =

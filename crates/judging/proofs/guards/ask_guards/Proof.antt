@@ -27,6 +27,9 @@ Inv-loop sizes kinds operands state marks agent keys₀ n₀ keys n =
 abbrev μ-loop : tie.MeasureT-loop
 μ-loop sizes kinds operands state marks agent keys₀ n₀ keys n = sizes .nodes - n
 
+abbrev start : tie.At-loop Inv-loop μ-loop → tie.Start Inv-loop μ-loop
+start c = c .before .before .before .before .before
+
 abbrev here : tie.Start Inv-loop μ-loop → Table
 here a = table (a .args .sizes) (now (a .args .kinds)) (now (a .args .operands))
 
@@ -39,11 +42,11 @@ unfolding someBelow
 loop-holds c = (refl, adds-none (λ k l. refl))
 
 next-guard-requires : tie.Need-next-guard-requires Inv-loop μ-loop
-next-guard-requires c κs = let a = c .before .before .before .before .before in omega (arith, a .pre .situated .shaped .kinds, a .pre .room)
+next-guard-requires c κs = let a = start c in omega (arith, a .pre .situated .shaped .kinds, a .pre .room)
 
 returns : tie.Need-returns Inv-loop μ-loop
 returns c gs m =
-    let a = c .before .before .before .before .before .before .before .before in
+    let a = start (c .before .before .before) in
     let l = c .before .before .before .loop in
     let g = c .before .before .next-guard in
     asked-hold (here a) (now (a .args .state)) (a .args .agent) gs
@@ -55,16 +58,17 @@ holds-requires c κs = search needs
 
 returns-2 : tie.Need-returns-2 Inv-loop μ-loop
 returns-2 c gs m =
-    let a = c .before .before .before .before .before .before .before .before .before .before in
+    let a = start (c .before .before .before .before .before) in
     let g = c .before .before .before .before .next-guard in
     let low : g .result < a .args .sizes .nodes = omega arith in
     asked-fails (here a) (now (a .args .state)) (a .args .agent) gs
     (not-true _ (sym (all-held (here a) (now (a .args .state)) (a .args .agent) m (a .args .sizes .nodes) (omega arith))
-    ∙ some-at _ _ (g .result) low (and-both _ _ (g .ensures .is (omega (arith, a .pre .situated .shaped .kinds))) (rw (← c .before .holds .ensures) (c .if2 .taken)))))
+    ∙ some-at _ _ (g .result) low (and-both _ _ (g .ensures .is (omega (arith, a .pre .situated .shaped .kinds)))
+    (rw (← c .before .holds .ensures) (c .if2 .taken)))))
 
 keys-read-requires : tie.Need-keys-read-requires Inv-loop μ-loop
 keys-read-requires c κs =
-    let a = c .before .before .before .before .before .before .before .before .before .before in
+    let a = start (c .before .before .before .before .before) in
     (a .pre .situated .shaped, omega (arith, c .before .before .before .before .before .loop .inv .1 .small (omega arith)))
 
 add-n : tie.Need-add-n Inv-loop μ-loop
@@ -75,10 +79,11 @@ loop-less c = omega (arith, c .before .before .before .before .before .next-guar
 
 loop-again : tie.Need-loop-again Inv-loop μ-loop
 loop-again c =
-    let a = c .before .before .before .before .before .before .before .before .before .before .before in
+    let a = start (c .before .before .before .before .before .before) in
     let l = c .before .before .before .before .before .before .loop in
     let g = c .before .before .before .before .before .next-guard in (
-      some-next (g .ensures) (fails a) (omega (arith, a .pre .situated .shaped .kinds)) ∙ rw (l .inv .0, ← c .before .before .holds .ensures) (c .before .if2 .left),
+      some-next (g .ensures) (fails a) (omega (arith, a .pre .situated .shaped .kinds))
+          ∙ rw (l .inv .0, ← c .before .before .holds .ensures) (c .before .if2 .left),
       reads-more (here a) (now (a .args .marks)) (g .ensures) (l .inv .1) (omega (arith, a .pre .situated .shaped .kinds)) (c .keys-read .ensures),
     )
 

@@ -10,13 +10,16 @@ use Rattle.judging.proofs.Ending.{absent-ends, full-ends, action-ends}
 use Rattle.judging.proofs.outcomes.judge_action.Statement.{statement}
 use Rattle.judging.proofs.outcomes.judge_action.Tie as tie
 
+abbrev start : tie.After-value-of → tie.Start
+start c = c .before .before .before .before .before
+
 abbrev here : tie.Start → Table
 here a = table (a .args .sizes) (now (a .args .kinds)) (now (a .args .operands))
 
 -- the value that has been found is the action's
-value-is : (c : tie.After-value-of) → let a = c .before .before .before .before .before in c .value-of .result ≡ valueFor (here a) (now (a .args .state)) (a .args .agent) (a .args .n)
+value-is : (c : tie.After-value-of) → let a = start c in c .value-of .result ≡ valueFor (here a) (now (a .args .state)) (a .args .agent) (a .args .n)
 value-is c =
-    let a = c .before .before .before .before .before in
+    let a = start c in
     c .value-of .ensures ∙ ap (valueOf (here a) (now (a .args .state)) (a .args .agent) (a .args .agent)) (c .before .q-at .ensures .is)
 
 q-at-requires : tie.Need-q-at-requires
@@ -39,21 +42,26 @@ clock-of-requires c κs = search needs
 
 returns : tie.Need-returns
 returns c =
-    let a = c .before .before .before .before .before .before .before .before .before .before .before in
-    full-ends (here a) (now (a .args .state)) (a .args .agent) (a .args .n) (a .args .keys) (a .args .size) _ (sym (value-is (c .before .before .before .before .before .before)) ∙ c .before .before .before .before .value .given .1) _ (c .before .clock-of .ensures) (c .if1 .taken)
+    let a = start (c .before .before .before .before .before .before) in
+    full-ends (here a) (now (a .args .state)) (a .args .agent) (a .args .n) (a .args .keys) (a .args .size) _
+    (sym (value-is (c .before .before .before .before .before .before)) ∙ c .before .before .before .before .value .given .1) _
+    (c .before .clock-of .ensures) (c .if1 .taken)
 
 sized-requires : tie.Need-sized-requires
 sized-requires c κs = search needs
 
 returns-2 : tie.Need-returns-2
 returns-2 c =
-    let a = c .before .before .before .before .before .before .before in
-    absent-ends (here a) (now (a .args .state)) (a .args .agent) (a .args .n) (a .args .keys) (a .args .size) (sym (value-is (c .before .before)) ∙ c .enum-told .given .1)
+    let a = start (c .before .before) in
+    absent-ends (here a) (now (a .args .state)) (a .args .agent) (a .args .n) (a .args .keys) (a .args .size)
+    (sym (value-is (c .before .before)) ∙ c .enum-told .given .1)
 
 returns-3 : tie.Need-returns-3
 returns-3 c =
-    let a = c .before .before .before .before .before .before .before .before .before .before .before .before in
-    action-ends (here a) (now (a .args .state)) (a .args .agent) (a .args .n) (a .args .keys) (a .args .size) _ (sym (value-is (c .before .before .before .before .before .before .before)) ∙ c .before .before .before .before .before .value .given .1) _ (c .before .before .clock-of .ensures) (c .before .if1 .left) (c .sized .result) (c .sized .ensures)
+    let a = start (c .before .before .before .before .before .before .before) in
+    action-ends (here a) (now (a .args .state)) (a .args .agent) (a .args .n) (a .args .keys) (a .args .size) _
+    (sym (value-is (c .before .before .before .before .before .before .before)) ∙ c .before .before .before .before .before .value .given .1) _
+    (c .before .before .clock-of .ensures) (c .before .if1 .left) (c .sized .result) (c .sized .ensures)
 
 pub judge-action-spec : {M : Type 1} → statement M
 judge-action-spec =

@@ -36,7 +36,8 @@ returns c =
 returns-2 : tie.Need-returns-2
 returns-2 c =
     let a = c .before .before .before .before .before .before .before in
-    subst (λ (d : Label). Ended (here a) (now (a .args .state)) (a .args .agent) d (a .args .keys) (a .args .o .size) (c .judge-action .result)) (sym (c .before .before .label .given .1)) (c .judge-action .ensures)
+    subst (λ (d : Label). Ended (here a) (now (a .args .state)) (a .args .agent) d (a .args .keys) (a .args .o .size) (c .judge-action .result))
+    (sym (c .before .before .label .given .1)) (c .judge-action .ensures)
 
 pub judge-outcome-spec : {M : Type 1} → statement M
 judge-outcome-spec =

@@ -14,6 +14,12 @@ use borrow.Author.Needs.{needs}
 use Rattle.labs_show.proofs.rehearsal.rehearse_input.Statement.{statement}
 use Rattle.labs_show.proofs.rehearsal.rehearse_input.Tie as tie
 
+abbrev start : tie.After-table-end → tie.Start
+start c = c .before .before .before .before .before
+
+abbrev cut : tie.After-rehearse → tie.After-table-end
+cut c = c .before .before .before .before .before .before
+
 -- the parts that code lends are the table and the schedule
 parts : (input was : List ℕ) (scratch : ℕ) (answers : List ℕ) {n : ℕ} → n ≡ tableEnd input
     → rehearsed (take n input) (take (length input - n) (drop n input)) was scratch answers ≡ rehearsedInput input was scratch answers
@@ -25,7 +31,7 @@ table-end-requires : tie.Need-table-end-requires
 table-end-requires c κs = search needs
 
 slice-aggregate-rehearse : tie.Need-slice-aggregate-rehearse
-slice-aggregate-rehearse c = sym (length-take-le (c .before .table-end .result) (now (c .before .before .before .before .before .before .args .input)) (c .before .table-end .ensures .fits))
+slice-aggregate-rehearse c = sym (length-take-le (c .before .table-end .result) (now (start (c .before) .args .input)) (c .before .table-end .ensures .fits))
 
 sub-rehearse : tie.Need-sub-rehearse
 sub-rehearse c = search needs
@@ -50,10 +56,12 @@ same-length-3 c = search needs
 
 returns : tie.Need-returns
 returns c =
-    let a = c .before .before .before .before .before .before .before .before .before .before .before .before .before .before .before .before .before .args in
-    let x = c .before .before .before .before .before .before .rehearse in
+    let z = c .before .before .before .before .before .before in
+    let s = cut z in
+    let a = start s .args in
+    let x = z .rehearse in
     subst (λ (o : Rehearsal). Rehearses o (x .result) (x .last .1 .1 .0) (x .last .1 .1 .1 .1 .0))
-    (parts (now (a .input)) (now (a .state)) (length (now (a .scratch))) (now (a .answers)) (c .before .before .before .before .before .before .before .before .before .before .before .before .table-end .ensures .is)) (x .ensures)
+    (parts (now (a .input)) (now (a .state)) (length (now (a .scratch))) (now (a .answers)) (s .table-end .ensures .is)) (x .ensures)
 
 pub rehearse-input-spec : {M : Type 1} → statement M
 rehearse-input-spec =

@@ -14,14 +14,25 @@ use borrow.Author.Needs.{needs}
 use Rattle.labs_show.proofs.rehearsal.show_rehearsal.Statement.{statement}
 use Rattle.labs_show.proofs.rehearsal.show_rehearsal.Tie as tie
 
--- a done run's state can be printed, and there is room for all of it
-printable : (c : tie.After-known-told) → Fleet (c .before .before .before .before .before .before .before .before .before .rehearse-input .last .1 .0)
-printable c = c .before .before .before .before .before .before .before .before .before .rehearse-input .ensures .fleet _ (c .before .ran .given .1)
+abbrev begun : tie.After-rehearse-input-arg → tie.Start
+begun c = c .before .before .before .before .before .before
 
-fits : (c : tie.After-known-told) → length (totalsLine (c .before .ran .given .0 .0)) + length (stateLines (c .before .before .before .before .before .before .before .before .before .rehearse-input .last .1 .0)) ≤ shownBytes
+abbrev start : tie.After-rehearse-input → tie.Start
+start c = begun (c .before .before .before)
+
+abbrev rehearsed : tie.After-slice-known7 → tie.After-rehearse-input
+rehearsed c = c .before .before .before .before .before .before
+
+-- a done run's state can be printed, and there is room for all of it
+printable : (c : tie.After-known-told) → Fleet (rehearsed (c .before .before .before) .rehearse-input .last .1 .0)
+printable c = rehearsed (c .before .before .before) .rehearse-input .ensures .fleet _ (c .before .ran .given .1)
+
+fits : (c : tie.After-known-told) → length (totalsLine (c .before .ran .given .0 .0))
+    + length (stateLines (rehearsed (c .before .before .before) .rehearse-input .last .1 .0)) ≤ shownBytes
 fits c =
     let k = c .known-told .given in
-    done-fits _ (λ i. c .before .before .before .before .before .before .before .slice-known5 .given i .fits) _ (record { done = omega (arith, k); refused = omega (arith, k); added = omega (arith, k); replaced = omega (arith, k) }) (printable c .agents)
+    done-fits _ (λ i. c .before .before .before .before .before .before .before .slice-known5 .given i .fits) _
+    (record { done = omega (arith, k); refused = omega (arith, k); added = omega (arith, k); replaced = omega (arith, k) }) (printable c .agents)
 
 rehearse-input-requires : tie.Need-rehearse-input-requires
 rehearse-input-requires c κs = search needs
@@ -30,16 +41,23 @@ enum-known-ran : tie.Need-enum-known-ran
 enum-known-ran c = search needs
 
 totals-line-requires : tie.Need-totals-line-requires
-totals-line-requires c κs = let b = fits (c .before) in omega (arith, c .before .before .before .before .before .before .before .before .before .before .before .before .before .before .before .before .before .before .before .pre)
+totals-line-requires c κs = let b = fits (c .before) in omega (arith, start (rehearsed (c .before .before .before .before)) .pre)
 
 state-lines-requires : tie.Need-state-lines-requires
-state-lines-requires c κs = let b = fits (c .before .before .before .before .before .before) in (printable (c .before .before .before .before .before .before), omega (arith, c .before .before .before .before .before .before .before .before .before .before .before .before .before .before .before .before .before .before .before .before .before .before .before .before .pre))
+state-lines-requires c κs =
+    let z = c .before .before .before .before .before .before in
+    let b = fits z in
+    (printable z, omega (arith, start (rehearsed (z .before .before .before)) .pre))
 
 enum-known-ran-2 : tie.Need-enum-known-ran-2
 enum-known-ran-2 c = search needs
 
 refused-line-requires : tie.Need-refused-line-requires
-refused-line-requires c κs = let k = c .before .known-told2 .given in let b = refusal-fits (c .before .before .ran2 .given .0 .0) (c .before .before .ran2 .given .0 .1 .0) (omega (arith, k)) (omega (arith, k)) in omega (arith, c .before .before .before .before .before .before .before .before .before .before .before .before .before .before .before .before .before .before .before .pre)
+refused-line-requires c κs =
+    let z = c .before .before in
+    let k = c .before .known-told2 .given in
+    let b = refusal-fits (z .ran2 .given .0 .0) (z .ran2 .given .0 .1 .0) (omega (arith, k)) (omega (arith, k)) in
+    omega (arith, start (rehearsed (z .before .before)) .pre)
 
 same-length : tie.Need-same-length
 same-length c = search needs
@@ -54,7 +72,11 @@ same-length-4 : tie.Need-same-length-4
 same-length-4 c = search needs
 
 returns : tie.Need-returns
-returns c = wrote-same (sym (shown-done (c .before .before .before .before .before .before .before .before .before .before .before .before .before .before .before .before .before .before .rehearse-input .ensures) _ (c .before .before .before .before .before .before .before .before .before .before .ran .given .1))) (wrote-then (c .before .before .before .before .before .before .before .totals-line .ensures) (c .before .before .state-lines .ensures))
+returns c =
+    let t = c .before .before .before .before .before .before .before in
+    let r = t .before .before .before in
+    wrote-same (sym (shown-done (rehearsed (r .before .before) .rehearse-input .ensures) _ (r .ran .given .1)))
+    (wrote-then (t .totals-line .ensures) (c .before .before .state-lines .ensures))
 
 same-length-5 : tie.Need-same-length-5
 same-length-5 c = search needs
@@ -69,7 +91,9 @@ same-length-8 : tie.Need-same-length-8
 same-length-8 c = search needs
 
 returns-2 : tie.Need-returns-2
-returns-2 c = wrote-same (sym (shown-refused (c .before .before .before .before .before .before .before .before .before .before .before .before .before .rehearse-input .ensures) _ _ (c .before .before .before .before .before .ran2 .given .1))) (c .before .before .refused-line .ensures)
+returns-2 c =
+    wrote-same (sym (shown-refused (rehearsed (c .before .before .before .before .before .before .before) .rehearse-input .ensures) _ _
+    (c .before .before .before .before .before .ran2 .given .1))) (c .before .before .refused-line .ensures)
 
 pub show-rehearsal-spec : {M : Type 1} → statement M
 show-rehearsal-spec =

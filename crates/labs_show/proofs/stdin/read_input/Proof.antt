@@ -1,4 +1,4 @@
--- `labs_show::stdin::read_input` meets its contract.
+-- `labs_show::stdin::read_input` meets its contract: what has been read is within the buffer.
 -- Assumes nothing.
 use Prim.Native.Nat.{_-_, _≤_}
 use mathlib.Core.Path.{_≡_}

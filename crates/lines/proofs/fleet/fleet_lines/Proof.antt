@@ -1,4 +1,4 @@
--- `lines::fleet::fleet_lines` meets its contract.
+-- `lines::fleet::fleet_lines` meets its contract: the lines of the agents below the loop's have been written.
 -- Assumes nothing.
 use Prim.Native.Nat.{_-_}
 use Rattle.lines.specs.Lines.{agentLines}

@@ -60,8 +60,8 @@ unfolding valueLine
 entry-line-requires c κs =
     let s = start (c .before .before .before .before .before) in
     let a = s .args in
-    room-same (of (now (a .state)) (a .key) (a .word) (c .before .before .before .store2 .given .1) ∙ same-line
-    (now (a .state)) (a .key) (a .word) _ (c .before .entry-of .ensures)) (s .pre .2)
+    room-same (of (now (a .state)) (a .key) (a .word) (c .before .before .before .store2 .given .1)
+    ∙ same-line (now (a .state)) (a .key) (a .word) _ (c .before .entry-of .ensures)) (s .pre .2)
 
 same-length : tie.Need-same-length
 same-length c = search needs
@@ -91,8 +91,8 @@ unfolding valueLine
 returns-3 c =
     let z = c .before .before in
     let a = start (told z .before .before) .args in
-    wrote-same (sym (of (now (a .state)) (a .key) (a .word) (told z .store2 .given .1) ∙ same-line (now (a .state)) (a .key)
-    (a .word) _ (z .before .before .entry-of .ensures))) (z .entry-line .ensures)
+    wrote-same (sym (of (now (a .state)) (a .key) (a .word) (told z .store2 .given .1)
+    ∙ same-line (now (a .state)) (a .key) (a .word) _ (z .before .before .entry-of .ensures))) (z .entry-line .ensures)
 
 pub value-line-spec : {M : Type 1} → statement M
 value-line-spec =

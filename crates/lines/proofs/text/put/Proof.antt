@@ -1,4 +1,4 @@
--- `lines::text::put` meets its contract.
+-- `lines::text::put` meets its contract: the bytes below the loop's have been copied.
 -- Assumes nothing.
 use Prim.Native.Nat.{ℕ, suc, _+_, _-_, _≤_}
 use mathlib.Core.Path.{_≡_, ap, _∙_}

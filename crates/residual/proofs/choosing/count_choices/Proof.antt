@@ -34,7 +34,8 @@ returns : tie.Need-returns
 returns c t e r w =
     let a = c .before .before .before .before .before .before in
     let m = c .before .measure in
-    offered t (now (a .args .scratch)) r 0 (now (a .args .words)) w (root-is (c .before .before .before) t e) (m .result) (rw (c .before .before .start .ensures) at (m .ensures)) _ (c .total .ensures .0)
+    offered t (now (a .args .scratch)) r 0 (now (a .args .words)) w (root-is (c .before .before .before) t e) (m .result)
+    (rw (c .before .before .start .ensures) at (m .ensures)) _ (c .total .ensures .0)
 
 pub count-choices-spec : {M : Type 1} → statement M
 count-choices-spec = tie.close (tie.spec first-root-requires start-requires measure-requires total-requires returns)

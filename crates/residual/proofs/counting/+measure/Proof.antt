@@ -33,7 +33,26 @@ measure-below t = and 2 measure-kinds.ps (falls 2 measure-kinds.ps _<_ μ-measur
 
 module _ (t : ℕ) where
   abbrev claims : measure-lts.Claims
-  claims = (read-reads.Asked, read-reads.Learnt, is-operator-reads.Asked, is-operator-reads.Learnt, measure-below t, measure.Post, combined-reads.Asked, combined-reads.Learnt, few-reads.Asked, few-reads.Learnt, leaf-reads.Asked, leaf-reads.Learnt)
+  claims = (
+    read-reads.Asked,
+    read-reads.Learnt,
+    is-operator-reads.Asked,
+    is-operator-reads.Learnt,
+    measure-below t,
+    measure.Post,
+    combined-reads.Asked,
+    combined-reads.Learnt,
+    few-reads.Asked,
+    few-reads.Learnt,
+    leaf-reads.Asked,
+    leaf-reads.Learnt,
+  )
+
+  abbrev opened : measure-lts.After-is-operator claims (measure-at t) measure.Post → measure-lts.After-read2 claims (measure-at t) measure.Post
+  opened c = c .before .before
+
+  abbrev measured : measure-lts.After-combined claims (measure-at t) measure.Post → measure-lts.After-is-operator claims (measure-at t) measure.Post
+  measured c = c .before .before .before .before
 
   -- a word has been read
   abbrev At : Type 0
@@ -46,7 +65,7 @@ module _ (t : ℕ) where
   word c = sym (c .before .before .read .ensures) ∙ c .read2 .given .1
 
   inside : (c : At) → (start c .args .from .at < length (now (start c .args .words))) × (c .read2 .given .0 .1 .0 .at ≡ start c .args .from .at + 1)
-  inside c = let r = read-word (now (start c .args .words)) (start c .args .from .at) _ _ (word c) in (r .0, r .2)
+  inside c = let a = start c in let r = read-word (now (a .args .words)) (a .args .from .at) _ _ (word c) in (r .0, r .2)
 
   read-requires : measure-lts.Need-read-requires claims (measure-at t) measure.Post
   read-requires c κs = tt
@@ -60,21 +79,22 @@ module _ (t : ℕ) where
   returns : measure-lts.Need-returns claims (measure-at t) measure.Post
   returns c =
       let a = c .before .before .before .before .before in
-      found-past (a .args .roots) (now (a .args .scratch)) (now (a .args .words)) (a .args .from .at) _ (a .pre .1 .1) (sym (c .before .before .read .ensures) ∙ c .enum-told .given .1) refl refl
+      found-past (a .args .roots) (now (a .args .scratch)) (now (a .args .words)) (a .args .from .at) _ (a .pre .1 .1)
+      (sym (c .before .before .read .ensures) ∙ c .enum-told .given .1) refl refl
 
   is-operator-requires : measure-lts.Need-is-operator-requires claims (measure-at t) measure.Post
   is-operator-requires c κs = tt
 
   measure-requires : measure-lts.Need-measure-requires claims (measure-at t) measure.Post
   measure-requires c κs =
-      let a = start (c .before .before .before) in
-      let l = inside (c .before .before .before) in
+      let a = start (opened (c .before)) in
+      let l = inside (opened (c .before)) in
       (omega (arith, a .pre .0), (a .pre .1 .0, omega arith))
 
   measure-requires-2 : measure-lts.Need-measure-requires-2 claims (measure-at t) measure.Post
   measure-requires-2 c κs =
-      let a = start (c .before .before .before .before) in
-      let l = inside (c .before .before .before .before) in
+      let a = start (opened (c .before .before)) in
+      let l = inside (opened (c .before .before)) in
       (omega (arith, a .pre .0, c .measure .ensures .on), (a .pre .1 .0, c .measure .ensures .within))
 
   combined-requires : measure-lts.Need-combined-requires claims (measure-at t) measure.Post
@@ -85,22 +105,29 @@ module _ (t : ℕ) where
 
   returns-2 : measure-lts.Need-returns-2 claims (measure-at t) measure.Post
   returns-2 c =
-      let a = start (c .before .before .before .before .before .before .before .before .before .before) in
-      found-operator (a .args .roots) (now (a .args .scratch)) (now (a .args .words)) (a .args .from .at) _ (a .pre .1 .0) _ _ (word (c .before .before .before .before .before .before .before .before .before .before))
-      (c .before .before .before .before .before .before .measure .result) (c .before .before .before .before .before .measure2 .result) (c .before .before .before .before .before .before .measure .ensures) (c .before .before .before .before .before .measure2 .ensures)
-      (sym (c .before .before .before .before .before .before .before .before .is-operator .ensures) ∙ c .before .before .before .before .before .before .before .if1 .taken) refl (c .before .before .before .before .combined .ensures) (ap (λ (b : Bool). b && (c .before .before .before .before .before .before .measure .result .few && c .before .before .before .before .before .measure2 .result .few)) (c .before .before .few .ensures))
+      let z = c .before .before .before .before in
+      let s = z .before .before in
+      let m = measured z in
+      let a = start (opened m) in
+      found-operator (a .args .roots) (now (a .args .scratch)) (now (a .args .words)) (a .args .from .at) _ (a .pre .1 .0) _ _ (word (opened m))
+      (s .measure .result) (z .before .measure2 .result) (s .measure .ensures) (z .before .measure2 .ensures)
+      (sym (m .is-operator .ensures) ∙ s .before .if1 .taken) refl (z .combined .ensures)
+      (ap (λ (b : Bool). b && (s .measure .result .few && z .before .measure2 .result .few)) (c .before .before .few .ensures))
 
   leaf-requires : measure-lts.Need-leaf-requires claims (measure-at t) measure.Post
-  leaf-requires c κs = start (c .before .before .before) .pre .1 .0
+  leaf-requires c κs = start (opened (c .before)) .pre .1 .0
 
   few-requires-2 : measure-lts.Need-few-requires-2 claims (measure-at t) measure.Post
-  few-requires-2 c κs = let a = start (c .before .before .before .before) in rw (c .leaf .ensures) (leaf-small (a .args .roots) (now (a .args .scratch)) (a .pre .1 .0) _)
+  few-requires-2 c κs =
+      let a = start (opened (c .before .before)) in
+      rw (c .leaf .ensures) (leaf-small (a .args .roots) (now (a .args .scratch)) (a .pre .1 .0) _)
 
   returns-3 : measure-lts.Need-returns-3 claims (measure-at t) measure.Post
   returns-3 c =
-      let a = start (c .before .before .before .before .before) in
-      found-leaf (a .args .roots) (now (a .args .scratch)) (now (a .args .words)) (a .args .from .at) _ (a .pre .1 .0) _ _ (word (c .before .before .before .before .before))
-      (sym (c .before .before .before .is-operator .ensures) ∙ c .before .before .if1 .left) refl (c .before .leaf .ensures) (c .few2 .ensures)
+      let m = c .before .before .before in
+      let a = start (opened m) in
+      found-leaf (a .args .roots) (now (a .args .scratch)) (now (a .args .words)) (a .args .from .at) _ (a .pre .1 .0) _ _ (word (opened m))
+      (sym (m .is-operator .ensures) ∙ c .before .before .if1 .left) refl (c .before .leaf .ensures) (c .few2 .ensures)
 
 pub +measure-spec : {M : Type 1} → statement M
 +measure-spec = close μ-measure λ t. measure-lts.spec (claims t) (measure-at t) measure.Post

@@ -38,6 +38,9 @@ module _ (t : ℕ) where
   abbrev claims : mark-tick-at-lts.Claims
   claims = (first-root-reads.Asked, first-root-reads.Learnt, step-at-reads.Asked, step-at-reads.Learnt, mark-tick-reads.Asked, mark-tick-reads.Learnt, mark-tick-at-below t, mark-tick-at.Post)
 
+  abbrev joined : mark-tick-at-lts.After-mark-tick-at2 claims (mark-tick-at-at t) mark-tick-at.Post → mark-tick-at-lts.After-step3 claims (mark-tick-at-at t) mark-tick-at.Post
+  joined c = c .before .before .before
+
   -- a step has been made
   abbrev At : Type 0
   At = mark-tick-at-lts.After-step-at claims (mark-tick-at-at t) mark-tick-at.Post
@@ -68,7 +71,8 @@ module _ (t : ℕ) where
   kept c = start c .pre .1 .1 .1
 
   step : (c : At) (X : Term) → StandsAt c X → (r : Step) → c .step-at .result ≡ r → Stepped (tb c) X (start c .args .target) r
-  step c X st r e = subst (Stepped (tb c) X (start c .args .target)) e (c .step-at .ensures (tb c) (sym (c .before .first-root .ensures)) (ready c .counted) X st)
+  step c X st r e =
+      subst (Stepped (tb c) X (start c .args .target)) e (c .step-at .ensures (tb c) (sym (c .before .first-root .ensures)) (ready c .counted) X st)
 
   low : (c : At) → start c .args .target .from .at < length (ws c)
   low c = stands-here (tb c) (here c .0) (start c .args .target) (ws c) (here c .1)
@@ -88,7 +92,9 @@ module _ (t : ℕ) where
   enum-known-step c = c .match .keys2
 
   mark-tick-requires : mark-tick-at-lts.Need-mark-tick-requires claims (mark-tick-at-at t) mark-tick-at.Post
-  mark-tick-requires c κs = let z = c .before .before .before .before in (ready z, (step z (here z .0) (here z .1) _ (c .before .before .step .given .1) .1, kept z))
+  mark-tick-requires c κs =
+      let z = c .before .before .before .before in
+      (ready z, (step z (here z .0) (here z .1) _ (c .before .before .step .given .1) .1, kept z))
 
   enum-known-step-2 : mark-tick-at-lts.Need-enum-known-step-2 claims (mark-tick-at-at t) mark-tick-at.Post
   enum-known-step-2 c = c .match .keys3
@@ -96,9 +102,12 @@ module _ (t : ℕ) where
   mark-tick-at-requires : mark-tick-at-lts.Need-mark-tick-at-requires claims (mark-tick-at-at t) mark-tick-at.Post
   mark-tick-at-requires c κs =
       let z = c .before .before .before .before in
+      let a = start z in
       let X = here z .0 in
-      let e = step z X (here z .1) _ (c .before .before .step2 .given .1) in
-      (omega (arith, low z, start z .pre .0, e .part .place, e .part .some), (ready z, ((e .term, part-stands (tb z) X (start z .args .target) (ws z) (here z .1) (e .part)), kept z)))
+      let e = step z X (here z .1) _ (c .before .before .step2 .given .1) in (
+        omega (arith, low z, a .pre .0, e .part .place, e .part .some),
+        (ready z, ((e .term, part-stands (tb z) X (a .args .target) (ws z) (here z .1) (e .part)), kept z)),
+      )
 
   enum-known-step-3 : mark-tick-at-lts.Need-enum-known-step-3 claims (mark-tick-at-at t) mark-tick-at.Post
   enum-known-step-3 c = c .match .keys4
@@ -106,30 +115,41 @@ module _ (t : ℕ) where
   mark-tick-at-requires-2 : mark-tick-at-lts.Need-mark-tick-at-requires-2 claims (mark-tick-at-at t) mark-tick-at.Post
   mark-tick-at-requires-2 c κs =
       let z = c .before .before .before .before in
+      let a = start z in
       let X = here z .0 in
-      let e = step z X (here z .1) _ (c .before .before .step3 .given .1) in
-      (omega (arith, low z, start z .pre .0, e .tick .place, e .tick .some), (ready z, ((e .ticking, part-stands (tb z) X (start z .args .target) (ws z) (here z .1) (e .tick)), kept z)))
+      let e = step z X (here z .1) _ (c .before .before .step3 .given .1) in (
+        omega (arith, low z, a .pre .0, e .tick .place, e .tick .some),
+        (ready z, ((e .ticking, part-stands (tb z) X (a .args .target) (ws z) (here z .1) (e .tick)), kept z)),
+      )
 
   mark-tick-at-requires-3 : mark-tick-at-lts.Need-mark-tick-at-requires-3 claims (mark-tick-at-at t) mark-tick-at.Post
   mark-tick-at-requires-3 c κs =
-      let z = c .before .before .before .before .before .before .before .before in
+      let s = c .before .before .before in
+      let z = joined s .before .before in
+      let a = start z in
       let X = here z .0 in
-      let e = step z X (here z .1) _ (c .before .before .before .before .before .before .step3 .given .1) in
-      let k = c .before .before .before .mark-tick-at2 .ensures (e .ticking) (part-stands (tb z) X (start z .args .target) (ws z) (here z .1) (e .tick)) in
-      (omega (arith, low z, start z .pre .0, e .part .place, e .part .some), (ready z, ((e .term, part-stands (tb z) X (start z .args .target) (ws z) (here z .1) (e .part)), k .marks)))
+      let e = step z X (here z .1) _ (joined s .step3 .given .1) in
+      let k = s .mark-tick-at2 .ensures (e .ticking) (part-stands (tb z) X (a .args .target) (ws z) (here z .1) (e .tick)) in (
+        omega (arith, low z, a .pre .0, e .part .place, e .part .some),
+        (ready z, ((e .term, part-stands (tb z) X (a .args .target) (ws z) (here z .1) (e .part)), k .marks)),
+      )
 
   returns : mark-tick-at-lts.Need-returns claims (mark-tick-at-at t) mark-tick-at.Post
-  returns c = λ X st. let z = c .before .before in marked-same (step z X st _ (c .enum-told .given .1) .1 .guards) (marked-none (tb z) (ms z) (kept z))
+  returns c = let z = c .before .before in λ X st. marked-same (step z X st _ (c .enum-told .given .1) .1 .guards) (marked-none (tb z) (ms z) (kept z))
 
   same-length : mark-tick-at-lts.Need-same-length claims (mark-tick-at-at t) mark-tick-at.Post
   same-length c = c .before .before .mark-tick .ensures .same
 
   returns-2 : mark-tick-at-lts.Need-returns-2 claims (mark-tick-at-at t) mark-tick-at.Post
-  returns-2 c = λ X st. let z = c .before .before .before .before .before .before .before in marked-same (ap (λ (d : Derivation). d .guards) (step z X st _ (c .before .before .before .before .before .step .given .1) .2)) (c .before .before .mark-tick .ensures)
+  returns-2 c =
+      let z = c .before .before .before .before .before .before .before in
+      λ X st. marked-same (ap (λ (d : Derivation). d .guards) (step z X st _ (c .before .before .before .before .before .step .given .1) .2))
+      (c .before .before .mark-tick .ensures)
 
   returns-3 : mark-tick-at-lts.Need-returns-3 claims (mark-tick-at-at t) mark-tick-at.Post
-  returns-3 c = λ X st.
+  returns-3 c =
       let z = c .before .before .before .before .before .before .before in
+      λ X st.
       let e = step z X st _ (c .before .before .before .before .before .step2 .given .1) in
       marked-same (e .around .guards) (c .before .before .mark-tick-at .ensures (e .term) (part-stands (tb z) X (start z .args .target) (ws z) st (e .part)))
 
@@ -137,14 +157,18 @@ module _ (t : ℕ) where
   same-length-2 c = let z = c .before .before .before .before .before .before .before in returns-3 c (here z .0) (here z .1) .same
 
   returns-4 : mark-tick-at-lts.Need-returns-4 claims (mark-tick-at-at t) mark-tick-at.Post
-  returns-4 c = λ X st.
-      let z = c .before .before .before .before .before .before .before .before .before .before .before in
-      let e = step z X st _ (c .before .before .before .before .before .before .before .before .before .step3 .given .1) in
+  returns-4 c =
+      let s = c .before .before .before .before .before .before in
+      let z = joined s .before .before in
+      let a = start z in
+      λ X st.
+      let e = step z X st _ (joined s .step3 .given .1) in
       marked-same (e .around .guards)
-      (marked-join (tb z) (ms z) (kept z) _ _ _ _ (c .before .before .before .before .before .before .mark-tick-at2 .ensures (e .ticking) (part-stands (tb z) X (start z .args .target) (ws z) st (e .tick))) (c .before .before .mark-tick-at3 .ensures (e .term) (part-stands (tb z) X (start z .args .target) (ws z) st (e .part))))
+      (marked-join (tb z) (ms z) (kept z) _ _ _ _ (s .mark-tick-at2 .ensures (e .ticking) (part-stands (tb z) X (a .args .target) (ws z) st (e .tick)))
+      (c .before .before .mark-tick-at3 .ensures (e .term) (part-stands (tb z) X (a .args .target) (ws z) st (e .part))))
 
   same-length-3 : mark-tick-at-lts.Need-same-length-3 claims (mark-tick-at-at t) mark-tick-at.Post
-  same-length-3 c = let z = c .before .before .before .before .before .before .before .before .before .before .before in returns-4 c (here z .0) (here z .1) .same
+  same-length-3 c = let z = joined (c .before .before .before .before .before .before) .before .before in returns-4 c (here z .0) (here z .1) .same
 
 pub +mark-tick-at-spec : {M : Type 1} → statement M
 +mark-tick-at-spec = close μ-mark-tick-at λ t. mark-tick-at-lts.spec (claims t) (mark-tick-at-at t) mark-tick-at.Post

@@ -24,12 +24,15 @@ Inv-loop kinds words roots cursor₀ more₀ cursor more =
 abbrev μ-loop : tie.MeasureT-loop
 μ-loop kinds words roots cursor₀ more₀ cursor more = length words - cursor .at
 
+abbrev begun : tie.At-loop Inv-loop μ-loop → tie.Start Inv-loop μ-loop
+begun c = c .before .before .before .before .before
+
 -- a word has been read
 abbrev At : Type 0
 At = tie.After-read2 Inv-loop μ-loop
 
 abbrev start : At → tie.Start Inv-loop μ-loop
-start c = c .before .before .before .before .before .before .before .before
+start c = begun (c .before .before .before)
 
 abbrev ws : At → List ℕ
 ws c = now (start c .args .words)
@@ -49,7 +52,8 @@ whole c operands = table (start c .args .sizes) (now (start c .args .kinds)) ope
 root-is : (c : At) (operands : List ℕ) → firstRoot (whole c operands) ≡ c .before .before .before .before .before .first-root .result
 root-is c operands = sym (c .before .before .before .before .before .first-root .ensures)
 
-come : (c : At) (operands : List ℕ) → areTerms (whole c operands) 1 (ws c) ≡ areTerms (whole c operands) (c .before .before .before .loop .more) (drop (here c) (ws c))
+come : (c : At) (operands : List ℕ) → areTerms (whole c operands) 1 (ws c) ≡ areTerms (whole c operands)
+    (c .before .before .before .loop .more) (drop (here c) (ws c))
 come c operands = c .before .before .before .loop .inv .2 (whole c operands) (root-is c operands) refl
 
 first-root-requires : tie.Need-first-root-requires Inv-loop μ-loop
@@ -72,10 +76,11 @@ enum-told c = c .match .keys2
 
 returns : tie.Need-returns Inv-loop μ-loop
 returns c operands =
-    let a = c .before .before .before .before .before .before .before .before in
+    let a = begun (c .before .before .before) in
     let l = c .before .before .before .loop in
     let t = table (a .args .sizes) (now (a .args .kinds)) operands in
-    sym (l .inv .2 t (sym (c .before .before .before .before .before .first-root .ensures)) refl ∙ are-end t (now (a .args .words)) (l .cursor .at) (l .more) (read-end (now (a .args .words)) (l .cursor .at) (sym (c .before .before .read .ensures) ∙ c .enum-told .given .1)))
+    sym (l .inv .2 t (sym (c .before .before .before .before .before .first-root .ensures)) refl ∙ are-end t (now (a .args .words)) (l .cursor .at) (l .more)
+    (read-end (now (a .args .words)) (l .cursor .at) (sym (c .before .before .read .ensures) ∙ c .enum-told .given .1)))
 
 returns-2 : tie.Need-returns-2 Inv-loop μ-loop
 returns-2 c operands = let z = c .before .before in sym (come z operands ∙ are-none (whole z operands) (ws z) (here z) _ _ (read z) _ (c .if1 .taken))
@@ -92,7 +97,8 @@ is-leaf-requires c κs = let z = c .before .before .before .before in omega (ari
 returns-3 : tie.Need-returns-3 Inv-loop μ-loop
 returns-3 c operands =
     let z = c .before .before .before .before .before .before in
-    sym (come z operands ∙ are-bad (whole z operands) (ws z) (here z) _ _ (read z) _ _ (root-is z operands) refl (sym (c .before .before .before .is-operator .ensures) ∙ c .before .before .if2 .left) _ (sym (c .before .is-leaf .ensures) ∙ not-true _ (c .if3 .taken)))
+    sym (come z operands ∙ are-bad (whole z operands) (ws z) (here z) _ _ (read z) _ _ (root-is z operands) refl
+    (sym (c .before .before .before .is-operator .ensures) ∙ c .before .before .if2 .left) _ (sym (c .before .is-leaf .ensures) ∙ not-true _ (c .if3 .taken)))
 
 sub-more : tie.Need-sub-more Inv-loop μ-loop
 sub-more c = let d = c .before .before .before .before .if1 .left in omega (arith, d)
@@ -106,8 +112,12 @@ loop-again c =
     let l = z .before .before .before .loop in
     let r = past z in
     let i = l .inv .1 in
-    let d = c .before .before .if1 .left in
-    (omega arith, omega arith, λ t e f. l .inv .2 t e f ∙ are-operator t (ws z) (here z) _ _ (read z) (l .more) (omega arith) (sym (c .before .is-operator .ensures) ∙ c .if2 .taken))
+    let d = c .before .before .if1 .left in (
+      omega arith,
+      omega arith,
+      λ t e f. l .inv .2 t e f ∙ are-operator t (ws z) (here z) _ _ (read z) (l .more)
+          (omega arith) (sym (c .before .is-operator .ensures) ∙ c .if2 .taken),
+    )
 
 loop-less-2 : tie.Need-loop-less-2 Inv-loop μ-loop
 loop-less-2 c = let z = c .before .before .before .before .before .before in omega (arith, past z)
@@ -121,7 +131,9 @@ loop-again-2 c =
     let d = c .before .before .before .before .if1 .left in (
       omega arith,
       omega arith,
-      λ t e f. l .inv .2 t e f ∙ are-leaf t (ws z) (here z) _ _ (read z) _ _ e f (sym (c .before .before .before .is-operator .ensures) ∙ c .before .before .if2 .left) (l .more) (omega arith) (sym (c .before .is-leaf .ensures) ∙ not-false _ (c .if3 .left)),
+      λ t e f. l .inv .2 t e f ∙ are-leaf t (ws z) (here z) _ _ (read z) _ _ e f
+          (sym (c .before .before .before .is-operator .ensures) ∙ c .before .before .if2 .left) (l .more) (omega arith)
+          (sym (c .before .is-leaf .ensures) ∙ not-false _ (c .if3 .left)),
     )
 
 pub whole-term-spec : {M : Type 1} → statement M

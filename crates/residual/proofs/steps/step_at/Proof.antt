@@ -14,6 +14,12 @@ use borrow.Author.Needs.{needs}
 use Rattle.residual.proofs.steps.step_at.Statement.{statement}
 use Rattle.residual.proofs.steps.step_at.Tie as tie
 
+abbrev told : tie.After-is-operator → tie.After-read2
+told c = c .before .before
+
+abbrev measured : tie.After-measure2 → tie.After-is-operator
+measured c = c .before .before .before .before
+
 -- a word has been read
 abbrev start : tie.After-read2 → tie.Start
 start c = c .before .before .before .before .before .before
@@ -42,8 +48,8 @@ is-operator-requires c κs = search needs
 
 measure-requires : tie.Need-measure-requires
 measure-requires c κs =
-    let a = start (c .before .before .before) in
-    let r = read-word (now (a .args .words)) (a .args .target .from .at) _ _ (word (c .before .before .before)) in
+    let a = start (told (c .before)) in
+    let r = read-word (now (a .args .words)) (a .args .target .from .at) _ _ (word (told (c .before))) in
     (a .pre, omega arith)
 
 measure-requires-2 : tie.Need-measure-requires-2
@@ -60,21 +66,32 @@ toward-requires c κs = search needs
 
 returns-2 : tie.Need-returns-2
 returns-2 c t r k T st =
-    let a = start (c .before .before .before .before .before .before .before .before .before) in
-    let l = c .before .before .before .before .before .measure in
-    let m = c .before .before .before .measure2 in
+    let z = c .before .before .before in
+    let s = measured z in
+    let a = start (told s) in
+    let l = z .before .before .measure in
+    let m = z .measure2 in
     subst (Stepped t T (a .args .target)) (sym (c .toward .ensures))
-    (on-operator t (a .args .roots) (a .pre .nodes) (now (a .args .scratch)) (now (a .args .words)) (a .args .target) r k _ _ (word (c .before .before .before .before .before .before .before .before .before)) T st (sym (c .before .before .before .before .before .before .before .is-operator .ensures) ∙ c .before .before .before .before .before .before .if1 .taken) (l .result) (m .result) (l .ensures) (m .ensures) (c .before .pick .result)
-    (c .before .pick .ensures ∙ ap (λ (x : ℕ). pickOf (a .args .target .mode) (a .args .target .choice) x (l .result .counts) (m .result .counts)) (c .before .before .beside .ensures)))
+    (on-operator t (a .args .roots) (a .pre .nodes) (now (a .args .scratch)) (now (a .args .words)) (a .args .target) r k _ _ (word (told s)) T st
+    (sym (s .is-operator .ensures) ∙ z .before .before .before .if1 .taken) (l .result) (m .result) (l .ensures) (m .ensures) (c .before .pick .result)
+    (c .before .pick .ensures ∙ ap (λ (x : ℕ). pickOf (a .args .target .mode) (a .args .target .choice) x (l .result .counts) (m .result .counts))
+    (c .before .before .beside .ensures)))
 
 returns-3 : tie.Need-returns-3
-returns-3 c t r k T st = let a = start (c .before .before .before .before) in on-tick t (a .args .roots) (a .pre .nodes) (now (a .args .scratch)) (now (a .args .words)) (a .args .target) r k _ _ (word (c .before .before .before .before)) T st (c .if2 .taken)
+returns-3 c t r k T st =
+    let a = start (told (c .before .before)) in
+    on-tick t (a .args .roots) (a .pre .nodes) (now (a .args .scratch)) (now (a .args .words))
+    (a .args .target) r k _ _ (word (told (c .before .before))) T st (c .if2 .taken)
 
 cast-node : tie.Need-cast-node
 cast-node c = search needs
 
 returns-4 : tie.Need-returns-4
-returns-4 c t r k T st = let a = start (c .before .before .before .before) in on-leaf t (a .args .roots) (a .pre .nodes) (now (a .args .scratch)) (now (a .args .words)) (a .args .target) r k _ _ (word (c .before .before .before .before)) T st (sym (c .before .before .is-operator .ensures) ∙ c .before .if1 .left) (c .if2 .left)
+returns-4 c t r k T st =
+    let m = c .before .before in
+    let a = start (told m) in
+    on-leaf t (a .args .roots) (a .pre .nodes) (now (a .args .scratch)) (now (a .args .words)) (a .args .target) r k _ _
+    (word (told m)) T st (sym (m .is-operator .ensures) ∙ c .before .if1 .left) (c .if2 .left)
 
 pub step-at-spec : {M : Type 1} → statement M
 step-at-spec =

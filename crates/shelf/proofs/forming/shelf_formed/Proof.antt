@@ -1,4 +1,4 @@
--- `shelf::forming::shelf_formed` meets its contract.
+-- `shelf::forming::shelf_formed` meets its contract: the places below the loop's are well-formed.
 -- Assumes nothing.
 use Prim.Native.Nat.{ℕ, _-_, _≤_}
 use mathlib.Core.Bool.{true}

@@ -1,4 +1,4 @@
--- `shelf::places::place_of` meets its contract.
+-- `shelf::places::place_of` meets its contract: no place below the loop's has the name.
 -- Assumes nothing.
 use Prim.Native.Nat.{ℕ, _-_, _≤_, _<_}
 use mathlib.Core.Bool.{Bool, false}

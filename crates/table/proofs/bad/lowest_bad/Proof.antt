@@ -1,4 +1,4 @@
--- `table::bad::lowest_bad` meets its contract.
+-- `table::bad::lowest_bad` meets its contract: no node below the loop's is bad, and the words tell which nodes those name.
 -- Assumes nothing.
 use Prim.Native.Nat.{ℕ, _+_, _≤_, _<_, _-_}
 use native.Mathlib.Omega.{arith}
@@ -30,11 +30,20 @@ Inv-loop sizes kinds operands scratch₀ first doubtful₀ i₀ scratch doubtful
 abbrev μ-loop : tie.MeasureT-loop
 μ-loop sizes kinds operands scratch₀ first doubtful₀ i₀ scratch doubtful i = sizes .nodes - i
 
+abbrev start : tie.At-loop Inv-loop μ-loop → tie.Start Inv-loop μ-loop
+start c = c .before .before .before .before .before
+
+abbrev looked : tie.After-own-bits Inv-loop μ-loop → tie.After-look-at Inv-loop μ-loop
+looked c = c .before .before .before .before
+
+abbrev owned : tie.After-is-doubted Inv-loop μ-loop → tie.After-own-bits Inv-loop μ-loop
+owned c = c .before .before .before .before .before
+
 abbrev here : tie.At-loop Inv-loop μ-loop → Table
-here c = let a = c .before .before .before .before .before .args in table (a .sizes) (now (a .kinds)) (now (a .operands))
+here c = let a = start c .args in table (a .sizes) (now (a .kinds)) (now (a .operands))
 
 abbrev head : tie.After-mark-both Inv-loop μ-loop → tie.At-loop Inv-loop μ-loop
-head c = c .before .before .before .before .before .before .before .before .before .before .before .before .before .before .before .before
+head c = looked (owned (c .before .before .before .before)) .before .before .before
 
 found-at : (t : Table) (i : ℕ) (doubtful : Bool) → i < t .sizes .nodes → badNode t i ≡ true → ((k : ℕ) → k < i → badNode t k ≡ false)
     → Bad t (record { bad = i; doubtful = doubtful })
@@ -48,23 +57,29 @@ turn : (c : tie.After-mark-both Inv-loop μ-loop)
     × (length (c .mark-both .last .0) ≡ length (head c .loop .scratch))
     × Informed (here (head c)) (c .mark-both .last .0) (head c .loop .i + 1) (head c .loop .doubtful || c .before .before .before .before .is-doubted .result)
 turn c =
-    let l = head c .loop in
+    let z = c .before .before .before .before in
+    let s = z .before .before .before in
+    let o = z .before .before .before .before .before in
+    let u = head c in
+    let l = u .loop in
     let i = l .i in
-    let t = here (head c) in
-    let k = c .before .before .before .before .before .before .before .before .before .before .before .before .before .look-at in
+    let t = here u in
+    let k = o .before .before .before .before .look-at in
     let e = k .ensures in
-    let good : fitting t i ≡ true = sym (e .fitting) ∙ not-false (k .result .fitting) (c .before .before .before .before .before .before .before .before .before .before .before .if2 .left) in
-    let f : c .before .before .before .before .before .before .before .before .before .own-bits .result ≡ ownAt t i = rw (e .q) at (c .before .before .before .before .before .before .before .before .before .own-bits .ensures) in
-    let d = ap₂ bitOr f (c .before .before .before .before .before .before .before .rising .ensures) in
+    let good : fitting t i ≡ true = sym (e .fitting) ∙ not-false (k .result .fitting) (o .before .before .if2 .left) in
+    let f : o .own-bits .result ≡ ownAt t i = rw (e .q) at (o .own-bits .ensures) in
+    let d = ap₂ bitOr f (s .rising .ensures) in
     let w = word-unnamed t (l .scratch) i e d in
-    let W = bitOr (c .before .before .before .before .before .before .before .before .before .own-bits .result) (c .before .before .before .before .before .before .before .rising .result) in
-    let m = marks-found t e (inner t i) false false (ap (ltb i) (head c .before .first-root .ensures)) refl refl (c .mark-both .ensures) in
-    let small : i < length (l .scratch) = omega (arith, c .before .before .before .before .before .before .before .before .before .before .before .before .before .before .if1 .taken, head c .before .before .before .before .before .pre .1, l .inv .1) in (
+    let W = bitOr (o .own-bits .result) (s .rising .result) in
+    let m = marks-found t e (inner t i) false false (ap (ltb i) (u .before .first-root .ensures)) refl refl (c .mark-both .ensures) in
+    let small : i < length (l .scratch) = omega (arith, looked o .before .if1 .taken, start u .pre .1, l .inv .1) in (
       bad-is t W (l .inv .2) (l .inv .3) small good w m,
       turned-more t W (l .inv .2) (l .inv .3) small good w m,
       marks-length m ∙ simp length-set,
-      subst (λ (b : Bool). Informed t (c .mark-both .last .0) (i + 1) (l .doubtful || b)) (sym (c .before .before .before .before .is-doubted .ensures ∙ ap₂ (λ (p k : Bool). doubted p k W) (c .before .before .before .before .before .before .is-process .ensures) (c .before .before .before .before .before .is-link-root .ensures)))
-          (informed-more t (l .scratch) (c .mark-both .last .0) (l .inv .4) small (below-more (λ (k : ℕ). fitting t k ≡ true) i (λ k h. not-bad t k (l .inv .3 k h) .0) good)
+      subst (λ (b : Bool). Informed t (c .mark-both .last .0) (i + 1) (l .doubtful || b))
+          (sym (z .is-doubted .ensures ∙ ap₂ (λ (p k : Bool). doubted p k W) (z .before .before .is-process .ensures) (z .before .is-link-root .ensures)))
+          (informed-more t (l .scratch) (c .mark-both .last .0) (l .inv .4) small
+          (below-more (λ (k : ℕ). fitting t k ≡ true) i (λ k h. not-bad t k (l .inv .3 k h) .0) good)
           e (λ j k h. twice t W (l .inv .2) (l .inv .3) small good w m j k ∙ rw h) d),
     )
 
@@ -100,11 +115,11 @@ own-bits-requires c κs = search needs
 
 rising-requires : tie.Need-rising-requires Inv-loop μ-loop
 rising-requires c κs =
-    let a = c .before .before .before .before .before .before .before .before in
-    let k = c .before .before .before .before .before .look-at in
+    let a = looked (c .before) .before .before .before in
+    let k = looked (c .before) .look-at in
     let w = marks-lower (here a) (k .ensures) true (not-false (k .result .fitting) (c .before .before .before .if2 .left)) in
-    let r = a .before .before .before .before .before .pre in
-    let h = c .before .before .before .before .before .before .if1 .taken in
+    let r = start a .pre in
+    let h = looked (c .before) .before .if1 .taken in
     let g = a .loop .inv .1 in
     ((λ e. omega (arith, w .0 e)), λ e. omega (arith, w .1 e))
 
@@ -125,13 +140,15 @@ is-doubted-requires c κs = search needs
 
 mark-both-requires : tie.Need-mark-both-requires Inv-loop μ-loop
 mark-both-requires c κs =
-    let a = c .before .before .before .before .before .before .before .before .before .before .before .before .before .before .before in
-    let k = c .before .before .before .before .before .before .before .before .before .before .before .before .look-at in
+    let z = c .before .before .before in
+    let o = owned z in
+    let a = looked o .before .before .before in
+    let k = looked o .look-at in
     let w = marks-lower (here a) (k .ensures) (ltb (a .loop .i) (a .before .first-root .result))
-    (not-false (k .result .fitting) (c .before .before .before .before .before .before .before .before .before .before .if2 .left)) in
-    let g = length-set (a .loop .scratch) (a .loop .i) (bitOr (c .before .before .before .before .before .before .before .before .own-bits .result) (c .before .before .before .before .before .before .rising .result)) in
-    let h = c .before .before .before .before .before .before .before .before .before .before .before .before .before .if1 .taken in
-    let r = a .before .before .before .before .before .pre .1 in
+    (not-false (k .result .fitting) (o .before .before .if2 .left)) in
+    let g = length-set (a .loop .scratch) (a .loop .i) (bitOr (o .own-bits .result) (z .before .before .before .rising .result)) in
+    let h = looked o .before .if1 .taken in
+    let r = start a .pre .1 in
     let s = a .loop .inv .1 in
     ((λ e. omega (arith, w .0 e)), λ e. omega (arith, w .1 e))
 
@@ -141,8 +158,10 @@ same-length-2 c = let m = c .before .before .before in turn m .2 ∙ head m .loo
 returns-2 : tie.Need-returns-2 Inv-loop μ-loop
 returns-2 c =
     let m = c .before .before .before in
-    let l = head m .loop in
-    found-at (here (head m)) (l .i) _ (omega (arith, m .before .before .before .before .before .before .before .before .before .before .before .before .before .before .if1 .taken)) (sym (turn m .0) ∙ c .if3 .taken) (l .inv .3)
+    let h = head m in
+    let l = h .loop in
+    found-at (here h) (l .i) _ (omega (arith, looked (owned (m .before .before .before .before)) .before .if1 .taken))
+    (sym (turn m .0) ∙ c .if3 .taken) (l .inv .3)
 
 add-i : tie.Need-add-i Inv-loop μ-loop
 add-i c = search needs
@@ -153,12 +172,13 @@ loop-less c = search needs
 loop-again : tie.Need-loop-again Inv-loop μ-loop
 loop-again c =
     let m = c .before .before .before in
-    let l = head m .loop in
+    let h = head m in
+    let l = h .loop in
     let w = turn m in (
-      omega (arith, m .before .before .before .before .before .before .before .before .before .before .before .before .before .before .if1 .taken),
+      omega (arith, looked (owned (m .before .before .before .before)) .before .if1 .taken),
       w .2 ∙ l .inv .1,
       w .1,
-      below-more (λ (k : ℕ). badNode (here (head m)) k ≡ false) (l .i) (l .inv .3) (sym (w .0) ∙ c .if3 .left),
+      below-more (λ (k : ℕ). badNode (here h) k ≡ false) (l .i) (l .inv .3) (sym (w .0) ∙ c .if3 .left),
       w .3,
     )
 

@@ -6,6 +6,9 @@ use Rattle.table.proofs.Marking.{looked}
 use Rattle.table.proofs.nodes.look_at.Statement.{statement}
 use Rattle.table.proofs.nodes.look_at.Tie as tie
 
+abbrev start : tie.After-fields-here → tie.Start
+start c = c .before .before .before .before
+
 shared-slice-read-fields-here : tie.Need-shared-slice-read-fields-here
 shared-slice-read-fields-here c = search needs
 
@@ -32,10 +35,12 @@ is-node-requires-2 c κs = search needs
 
 returns : tie.Need-returns
 returns c =
-    let a = c .before .before .before .before .before .before .before .before .before .before .args in
+    let z = c .before .before .before .before .before .before in
+    let a = start z .args in
     let k = a .kinds .now in
     let o = a .operands .now in
-    looked (table (a .sizes) k o) (c .before .before .before .before .before .before .fields-here .ensures k o) (c .before .before .before .before .before .p-at .ensures .is) (c .before .before .before .before .q-at .ensures .is)
+    looked (table (a .sizes) k o) (z .fields-here .ensures k o) (c .before .before .before .before .before .p-at .ensures .is)
+    (c .before .before .before .before .q-at .ensures .is)
     (c .before .before .before .suits .ensures o) (c .before .before .suits2 .ensures o) (c .before .is-node .ensures) (c .is-node2 .ensures)
 
 pub look-at-spec : {M : Type 1} → statement M

@@ -1,4 +1,4 @@
--- `table::wrong::descend` meets its contract.
+-- `table::wrong::descend` meets its contract: from the last node down, each hands on what reaches it; `lowest` is the lowest wrong key so far.
 -- Assumes nothing.
 use Prim.Native.Nat.{ℕ, _≤_, _<_, _+_, _-_}
 use native.Mathlib.Omega.{arith}
@@ -24,6 +24,9 @@ Inv-loop sizes kinds operands scratch₀ lowest₀ i₀ scratch lowest i =
 abbrev μ-loop : tie.MeasureT-loop
 μ-loop sizes kinds operands scratch₀ lowest₀ i₀ scratch lowest i = i
 
+abbrev start : tie.At-loop Inv-loop μ-loop → tie.Start Inv-loop μ-loop
+start c = c .before .before .before .before
+
 abbrev here : tie.Start Inv-loop μ-loop → Table
 here c = table (c .args .sizes) (now (c .args .kinds)) (now (c .args .operands))
 
@@ -40,7 +43,7 @@ sub-i c = search needs
 
 visit-requires : tie.Need-visit-requires Inv-loop μ-loop
 visit-requires c κs =
-    let s = c .before .before .before .before .before .before in
+    let s = start (c .before .before) in
     let l = c .before .before .loop in
     let e : l .i ≡ l .i - 1 + 1 = omega arith in
     record {
@@ -56,14 +59,16 @@ loop-less c = search needs
 
 loop-again : tie.Need-loop-again Inv-loop μ-loop
 loop-again c =
-    let t = here (c .before .before .before .before .before .before .before .before .before) in
-    let l = c .before .before .before .before .before .loop in
+    let z = c .before .before .before .before .before in
+    let t = here (start z) in
+    let l = z .loop in
     let v = c .before .before .visit .ensures in
     let e : l .i ≡ l .i - 1 + 1 = omega arith in (
       omega arith,
       search needs,
       v .above,
-      rw (v .is) (lower-more (wrongKey t) (t .sizes .nodes) (l .i - 1) (l .lowest) (subst (λ (i : ℕ). Lower (wrongKey t) (t .sizes .nodes) i (l .lowest)) e (l .inv .3))),
+      rw (v .is) (lower-more (wrongKey t) (t .sizes .nodes) (l .i - 1) (l .lowest)
+          (subst (λ (i : ℕ). Lower (wrongKey t) (t .sizes .nodes) i (l .lowest)) e (l .inv .3))),
     )
 
 same-length : tie.Need-same-length Inv-loop μ-loop
@@ -71,7 +76,7 @@ same-length c = search needs
 
 returns : tie.Need-returns Inv-loop μ-loop
 returns c =
-    let t = here (c .before .before .before .before .before) in
+    let t = here (start (c .before)) in
     let l = c .before .loop in
     let e : l .i ≡ 0 = omega arith in
     lower-last (wrongKey t) (t .sizes .nodes) (l .lowest) (subst (λ (i : ℕ). Lower (wrongKey t) (t .sizes .nodes) i (l .lowest)) e (l .inv .3))

@@ -11,6 +11,9 @@ use Rattle.table.specs.Reach.{wrongKey}
 use Rattle.table.proofs.wrong.lowest_wrong.Statement.{statement}
 use Rattle.table.proofs.wrong.lowest_wrong.Tie as tie
 
+abbrev start : tie.After-show-starts → tie.Start
+start c = c .before .before .before .before .before .before
+
 -- it is not doubtful
 returns : tie.Need-returns
 returns c =
@@ -23,8 +26,9 @@ show-starts-requires c κs = search needs
 
 descend-requires : tie.Need-descend-requires
 descend-requires c κs =
-    let s = c .before .before .before .before .before .before .before .before .before in
-    (s .pre .0, omega (arith, s .pre .1, c .before .before .before .show-starts .kept .1 .1 .0), s .pre .2, c .before .before .before .show-starts .ensures (now (s .args .operands)))
+    let z = c .before .before .before in
+    let s = start z in
+    (s .pre .0, omega (arith, s .pre .1, z .show-starts .kept .1 .1 .0), s .pre .2, z .show-starts .ensures (now (s .args .operands)))
 
 same-length : tie.Need-same-length
 same-length c = search needs

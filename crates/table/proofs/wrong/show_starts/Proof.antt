@@ -1,4 +1,4 @@
--- `table::wrong::show_starts` meets its contract.
+-- `table::wrong::show_starts` meets its contract: the words of the nodes below the loop's show which fields are nodes, and what starts there.
 -- Assumes nothing.
 use Prim.Native.Nat.{ℕ, _≤_, _<_, _-_}
 use mathlib.Core.Path.{_≡_, refl, subst, _∙_}
@@ -52,8 +52,9 @@ loop-less c = search needs
 
 loop-again : tie.Need-loop-again Inv-loop μ-loop
 loop-again c =
-    let l = c .before .before .before .before .before .before .before .loop in
-    let a = c .before .before .before .before .before .before .before .before .before .before in
+    let s = c .before .before .before .before .before .before .before in
+    let l = s .loop in
+    let a = s .before .before .before in
     let f = c .before .before .before .fields-here .ensures in
     let h = c .before .before .before .before .before .if1 .taken in
     let room : l .i < length (l .scratch) = omega (arith, a .pre .2, l .inv .1) in (

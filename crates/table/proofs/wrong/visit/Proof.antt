@@ -12,8 +12,14 @@ use Rattle.table.proofs.Spreading.{process-told, link-told, wrong-told,
 use Rattle.table.proofs.wrong.visit.Statement.{statement}
 use Rattle.table.proofs.wrong.visit.Tie as tie
 
+abbrev begun : tie.After-has → tie.Start
+begun c = c .before .before .before .before .before
+
+abbrev told : tie.After-q-at → tie.After-has
+told c = c .before .before .before .before .before
+
 abbrev start : tie.After-q-at → tie.Start
-start c = c .before .before .before .before .before .before .before .before .before .before
+start c = begun (told c)
 
 abbrev here : tie.Start → Table
 here c = table (c .args .sizes) (now (c .args .kinds)) (now (c .args .operands))
@@ -21,13 +27,14 @@ here c = table (c .args .sizes) (now (c .args .kinds)) (now (c .args .operands))
 -- what the node's word and operands tell
 found : (c : tie.After-q-at)
     → Looked (here (start c)) (start c .args .node)
-    (record { fitting = true; left = c .before .before .before .before .before .has .result; right = c .before .before .before .before .has2 .result; p = c .before .p-at .result; q = c .q-at .result })
+    (record { fitting = true; left = told c .has .result; right = c .before .before .before .before .has2 .result; p = c .before .p-at .result; q = c .q-at .result })
 found c =
-    let a = start c .pre in
-    let i = start c .args .node in
+    let s = start c in
+    let a = s .pre in
+    let i = s .args .node in
     record {
       fitting = sym (a .fit i (a .inside));
-      left = c .before .before .before .before .before .has .ensures ∙ a .above .left i (a .inside);
+      left = told c .has .ensures ∙ a .above .left i (a .inside);
       right = c .before .before .before .before .has2 .ensures ∙ a .above .right i (a .inside);
       p = c .before .p-at .ensures .is;
       q = c .q-at .ensures .is;
@@ -92,7 +99,8 @@ returns c =
           ∙ ap (λ (b : Bool). cond b i (s .args .lowest)) (c .before .wrong-here .ensures ∙ wrong-told t g l h (a .q-at .ensures .is) process link);
       above =
           above-more t g l h (s .pre .long)
-          (marks-found t (found a) true _ _ refl (process ∙ process-told t g l h) (link ∙ link-told t g l h) (c .before .before .before .before .before .mark-both .ensures));
+          (marks-found t (found a) true _ _ refl (process ∙ process-told t g l h) (link ∙ link-told t g l h)
+          (c .before .before .before .before .before .mark-both .ensures));
     }
 
 pub visit-spec : {M : Type 1} → statement M
