@@ -25,7 +25,7 @@ use Rattle.steps.specs.declared.Tally.{Tally}
 use Rattle.steps.specs.Tallies.{tally, noTally, addTally}
 use Rattle.steps.specs.Offers.{responseBy, responded, linked, inserts, response, offer, offered, offerTally}
 use Rattle.steps.proofs.Offers.{ruleBy, own-entry}
-use Rattle.offering.specs.Passing.{touched, Passed, ruleResponse, responseIn, insertionTally, responseTally, TallyWithin}
+use Rattle.offering.specs.Passing.{touched, Passed, ruleResponse, responseIn, responseTally, TallyWithin}
 
 -- a set of agents below n that pass: one agent more, and who is in it
 module _ (test : ℕ → Bool) (n : ℕ) {w : ℕ} (e : w ≡ plusAll test n 0) where

@@ -39,7 +39,7 @@ use Rattle.state.proofs.Keep.{Kept, kept-proper, kept-start, kept-later, kept-c
 use Rattle.steps.specs.Acts.{wordIn, leave, valueFor, writesEntry, guardsRead, labelReads, toConfirm, setKey, acted}
 use Rattle.steps.specs.declared.Response.{Response}
 use Rattle.steps.specs.declared.Response.the-variants.{Takes, Propagates, Ignores}
-use Rattle.steps.specs.Offers.{takeEntry, responded, linked, inserts, response, offer, offered}
+use Rattle.steps.specs.Offers.{takeEntry, responded, linked, inserts, offer, offered}
 use Rattle.steps.proofs.Offers.{takes, holdsNewer, response-by}
 use Rattle.steps.proofs.Acts.{set-attribute, set-entry, set-environment}
 use Rattle.steps.proofs.Leave.{leave-length, leave-small, leave-other, leave-size, leave-word}

@@ -25,8 +25,7 @@ use Rattle.steps.proofs.PointChecks.{fits-table, fits-state, state-tabl
 module _ (was words : List ℕ) where
   pub change-check : (c : Check) → change c was words .check ≡ c
   unfolding change
-  change-check passes = refl
-  change-check (refuses number place) = refl
+  change-check c = refl
 
   pub change-done : (c : Check) → c ≡ passes → change c was words .words ≡ words
   unfolding change

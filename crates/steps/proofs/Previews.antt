@@ -13,7 +13,7 @@ use Rattle.term.proofs.Acceptance.{passes-accepted}
 use Rattle.state.specs.Layout.{isWhole}
 use Rattle.steps.specs.Steps.{Outcome, refused, outcome, tallyOf, after, stepChecks, stateChecksWith, stepOf}
 use Rattle.steps.specs.Previews.{previewOf, OnACopy}
-use Rattle.steps.proofs.Steps.{outcome-check, outcome-done, outcome-refused, checks-with, step-check}
+use Rattle.steps.proofs.Steps.{outcome-done, outcome-refused, checks-with, step-check}
 
 module _ (bytes was : List ℕ) (scratch kind x number : ℕ) (next : List ℕ) where
   abbrev t : Table
@@ -33,8 +33,8 @@ module _ (bytes was : List ℕ) (scratch kind x number : ℕ) (next : List ℕ) 
   whole = firstOf (opening (isWhole next) ++ checks)
 
   pub preview-check : preview .check ≡ whole
-  unfolding previewOf
-  preview-check = outcome-check next (tallyOf t was kind x number) (after t was kind x number) whole
+  unfolding previewOf outcome
+  preview-check = refl
 
   -- where 1 to 9 pass, a step's own checks decide; else it is refused
   pub preview-in : firstOf (opening (isWhole next)) ≡ passes → preview ≡ outcome (firstOf checks) next (tallyOf t was kind x number) (after t was kind x number)

@@ -5,7 +5,6 @@ use mathlib.Core.Bool.{Bool, true, false, not, _&&_}
 use mathlib.Core.Path.{_≡_, refl, sym, ap, _∙_}
 use mathlib.Core.Logic.{_↔_, ⊎-elim}
 use mathlib.Core.List.{List, [], _++_}
-use native.Mathlib.Omega.{arith}
 use lib.Dec.{eqb, ltb, leb}
 use lib.ListN.{length}
 use borrow.Author.Tests.{ltb-true, ltb-false, leb-false, eqb-true, lt-ltb, le-ltb, lt-leb, not-false}
@@ -26,13 +25,12 @@ use Rattle.term.specs.Acceptance.{tableChecks}
 use Rattle.steps.specs.declared.Tally.{Tally}
 use Rattle.steps.specs.Tallies.{noTally}
 use Rattle.steps.specs.Refusals.{InRange}
-use Rattle.steps.specs.Steps.{Outcome, done, refused, outcome, loadOf, outOfRange, ownChecks, tallyOf, after, stepChecks, stepIn, stateChecksWith, stateChecks, stepOf}
+use Rattle.steps.specs.Steps.{done, refused, outcome, loadOf, outOfRange, ownChecks, tallyOf, after, stepChecks, stepIn, stateChecksWith, stateChecks, stepOf}
 
 module _ (was : List ℕ) (tally : Tally) (s : List ℕ) where
   pub outcome-check : (c : Check) → outcome c was tally s .check ≡ c
   unfolding outcome
-  outcome-check passes = refl
-  outcome-check (refuses number place) = refl
+  outcome-check c = refl
 
   pub outcome-done : (c : Check) → c ≡ passes → outcome c was tally s ≡ done tally s
   unfolding outcome
@@ -195,8 +193,8 @@ module _ (bytes was : List ℕ) (scratch : ℕ) where
     checks = stepChecks t was kind x number
 
     pub step-check : stepOf bytes was scratch kind x number .check ≡ firstOf (opening ++ checks)
-    unfolding stepOf
-    step-check = outcome-check was (tallyOf t was kind x number) (after t was kind x number) (firstOf (opening ++ checks))
+    unfolding stepOf outcome
+    step-check = refl
 
     -- where 1 to 9 pass it is a step of that table and state; else it is refused
     pub step-in : firstOf (stateChecks bytes was scratch) ≡ passes → stepOf bytes was scratch kind x number ≡ stepIn (tableOf bytes) was kind x number
