@@ -1,4 +1,6 @@
 // Little-endian reading of bytes, and sets of numbers below 32 in a word: keys, agents, bits of marks.
+#![tactic(auto)]
+
 pub mod kinds; // kinds.rt: the node kinds by name
 pub mod words; // words.rt: words cleared and copied
 

@@ -1,0 +1,11 @@
+-- `basis::power` meets its contract.
+-- Assumes nothing.
+use mathlib.Core.Path.{◌∙◌}
+use borrow.Author.Rules.{rules}
+use native.Mathlib.Omega.{arith}
+use native.Mathlib.Nat.{one-mul}
+use lib.Pow.{shl_exact}
+use Rattle.basis.proofs.power.Goals as goal
+
+pub returns : goal.returns
+returns c = shl_exact 1 c.args.key 32 (omega arith) (omega arith) ∙ one-mul _
