@@ -24,11 +24,9 @@ fn settle(
     level: usize,
     top: usize,
 ) -> bool
-    ghost t: { Table }
-    requires operands_value { table sizes kinds.now operands.now ≡ t }
-    requires held { Held t level scratch.old }
-    requires top_bound { top < first_root t }
-    ensures { Settles t level top scratch.old scratch.new result }
+    requires held { let t = table sizes kinds.now operands.now in Held t level scratch.old }
+    requires top_bound { let t = table sizes kinds.now operands.now in top < first_root t }
+    ensures { let t = table sizes kinds.now operands.now in Settles t level top scratch.old scratch.new result }
 {
     if is_counted(scratch, top) {
         return true;
@@ -65,11 +63,9 @@ fn try_count(
     level: usize,
     n: usize,
 )
-    ghost t: { Table }
-    requires operands_value { table sizes kinds.now operands.now ≡ t }
-    requires held { Held t level scratch.old }
-    requires n_bound { n < first_root t }
-    ensures { Held t level scratch.new }
+    requires held { let t = table sizes kinds.now operands.now in Held t level scratch.old }
+    requires n_bound { let t = table sizes kinds.now operands.now in n < first_root t }
+    ensures { let t = table sizes kinds.now operands.now in Held t level scratch.new }
 {
     let found = visit(sizes, kinds, operands, scratch, level, n);
     match found {
@@ -90,11 +86,9 @@ fn count_up(
     from: usize,
     to: usize,
 ) -> usize
-    ghost t: { Table }
-    requires operands_value { table sizes kinds.now operands.now ≡ t }
-    requires held { Held t level scratch.old }
-    requires to_bound { to < first_root t }
-    ensures { Held t level scratch.new }
+    requires held { let t = table sizes kinds.now operands.now in Held t level scratch.old }
+    requires to_bound { let t = table sizes kinds.now operands.now in to < first_root t }
+    ensures { let t = table sizes kinds.now operands.now in Held t level scratch.new }
 {
     let mut n = from;
     while n <= to {
@@ -107,10 +101,8 @@ fn count_up(
 // The lowest definition that exposes a call that is not lower, and the number of definitions where there is none.
 // Each body is settled in turn, after the nodes up to it have been tried.
 pub fn lowest_bad_call(sizes: Sizes, kinds: &[u8], operands: &[u8], scratch: &mut [u32]) -> usize
-    ghost t: { Table }
-    requires operands_value { table sizes kinds.now operands.now ≡ t }
-    requires sound { Sound t × (scratch_words sizes ≤ length scratch.old) }
-    ensures { CallsJudged t scratch.new result }
+    requires { let t = table sizes kinds.now operands.now in Sound t × (scratch_words sizes ≤ length scratch.old) }
+    ensures { let t = table sizes kinds.now operands.now in CallsJudged t scratch.new result }
 {
     let roots = first_root(sizes);
     discard(scratch, roots);
@@ -129,12 +121,10 @@ pub fn lowest_bad_call(sizes: Sizes, kinds: &[u8], operands: &[u8], scratch: &mu
 
 // The counts of node n, where the nodes below it and the bodies of all definitions are counted: a visit finds them.
 fn counts_of(sizes: Sizes, kinds: &[u8], operands: &[u8], scratch: &[u32], n: usize) -> Counts
-    ghost t: { Table }
-    requires operands_value { table sizes kinds.now operands.now ≡ t }
-    requires held { Held t sizes.definitions scratch.now }
-    requires n_bound { n < first_root t }
+    requires held { let t = table sizes kinds.now operands.now in Held t sizes.definitions scratch.now }
+    requires n_bound { let t = table sizes kinds.now operands.now in n < first_root t }
     requires by_index { (k : ℕ) → k < n → is_counted scratch.now k ≡ true }
-    ensures { Visits t sizes.definitions scratch.now n (Done result) }
+    ensures { let t = table sizes kinds.now operands.now in Visits t sizes.definitions scratch.now n (Done result) }
 {
     let found = visit(sizes, kinds, operands, scratch, sizes.definitions, n);
     match found {
@@ -146,12 +136,10 @@ fn counts_of(sizes: Sizes, kinds: &[u8], operands: &[u8], scratch: &[u32], n: us
 
 // Counts node n, if it is not counted yet.
 fn count_at(sizes: Sizes, kinds: &[u8], operands: &[u8], scratch: &mut [u32], n: usize) -> Counts
-    ghost t: { Table }
-    requires operands_value { table sizes kinds.now operands.now ≡ t }
-    requires held { Held t sizes.definitions scratch.old }
-    requires n_bound { n < first_root t }
+    requires held { let t = table sizes kinds.now operands.now in Held t sizes.definitions scratch.old }
+    requires n_bound { let t = table sizes kinds.now operands.now in n < first_root t }
     requires by_index { (k : ℕ) → k < n → is_counted scratch.old k ≡ true }
-    ensures { CountsAt t n scratch.old scratch.new result }
+    ensures { let t = table sizes kinds.now operands.now in CountsAt t n scratch.old scratch.new result }
 {
     if is_counted(scratch, n) {
         return pair(scratch, n);
@@ -164,10 +152,8 @@ fn count_at(sizes: Sizes, kinds: &[u8], operands: &[u8], scratch: &mut [u32], n:
 // The lowest node with over 65,535 derivations, and the number of nodes where there is none. Each node is counted in
 // turn.
 pub fn lowest_overfull(sizes: Sizes, kinds: &[u8], operands: &[u8], scratch: &mut [u32]) -> usize
-    ghost t: { Table }
-    requires operands_value { table sizes kinds.now operands.now ≡ t }
-    requires held { Held t sizes.definitions scratch.old }
-    ensures { NodesJudged t scratch.new result }
+    requires { let t = table sizes kinds.now operands.now in Held t sizes.definitions scratch.old }
+    ensures { let t = table sizes kinds.now operands.now in NodesJudged t scratch.new result }
 {
     let end = first_root(sizes);
     let mut n = 0;

@@ -21,7 +21,7 @@ pub use words::pair;
 use words::scratch_words;
 
 // How many actions and ticks a process has. 65,536 stands for any larger number too.
-#[derive(Drop)]
+#[derive(Clone, Copy)]
 pub struct Counts {
     pub actions: u64,
     pub ticks: u64,
@@ -29,7 +29,7 @@ pub struct Counts {
 
 // What a visit of a node finds: its counts, an exposed part that is not counted yet, or a call that is not below the
 // level.
-#[derive(Drop)]
+#[derive(Clone, Copy)]
 pub enum Visit {
     Done(Counts),
     Part(usize),
@@ -37,7 +37,7 @@ pub enum Visit {
 }
 
 // An accepted table's sizes, or a refusal's number and place.
-#[derive(Drop)]
+#[derive(Clone, Copy)]
 pub enum Acceptance {
     Accepted(Sizes),
     Refused(u8, usize),

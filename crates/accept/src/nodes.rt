@@ -41,11 +41,9 @@ pub fn visit(
     level: usize,
     n: usize,
 ) -> Visit
-    ghost t: { Table }
-    requires operands_value { table sizes kinds.now operands.now ≡ t }
-    requires held { Held t level scratch.now }
-    requires n_bound { n < first_root t }
-    ensures { Visits t level scratch.now n result }
+    requires held { let t = table sizes kinds.now operands.now in Held t level scratch.now }
+    requires n_bound { let t = table sizes kinds.now operands.now in n < first_root t }
+    ensures { let t = table sizes kinds.now operands.now in Visits t level scratch.now n result }
 {
     let kind = kinds[n];
     let p = p_at(operands, n);

@@ -34,10 +34,8 @@ fn with_entry(state: &[u32], agent: usize, keys: u32) -> u32
 
 // The set with the keys that an action's expression reads; a tick has none.
 fn label_keys(sizes: Sizes, kinds: &[u8], operands: &[u8], label: Label, keys: u32) -> u32
-    ghost t: { Table }
-    requires operands_value { table sizes kinds.now operands.now ≡ t }
-    requires shaped { Shaped t × LabelKey t label × (keys < 2 ^ key_limit) }
-    ensures { Adds (label_reads t label) keys result }
+    requires { let t = table sizes kinds.now operands.now in Shaped t × LabelKey t label × (keys < 2 ^ key_limit) }
+    ensures { let t = table sizes kinds.now operands.now in Adds (label_reads t label) keys result }
 {
     match label {
         Label::Ticking => keys,
@@ -58,10 +56,8 @@ pub fn gained(
     label: Label,
     asked: u32,
 ) -> u32
-    ghost t: { Table }
-    requires operands_value { table sizes kinds.now operands.now ≡ t }
-    requires gaining { Gaining t state.now agent label asked }
-    ensures { Gains t state.now agent label asked result }
+    requires { let t = table sizes kinds.now operands.now in Gaining t state.now agent label asked }
+    ensures { let t = table sizes kinds.now operands.now in Gains t state.now agent label asked result }
 {
     let keys = label_keys(sizes, kinds, operands, label, asked);
     with_entry(state, agent, keys)

@@ -19,11 +19,9 @@ pub fn leave(
     agent: usize,
     c: u64,
 )
-    ghost t: { Table }
-    requires operands_value { table sizes kinds.now operands.now ≡ t }
-    requires prepared { Prepared t scratch.now }
-    requires leaving { Leaving t state.old agent c }
-    ensures { state.new ≡ leave_in agent (words (chosen t state.old agent c).leaving) state.old }
+    requires prepared { let t = table sizes kinds.now operands.now in Prepared t scratch.now }
+    requires leaving { let t = table sizes kinds.now operands.now in Leaving t state.old agent c }
+    ensures { let t = table sizes kinds.now operands.now in state.new ≡ leave_in agent (words (chosen t state.old agent c).leaving) state.old }
 {
     let place = length_at(agent);
     let at = residual_at(agent);

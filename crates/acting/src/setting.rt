@@ -50,10 +50,8 @@ fn set_key(
     node: usize,
     value: u32,
 )
-    ghost t: { Table }
-    requires operands_value { table sizes kinds.now operands.now ≡ t }
-    requires setting { Setting t state.old agent node value }
-    ensures { state.new ≡ set_key t state.old agent (Acting node) }
+    requires { let t = table sizes kinds.now operands.now in Setting t state.old agent node value }
+    ensures { let t = table sizes kinds.now operands.now in state.new ≡ set_key t state.old agent (Acting node) }
 {
     let key = p_at(operands, node);
     let kind = kinds[node];
@@ -75,10 +73,8 @@ pub fn set_label(
     label: Label,
     value: u32,
 )
-    ghost t: { Table }
-    requires operands_value { table sizes kinds.now operands.now ≡ t }
-    requires by_index { (n : ℕ) → label ≡ Acting n → Setting t state.old agent n value }
-    ensures { state.new ≡ set_key t state.old agent label }
+    requires { let t = table sizes kinds.now operands.now in (n : ℕ) → label ≡ Acting n → Setting t state.old agent n value }
+    ensures { let t = table sizes kinds.now operands.now in state.new ≡ set_key t state.old agent label }
 {
     match label {
         Label::Ticking => {}

@@ -38,13 +38,11 @@ pub fn perform(
     value: u32,
     keys: u32,
 )
-    ghost t: { Table }
-    requires operands_value { table sizes kinds.now operands.now ≡ t }
-    requires prepared { Prepared t scratch.now }
-    requires proper { Proper t state.old }
+    requires prepared { let t = table sizes kinds.now operands.now in Prepared t scratch.now }
+    requires proper { let t = table sizes kinds.now operands.now in Proper t state.old }
     requires agent_lt_agents { agent < sizes.agents }
-    requires judges { Judges t state.old agent c (Allowed label value keys) }
-    ensures { state.new ≡ acted t state.old agent (chosen t state.old agent c) }
+    requires judges { let t = table sizes kinds.now operands.now in Judges t state.old agent c (Allowed label value keys) }
+    ensures { let t = table sizes kinds.now operands.now in state.new ≡ acted t state.old agent (chosen t state.old agent c) }
 {
     let gains = gained(sizes, kinds, operands, state, agent, label, keys);
     set_label(sizes, kinds, operands, state, agent, label, value);

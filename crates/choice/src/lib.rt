@@ -9,7 +9,7 @@ use term::{Label, Mode};
 
 // Of a sequence or a parallel: an action of the left part, or of the right; or a tick of the left part that joins a
 // derivation of the right, or a tick of the right part that joins a derivation of the left.
-#[derive(Drop)]
+#[derive(Clone, Copy)]
 pub enum Pick {
     LeftActs(u64),
     RightActs(u64),
@@ -18,7 +18,7 @@ pub enum Pick {
 }
 
 // The derivation that a walk goes to: a choice among those of a mode of a node.
-#[derive(Drop)]
+#[derive(Clone, Copy)]
 pub struct Goal {
     pub node: usize,
     pub mode: Mode,
@@ -26,7 +26,7 @@ pub struct Goal {
 }
 
 // Whose guards are collected besides: nobody's, one guard, or those of a tick that joins.
-#[derive(Drop)]
+#[derive(Clone, Copy)]
 pub enum Side {
     Alone,
     Under { guard: usize },
@@ -35,7 +35,7 @@ pub enum Side {
 
 // The words that stay around what is left: none; the operator before it and its right node after it; or a parallel and
 // its left node before it.
-#[derive(Drop)]
+#[derive(Clone, Copy)]
 pub enum Kept {
     Nothing,
     Right { operator: u32, node: u32 },
@@ -43,21 +43,21 @@ pub enum Kept {
 }
 
 // One step towards a goal: it ends there, with what is done and the one word that is left; else it goes on.
-#[derive(Drop)]
+#[derive(Clone, Copy)]
 pub enum Turn {
     End { label: Label, word: u32 },
     On { next: Goal, side: Side, kept: Kept },
 }
 
 // What a derivation does, and how many words it leaves.
-#[derive(Drop)]
+#[derive(Clone, Copy)]
 pub struct Effect {
     pub label: Label,
     pub size: usize,
 }
 
 // The words from front up to back are free: those before and those from back on, put together, are a residual.
-#[derive(Drop)]
+#[derive(Clone, Copy)]
 pub struct Gap {
     pub front: usize,
     pub back: usize,

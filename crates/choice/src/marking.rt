@@ -121,12 +121,10 @@ pub fn mark_node(
     marks: &mut [u32],
     goal: Goal,
 ) -> Effect
-    ghost t: { Table }
-    requires operands_value { table sizes kinds.now operands.now ≡ t }
-    requires prepared { Prepared t scratch.now }
-    requires reached { Reached t goal }
-    requires walk_marks { WalkMarks t marks.old }
-    ensures { Walked t (chosen_at t goal) (most sizes.definitions sizes.nodes) marks.old result marks.new }
+    requires prepared { let t = table sizes kinds.now operands.now in Prepared t scratch.now }
+    requires reached { let t = table sizes kinds.now operands.now in Reached t goal }
+    requires walk_marks { let t = table sizes kinds.now operands.now in WalkMarks t marks.old }
+    ensures { let t = table sizes kinds.now operands.now in Walked t (chosen_at t goal) (most sizes.definitions sizes.nodes) marks.old result marks.new }
 {
     let mut at = goal;
     let mut size: usize = 1;

@@ -88,11 +88,9 @@ fn body_at(sizes: Sizes, operands: &[u8], d: usize) -> usize
 
 // A call goes on in the body of its definition.
 pub fn turn_at(sizes: Sizes, kinds: &[u8], operands: &[u8], scratch: &[u32], goal: Goal) -> Turn
-    ghost t: { Table }
-    requires operands_value { table sizes kinds.now operands.now ≡ t }
-    requires prepared { Prepared t scratch.now }
-    requires reached { Reached t goal }
-    ensures { Turned t goal result }
+    requires prepared { let t = table sizes kinds.now operands.now in Prepared t scratch.now }
+    requires reached { let t = table sizes kinds.now operands.now in Reached t goal }
+    ensures { let t = table sizes kinds.now operands.now in Turned t goal result }
 {
     let n = goal.node;
     let mode = goal.mode;

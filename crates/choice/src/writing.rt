@@ -60,11 +60,9 @@ pub fn write_node(
     gap: Gap,
     goal: Goal,
 ) -> Gap
-    ghost t: { Table }
-    requires operands_value { table sizes kinds.now operands.now ≡ t }
-    requires prepared { Prepared t scratch.now }
-    requires room { Room t goal gap words.old }
-    ensures { Written words.old gap.front gap.back (words_of (chosen_at t goal).leaving) result words.new }
+    requires prepared { let t = table sizes kinds.now operands.now in Prepared t scratch.now }
+    requires room { let t = table sizes kinds.now operands.now in Room t goal gap words.old }
+    ensures { let t = table sizes kinds.now operands.now in Written words.old gap.front gap.back (words_of (chosen_at t goal).leaving) result words.new }
 {
     let mut rest = gap;
     let mut at = goal;

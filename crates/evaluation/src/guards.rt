@@ -117,10 +117,8 @@ pub fn holds(
     receiver: usize,
     node: usize,
 ) -> bool
-    ghost t: { Table }
-    requires operands_value { table sizes kinds.now operands.now ≡ t }
-    requires situated { Situated t state.now sender receiver }
-    ensures { result ≡ holds_of t state.now sender receiver node }
+    requires { let t = table sizes kinds.now operands.now in Situated t state.now sender receiver }
+    ensures { let t = table sizes kinds.now operands.now in result ≡ holds_of t state.now sender receiver node }
 {
     let asked = basis::plus(0, receiver);
     let found = truths_below(kinds, operands, state, sender, asked, sizes.nodes, node);
@@ -137,10 +135,8 @@ pub fn links_hold(
     sender: usize,
     agents: u32,
 ) -> u32
-    ghost t: { Table }
-    requires operands_value { table sizes kinds.now operands.now ≡ t }
-    requires shaped { Shaped t × Placed kinds.now operands.now state.now sender × (key < sizes.stigmergy) }
-    ensures { (y : ℕ) → has_agent result y ≡ (has_agent agents y && link_holds t state.now key sender y) }
+    requires { let t = table sizes kinds.now operands.now in Shaped t × Placed kinds.now operands.now state.now sender × (key < sizes.stigmergy) }
+    ensures { let t = table sizes kinds.now operands.now in (y : ℕ) → has_agent result y ≡ (has_agent agents y && link_holds t state.now key sender y) }
 {
     let root = table::first_root(sizes) + sizes.definitions + key;
     let link = table::p_at(operands, root);

@@ -8,7 +8,7 @@ pub use reading::keys_read;
 pub use values::value_of;
 
 // Of a set of agents: those for whom a guard is well defined, and those for whom it holds.
-#[derive(Drop)]
+#[derive(Clone, Copy)]
 struct AgentSets {
     defined: u32,
     holding: u32,

@@ -11,10 +11,8 @@ use table::{KEYS, Sizes};
 
 // The set with the key that a node is, if it is one.
 fn own_key(sizes: Sizes, kinds: &[u8], operands: &[u8], node: usize, keys: u32) -> u32
-    ghost t: { Table }
-    requires operands_value { table sizes kinds.now operands.now ≡ t }
-    requires shaped { Shaped t × (node < sizes.nodes) }
-    ensures { Adds (is_key t node) keys result }
+    requires { let t = table sizes kinds.now operands.now in Shaped t × (node < sizes.nodes) }
+    ensures { let t = table sizes kinds.now operands.now in Adds (is_key t node) keys result }
 {
     if kinds[node] != basis::kinds::STIGMERGY {
         return keys;
@@ -58,10 +56,8 @@ fn keys_below(
 
 // The set with the stigmergy keys that a node reads.
 pub fn keys_read(sizes: Sizes, kinds: &[u8], operands: &[u8], node: usize, keys: u32) -> u32
-    ghost t: { Table }
-    requires operands_value { table sizes kinds.now operands.now ≡ t }
-    requires shaped { Shaped t × (keys < 2 ^ key_limit) }
-    ensures { result ≡ plus_all (reads t node) key_limit keys }
+    requires { let t = table sizes kinds.now operands.now in Shaped t × (keys < 2 ^ key_limit) }
+    ensures { let t = table sizes kinds.now operands.now in result ≡ plus_all (reads t node) key_limit keys }
 {
     keys_below(sizes, kinds, operands, sizes.nodes, node, keys)
 }

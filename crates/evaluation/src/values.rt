@@ -61,10 +61,8 @@ pub fn value_of(
     receiver: usize,
     node: usize,
 ) -> Value
-    ghost t: { Table }
-    requires operands_value { table sizes kinds.now operands.now ≡ t }
-    requires situated { Situated t state.now sender receiver }
-    ensures { result ≡ value_of t state.now sender receiver node }
+    requires { let t = table sizes kinds.now operands.now in Situated t state.now sender receiver }
+    ensures { let t = table sizes kinds.now operands.now in result ≡ value_of t state.now sender receiver node }
 {
     value_below(kinds, operands, state, sender, receiver, sizes.nodes, node)
 }

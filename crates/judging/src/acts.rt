@@ -24,10 +24,8 @@ fn judge_choice(
     agent: usize,
     c: u64,
 ) -> Judgement
-    ghost t: { Table }
-    requires operands_value { table sizes kinds.now operands.now ≡ t }
-    requires residual_given { ResidualGiven t scratch.now state.now agent words.now }
-    ensures { Judges t state.now agent c result }
+    requires { let t = table sizes kinds.now operands.now in ResidualGiven t scratch.now state.now agent words.now }
+    ensures { let t = table sizes kinds.now operands.now in Judges t state.now agent c result }
 {
     let all = count_choices(sizes, scratch, words);
     if !all.few {
@@ -55,12 +53,10 @@ pub fn judge(
     agent: usize,
     c: u64,
 ) -> Judgement
-    ghost t: { Table }
-    requires operands_value { table sizes kinds.now operands.now ≡ t }
-    requires prepared { Prepared t scratch.now }
-    requires proper { Proper t state.now }
+    requires prepared { let t = table sizes kinds.now operands.now in Prepared t scratch.now }
+    requires proper { let t = table sizes kinds.now operands.now in Proper t state.now }
     requires agent_lt_agents { agent < sizes.agents }
-    ensures { Judges t state.now agent c result }
+    ensures { let t = table sizes kinds.now operands.now in Judges t state.now agent c result }
 {
     let zc = zc_at(agent);
     let zp = zp_at(agent);

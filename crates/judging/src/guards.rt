@@ -16,10 +16,8 @@ pub fn ask_guards(
     marks: &[u32],
     agent: usize,
 ) -> Asked
-    ghost t: { Table }
-    requires operands_value { table sizes kinds.now operands.now ≡ t }
-    requires guards_given { GuardsGiven t state.now agent marks.now }
-    ensures { (gs : List ℕ) → GuardsMarked t gs marks.now
+    requires { let t = table sizes kinds.now operands.now in GuardsGiven t state.now agent marks.now }
+    ensures { let t = table sizes kinds.now operands.now in (gs : List ℕ) → GuardsMarked t gs marks.now
         → result ≡ asked_of (table sizes kinds.now operands.now) state.now agent gs }
 {
     let mut keys = 0;

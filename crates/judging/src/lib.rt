@@ -8,14 +8,14 @@ use term::Label;
 
 // What is found of an act: the refusal, or what it does, the word that it sets (0 for a tick) and the stigmergy keys
 // that its guards read.
-#[derive(Drop)]
+#[derive(Clone, Copy)]
 pub enum Judgement {
     Refused(u8),
     Allowed { label: Label, value: u32, keys: u32 },
 }
 
 // What is found of guards: one does not hold; or all do, and these are the stigmergy keys that they read.
-#[derive(Drop)]
+#[derive(Clone, Copy)]
 enum Asked {
     Fails,
     Hold { keys: u32 },

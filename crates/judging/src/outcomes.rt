@@ -33,10 +33,8 @@ fn judge_action(
     keys: u32,
     size: usize,
 ) -> Judgement
-    ghost t: { Table }
-    requires operands_value { table sizes kinds.now operands.now ≡ t }
-    requires doing { Doing t state.now agent (Acting n) }
-    ensures { Ended t state.now agent (Acting n) keys size result }
+    requires { let t = table sizes kinds.now operands.now in Doing t state.now agent (Acting n) }
+    ensures { let t = table sizes kinds.now operands.now in Ended t state.now agent (Acting n) keys size result }
 {
     let q = q_at(operands, n);
     let value = value_of(sizes, kinds, operands, state, agent, agent, q);
@@ -61,10 +59,8 @@ pub fn judge_outcome(
     o: Effect,
     keys: u32,
 ) -> Judgement
-    ghost t: { Table }
-    requires operands_value { table sizes kinds.now operands.now ≡ t }
-    requires doing { Doing t state.now agent o.label }
-    ensures { Ended t state.now agent o.label keys o.size result }
+    requires { let t = table sizes kinds.now operands.now in Doing t state.now agent o.label }
+    ensures { let t = table sizes kinds.now operands.now in Ended t state.now agent o.label keys o.size result }
 {
     let label = o.label;
     let size = o.size;

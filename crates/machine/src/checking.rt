@@ -39,12 +39,10 @@ fn judge_act(
     agent: usize,
     choice: usize,
 ) -> Judged
-    ghost t: { Table }
-    requires operands_value { table sizes kinds.now operands.now ≡ t }
-    requires prepared { Prepared t scratch.now }
-    requires proper { Proper t state.now }
+    requires prepared { let t = table sizes kinds.now operands.now in Prepared t scratch.now }
+    requires proper { let t = table sizes kinds.now operands.now in Proper t state.now }
     requires agent_lt_agents { agent < sizes.agents }
-    ensures { StepJudged t state.now agent choice (own_step t state.now 0 agent choice) result }
+    ensures { let t = table sizes kinds.now operands.now in StepJudged t state.now agent choice (own_step t state.now 0 agent choice) result }
 {
     let found = judge(sizes, kinds, operands, scratch, state, agent, choice as u64);
     match found {
@@ -75,11 +73,9 @@ pub fn judge_step(
     agent: usize,
     number: usize,
 ) -> Judged
-    ghost t: { Table }
-    requires operands_value { table sizes kinds.now operands.now ≡ t }
-    requires prepared { Prepared t scratch.now }
-    requires proper { Proper t state.now }
-    ensures { StepJudged t state.now agent number (step_in t state.now kind agent number) result }
+    requires prepared { let t = table sizes kinds.now operands.now in Prepared t scratch.now }
+    requires proper { let t = table sizes kinds.now operands.now in Proper t state.now }
+    ensures { let t = table sizes kinds.now operands.now in StepJudged t state.now agent number (step_in t state.now kind agent number) result }
 {
     if out_of_range(sizes, kind, agent, number) {
         return Judged::Refused(10);

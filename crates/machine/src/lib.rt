@@ -19,7 +19,7 @@ use term::Label;
 use wellformed::write_loaded;
 
 // What a step or its preview answers: what it counts, or the refusal and its place.
-#[derive(Drop)]
+#[derive(Clone, Copy)]
 pub enum Stepped {
     Done(Tally),
     Refused(u8, usize),
@@ -27,7 +27,7 @@ pub enum Stepped {
 
 // What is found of a step before anything is written: the refusal; or that it is an act, with what it does, the word
 // that it sets and the stigmergy keys that its guards read; or an offer.
-#[derive(Drop)]
+#[derive(Clone, Copy)]
 enum Judged {
     Refused(u8),
     Act { label: Label, value: u32, keys: u32 },
@@ -35,14 +35,14 @@ enum Judged {
 }
 
 // The steps of a schedule that may be run, or the refusal.
-#[derive(Drop)]
+#[derive(Clone, Copy)]
 enum Scheduled {
     Steps(usize),
     Refused(u8),
 }
 
 // How many steps of a run were done and refused, and what they count.
-#[derive(Drop)]
+#[derive(Clone, Copy)]
 pub struct Totals {
     pub done: u32,
     pub refused: u32,
@@ -57,7 +57,7 @@ pub fn taken(tally: Tally) -> usize
 }
 
 // What a run answers: its totals, or the refusal and its place.
-#[derive(Drop)]
+#[derive(Clone, Copy)]
 pub enum Ran {
     Done(Totals),
     Refused(u8, usize),

@@ -50,12 +50,10 @@ fn step_at(
     n: usize,
     i: usize,
 ) -> Stepped
-    ghost t: { Table }
-    requires operands_value { table sizes kinds.now operands.now ≡ t }
-    requires prepared { Prepared t scratch.now }
-    requires proper { Proper t state.old }
+    requires prepared { let t = table sizes kinds.now operands.now in Prepared t scratch.now }
+    requires proper { let t = table sizes kinds.now operands.now in Proper t state.old }
     requires schedule_len { (length schedule.now ≡ 2 + 5 * n) × (n ≡ steps_of schedule.now) × (i < n) }
-    ensures { Steps
+    ensures { let t = table sizes kinds.now operands.now in Steps
         (step_in t state.old (kind_in schedule.now i) (agent_in schedule.now i) (number_in schedule.now i))
         result state.new }
 {
@@ -107,12 +105,10 @@ pub fn run_steps(
     n: usize,
     answers: &mut [u8],
 ) -> Totals
-    ghost t: { Table }
-    requires operands_value { table sizes kinds.now operands.now ≡ t }
-    requires prepared { Prepared t scratch.now }
-    requires proper { Proper t state.old }
+    requires prepared { let t = table sizes kinds.now operands.now in Prepared t scratch.now }
+    requires proper { let t = table sizes kinds.now operands.now in Proper t state.old }
     requires runnable { Runnable schedule.now answers.old n }
-    ensures { Reports (ran t schedule.now n (begun state.old answers.old))
+    ensures { let t = table sizes kinds.now operands.now in Reports (ran t schedule.now n (begun state.old answers.old))
         result state.new answers.new }
 {
     let none = no_tally();

@@ -35,11 +35,9 @@ fn finish(
     number: usize,
     judged: Judged,
 ) -> Stepped
-    ghost t: { Table }
-    requires operands_value { table sizes kinds.now operands.now ≡ t }
-    requires prepared { Prepared t scratch.now }
-    requires finishing { Finishing t state.old agent number judged }
-    ensures { Steps (finished t state.old agent number judged) result state.new }
+    requires prepared { let t = table sizes kinds.now operands.now in Prepared t scratch.now }
+    requires finishing { let t = table sizes kinds.now operands.now in Finishing t state.old agent number judged }
+    ensures { let t = table sizes kinds.now operands.now in Steps (finished t state.old agent number judged) result state.new }
 {
     match judged {
         Judged::Refused(refusal) => Stepped::Refused(refusal, 0),
@@ -66,11 +64,9 @@ pub fn step_in(
     agent: usize,
     number: usize,
 ) -> Stepped
-    ghost t: { Table }
-    requires operands_value { table sizes kinds.now operands.now ≡ t }
-    requires prepared { Prepared t scratch.now }
-    requires proper { Proper t state.old }
-    ensures { Steps (step_in t state.old kind agent number) result state.new }
+    requires prepared { let t = table sizes kinds.now operands.now in Prepared t scratch.now }
+    requires proper { let t = table sizes kinds.now operands.now in Proper t state.old }
+    ensures { let t = table sizes kinds.now operands.now in Steps (step_in t state.old kind agent number) result state.new }
 {
     let judged = judge_step(sizes, kinds, operands, scratch, state, kind, agent, number);
     finish(
@@ -90,12 +86,10 @@ pub fn preview_in(
     number: usize,
     next: &mut [u32],
 ) -> Stepped
-    ghost t: { Table }
-    requires operands_value { table sizes kinds.now operands.now ≡ t }
-    requires prepared { Prepared t scratch.now }
-    requires proper { Proper t state.now }
+    requires prepared { let t = table sizes kinds.now operands.now in Prepared t scratch.now }
+    requires proper { let t = table sizes kinds.now operands.now in Proper t state.now }
     requires state_len { length state.now ≡ length next.old }
-    ensures { Steps (into next.old (step_in t state.now kind agent number)) result next.new }
+    ensures { let t = table sizes kinds.now operands.now in Steps (into next.old (step_in t state.now kind agent number)) result next.new }
 {
     let judged = judge_step(sizes, kinds, operands, scratch, state, kind, agent, number);
     if is_allowed(judged) {

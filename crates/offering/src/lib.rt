@@ -39,10 +39,8 @@ pub fn offer(
     counts: bool,
     confirming: bool,
 ) -> Tally
-    ghost t: { Table }
-    requires operands_value { table sizes kinds.now operands.now ≡ t }
-    requires passing { Passing t state.old agent key }
-    ensures { Passed (offer_tally t state.old agent key counts sizes.agents)
+    requires { let t = table sizes kinds.now operands.now in Passing t state.old agent key }
+    ensures { let t = table sizes kinds.now operands.now in Passed (offer_tally t state.old agent key counts sizes.agents)
         (sent t state.old agent key counts confirming sizes.agents) result state.new }
 {
     let tally = offer_all(

@@ -5,7 +5,7 @@ use accept::Acceptance;
 use wellformed::well_formed;
 
 // What a call answers that reports nothing: load, save, restore, drop.
-#[derive(Drop)]
+#[derive(Clone, Copy)]
 pub enum Answer {
     Done,
     Refused(u8, usize),

@@ -45,13 +45,11 @@ pub fn collect(
     words: &[u32],
     c: u64,
 ) -> Effect
-    ghost t: { Table }
-    requires operands_value { table sizes kinds.now operands.now ≡ t }
-    requires prepared { Prepared t scratch.now }
-    requires whole { Whole t words.now }
-    requires taking { Taking t (residual_term words.now) c }
-    requires walk_marks { WalkMarks t marks.old }
-    ensures { Walked t (derivation_at (process t (residual_term words.now)) c)
+    requires prepared { let t = table sizes kinds.now operands.now in Prepared t scratch.now }
+    requires whole { let t = table sizes kinds.now operands.now in Whole t words.now }
+    requires taking { let t = table sizes kinds.now operands.now in Taking t (residual_term words.now) c }
+    requires walk_marks { let t = table sizes kinds.now operands.now in WalkMarks t marks.old }
+    ensures { let t = table sizes kinds.now operands.now in Walked t (derivation_at (process t (residual_term words.now)) c)
         (limit_of t (residual_term words.now)) marks.old result marks.new }
 {
     let roots = first_root(sizes);
@@ -92,14 +90,12 @@ pub fn rewrite(
     size: usize,
     c: u64,
 ) -> usize
-    ghost t: { Table }
-    requires operands_value { table sizes kinds.now operands.now ≡ t }
-    requires prepared { Prepared t scratch.now }
+    requires prepared { let t = table sizes kinds.now operands.now in Prepared t scratch.now }
     requires size_in_bounds { size ≤ length words.old }
-    requires whole { Whole t (take size words.old) }
-    requires taking { Taking t (residual_term (take size words.old)) c }
-    requires c_in_bounds { length (words_of (derivation_at (process t (residual_term (take size words.old))) c).leaving) ≤ length words.old }
-    ensures { Rewritten (words_of (derivation_at (process t (residual_term (take size words.old))) c).leaving)
+    requires whole { let t = table sizes kinds.now operands.now in Whole t (take size words.old) }
+    requires taking { let t = table sizes kinds.now operands.now in Taking t (residual_term (take size words.old)) c }
+    requires c_in_bounds { let t = table sizes kinds.now operands.now in length (words_of (derivation_at (process t (residual_term (take size words.old))) c).leaving) ≤ length words.old }
+    ensures { let t = table sizes kinds.now operands.now in Rewritten (words_of (derivation_at (process t (residual_term (take size words.old))) c).leaving)
         words.old result words.new }
 {
     let room = words.len();

@@ -12,13 +12,13 @@ use choice::Goal;
 use term::Mode;
 
 // A place among words.
-#[derive(Drop)]
+#[derive(Clone, Copy)]
 pub struct Cursor {
     pub at: usize,
 }
 
 // What stands at a cursor: a word, with the cursor after it; or nothing, at the end.
-#[derive(Drop)]
+#[derive(Clone, Copy)]
 pub enum Read {
     Word { word: u32, next: Cursor },
     End,
@@ -26,7 +26,7 @@ pub enum Read {
 
 // Of the term that begins at a cursor: its counts, the cursor after it, and whether each of its subterms has few
 // derivations.
-#[derive(Drop)]
+#[derive(Clone, Copy)]
 struct Measured {
     counts: Counts,
     next: Cursor,
@@ -34,7 +34,7 @@ struct Measured {
 }
 
 // The derivation that a walk goes to: a choice among those of a mode of the term at a cursor.
-#[derive(Drop)]
+#[derive(Clone, Copy)]
 struct Target {
     from: Cursor,
     mode: Mode,
@@ -44,7 +44,7 @@ struct Target {
 // One step towards a target: a lone tick; a node; an action of a part, around which the words up to it and so many
 // after it stay; or a derivation of a part, of so many words with so many after it, that a tick of the other part
 // joins: the part's words alone stay.
-#[derive(Drop)]
+#[derive(Clone, Copy)]
 enum Step {
     Ticked,
     Leaf {
@@ -63,7 +63,7 @@ enum Step {
 }
 
 // Whether each subterm of a residual has few derivations, and, where it is so, how many the residual has.
-#[derive(Drop)]
+#[derive(Clone, Copy)]
 pub struct Choices {
     pub few: bool,
     pub count: u64,

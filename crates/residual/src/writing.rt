@@ -23,14 +23,12 @@ pub fn place(
     at: usize,
     c: u64,
 ) -> Gap
-    ghost t: { Table }
-    requires operands_value { table sizes kinds.now operands.now ≡ t }
-    requires prepared { Prepared t scratch.now }
+    requires prepared { let t = table sizes kinds.now operands.now in Prepared t scratch.now }
     requires at_in_bounds { at ≤ length words.old }
-    requires whole { Whole t (drop at words.old) }
-    requires taking { Taking t (residual_term (drop at words.old)) c }
-    requires c_in_bounds { length (words_of (derivation_at (process t (residual_term (drop at words.old))) c).leaving) ≤ length words.old }
-    ensures { Placed (words_of (derivation_at (process t (residual_term (drop at words.old))) c).leaving)
+    requires whole { let t = table sizes kinds.now operands.now in Whole t (drop at words.old) }
+    requires taking { let t = table sizes kinds.now operands.now in Taking t (residual_term (drop at words.old)) c }
+    requires c_in_bounds { let t = table sizes kinds.now operands.now in length (words_of (derivation_at (process t (residual_term (drop at words.old))) c).leaving) ≤ length words.old }
+    ensures { let t = table sizes kinds.now operands.now in Placed (words_of (derivation_at (process t (residual_term (drop at words.old))) c).leaving)
         (length words.old) result words.new }
 {
     let roots = first_root(sizes);

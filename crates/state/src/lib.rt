@@ -11,7 +11,7 @@ pub use layout::{
 pub use stores::{add_key, drop_key, put, value_in};
 
 // A store of 16 keys: the environment's, or an agent's attributes or stigmergy entries.
-#[derive(Drop)]
+#[derive(Clone, Copy)]
 pub enum Store {
     Environment,
     Attributes(usize),
@@ -20,7 +20,7 @@ pub enum Store {
 
 // An agent's entry for a stigmergy key: its value, its stamp, which is 0 where there is none, and the agent that wrote
 // it.
-#[derive(Drop)]
+#[derive(Clone, Copy)]
 pub struct Entry {
     pub value: u32,
     pub stamp: u32,
@@ -28,7 +28,7 @@ pub struct Entry {
 }
 
 // By which rule of LAbS's Table 1 an entry is inserted: the key has no entry, an older one, or neither.
-#[derive(Drop)]
+#[derive(Clone, Copy)]
 pub enum Insertion {
     Add,
     Update,

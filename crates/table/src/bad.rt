@@ -13,10 +13,8 @@ use super::{Scan, Sizes};
 // The lowest node with a bad kind or operand, and the number of nodes where there is none: then a key may be wrong only
 // where that is doubtful, since each node has been told what the nodes reach that it names.
 pub fn lowest_bad(sizes: Sizes, kinds: &[u8], operands: &[u8], scratch: &mut [u32]) -> Scan
-    ghost t: { Table }
-    requires operands_value { table sizes kinds.now operands.now ≡ t }
-    requires shaped { Shaped t × (sizes.nodes ≤ length scratch.old) }
-    ensures { Bad t result }
+    requires { let t = table sizes kinds.now operands.now in Shaped t × (sizes.nodes ≤ length scratch.old) }
+    ensures { let t = table sizes kinds.now operands.now in Bad t result }
 {
     let first = first_root(sizes);
     let mut doubtful = false;

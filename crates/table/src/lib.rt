@@ -1,4 +1,6 @@
 // Reading a fleet table: its sizes, kinds and operands, and refusals 1 to 5.
+#![tactic(auto)]
+
 mod bad;
 mod header;
 mod kinds;
@@ -15,7 +17,7 @@ pub use reading::{constant_at, p_at, q_at};
 pub use wrong::lowest_wrong;
 
 // The six sizes of a table.
-#[derive(Drop)]
+#[derive(Clone, Copy)]
 pub struct Sizes {
     pub nodes: usize,
     pub definitions: usize,
@@ -26,14 +28,14 @@ pub struct Sizes {
 }
 
 // What measuring a table gives: its sizes, or a refusal's number and place.
-#[derive(Drop)]
+#[derive(Clone, Copy)]
 pub enum Measured {
     Fine(Sizes),
     Refused(u8, usize),
 }
 
 // What an operand field holds. Nothing fits `Never`.
-#[derive(Drop)]
+#[derive(Clone, Copy)]
 pub enum Field {
     Never,
     Zero,
@@ -49,21 +51,21 @@ pub enum Field {
 }
 
 // What p and q hold.
-#[derive(Drop)]
+#[derive(Clone, Copy)]
 pub struct Fields {
     pub p: Field,
     pub q: Field,
 }
 
 // What the first pass over the nodes finds: the lowest bad one, and whether some key may be wrong.
-#[derive(Drop)]
+#[derive(Clone, Copy)]
 pub struct Scan {
     pub bad: usize,
     pub doubtful: bool,
 }
 
 // What is found of a node: whether its fields fit, whether p and q are nodes, p and q.
-#[derive(Drop)]
+#[derive(Clone, Copy)]
 struct Look {
     fitting: bool,
     left: bool,

@@ -68,10 +68,8 @@ pub fn is_node(field: Field) -> bool
 }
 
 pub fn look_at(sizes: Sizes, kinds: &[u8], operands: &[u8], node: usize) -> Look
-    ghost t: { Table }
-    requires operands_value { table sizes kinds.now operands.now ≡ t }
-    requires shaped { Shaped t × (node < sizes.nodes) }
-    ensures { Looked t node result }
+    requires { let t = table sizes kinds.now operands.now in Shaped t × (node < sizes.nodes) }
+    ensures { let t = table sizes kinds.now operands.now in Looked t node result }
 {
     let fields = fields_here(sizes, node, kinds[node]);
     let left = fields.p;

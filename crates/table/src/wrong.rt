@@ -45,10 +45,8 @@ fn visit(
     node: usize,
     lowest: usize,
 ) -> usize
-    ghost t: { Table }
-    requires operands_value { table sizes kinds.now operands.now ≡ t }
-    requires descends { Descends t words.old node }
-    ensures { Visit t words.new node lowest result }
+    requires { let t = table sizes kinds.now operands.now in Descends t words.old node }
+    ensures { let t = table sizes kinds.now operands.now in Visit t words.new node lowest result }
 {
     let word = words[node];
     let left = has(word, LEFT);
@@ -79,13 +77,11 @@ fn show_starts(sizes: Sizes, kinds: &[u8], scratch: &mut [u32])
 
 // The lowest wrong key node, and the number of nodes where there is none.
 fn descend(sizes: Sizes, kinds: &[u8], operands: &[u8], scratch: &mut [u32]) -> usize
-    ghost t: { Table }
-    requires operands_value { table sizes kinds.now operands.now ≡ t }
-    requires shaped { Shaped t
+    requires { let t = table sizes kinds.now operands.now in Shaped t
         × (sizes.nodes ≤ length scratch.old)
         × ((k : ℕ) → k < sizes.nodes → bad_node (table sizes kinds.now operands.now) k ≡ false)
         × Shown (table sizes kinds.now operands.now) scratch.old sizes.nodes }
-    ensures { result ≡ lowest (wrong_key t) sizes.nodes }
+    ensures { let t = table sizes kinds.now operands.now in result ≡ lowest (wrong_key t) sizes.nodes }
 {
     let mut lowest = sizes.nodes;
     let mut i = sizes.nodes;
@@ -105,13 +101,11 @@ pub fn lowest_wrong(
     scratch: &mut [u32],
     doubtful: bool,
 ) -> usize
-    ghost t: { Table }
-    requires operands_value { table sizes kinds.now operands.now ≡ t }
-    requires shaped { Shaped t
+    requires { let t = table sizes kinds.now operands.now in Shaped t
         × (sizes.nodes ≤ length scratch.old)
         × ((k : ℕ) → k < sizes.nodes → bad_node (table sizes kinds.now operands.now) k ≡ false)
         × (doubtful ≡ false → (k : ℕ) → k < sizes.nodes → wrong_key (table sizes kinds.now operands.now) k ≡ false) }
-    ensures { result ≡ lowest (wrong_key t) sizes.nodes }
+    ensures { let t = table sizes kinds.now operands.now in result ≡ lowest (wrong_key t) sizes.nodes }
 {
     if !doubtful {
         return sizes.nodes;

@@ -1,7 +1,7 @@
 // Processes, derivations, counts, choices, residuals.
 
 // Which derivations of a process are counted: all of them, its actions, or its ticks.
-#[derive(Drop)]
+#[derive(Clone, Copy)]
 pub enum Mode {
     Any,
     Actions,
@@ -9,7 +9,7 @@ pub enum Mode {
 }
 
 // What a derivation does: it ticks, or does the action at a node.
-#[derive(Drop)]
+#[derive(Clone, Copy)]
 pub enum Label {
     Ticking,
     Acting(usize),

@@ -1,4 +1,6 @@
 // Values, the operations and comparisons on them, and what a comparison comes to.
+#![tactic(auto)]
+
 ghost use Rattle.std.specs.Prelude.{◌≡◌, true, false};
 ghost use Rattle.value.specs.Values.{signed_of, in_range, fit, is_zero, floor_rem, arithmetic, operate as operate_of};
 ghost use Rattle.value.specs.Truths.{test_of, compare_values as compare_of};
@@ -6,14 +8,14 @@ ghost use Rattle.value.specs.Truths.{test_of, compare_values as compare_of};
 use basis::kinds;
 
 // A value: absent, or a signed 32-bit number as its two's complement word.
-#[derive(Drop)]
+#[derive(Clone, Copy)]
 pub enum Value {
     Absent,
     Present(u32),
 }
 
 // What a guard comes to: whether it is well defined, and whether it holds.
-#[derive(Drop)]
+#[derive(Clone, Copy)]
 pub struct Truth {
     pub defined: bool,
     pub holds: bool,
