@@ -1,0 +1,7 @@
+-- `table::marks::is_link_root` meets its contract.
+-- Assumes nothing.
+use borrow.Author.Rules.{rules}
+use Rattle.table.proofs.marks.is_link_root.Goals as goal
+
+pub returns : goal.returns
+returns c = rw c.first_root.ensures

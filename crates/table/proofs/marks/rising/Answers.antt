@@ -1,0 +1,7 @@
+-- `table::marks::rising` meets its contract.
+-- Assumes nothing.
+use borrow.Author.Rules.{rules}
+use Rattle.table.proofs.marks.rising.Goals as goal
+
+pub returns : goal.returns
+returns c = rw (c.word_if-left.ensures, c.word_if-right.ensures)

@@ -1,0 +1,7 @@
+-- `value::operate` meets its contract: both values are present, or the answer is absent.
+-- Assumes nothing.
+use borrow.Author.Rules.{rules}
+use Rattle.value.proofs.operate.Goals as goal
+
+pub returns : goal.returns
+returns c = rw (c.in-Present.is, c.in-Present-b.is) c.compute.ensures
