@@ -1,4 +1,6 @@
 // The state's words: where things stand, and how they are read and changed.
+#![tactic(auto)]
+
 mod layout; // layout.rt: where things stand
 mod stores; // stores.rt: values of keys, and changes of them and of sets of keys
 mod entries; // entries.rt: entries of agents, and the clock

@@ -1,4 +1,5 @@
 // Processes, derivations, counts, choices, residuals.
+#![tactic(auto)]
 
 // Which derivations of a process are counted: all of them, its actions, or its ticks.
 #[derive(Clone, Copy)]
