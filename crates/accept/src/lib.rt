@@ -1,5 +1,7 @@
 // Which tables are accepted: how many derivations each node has, refusals 6 and 7, and all refusals of a table in
 // order.
+#![tactic(auto)]
+
 mod calls;
 mod nodes;
 mod sums;
