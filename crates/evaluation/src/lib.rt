@@ -1,4 +1,6 @@
 // Values of expressions, guards and links over the state's words, and the stigmergy keys that they read.
+#![tactic(auto)]
+
 mod guards; // guards.rt: what a guard comes to; links
 mod reading; // reading.rt: the stigmergy keys that a node reads
 mod values; // values.rt: the value of an expression
