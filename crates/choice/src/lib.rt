@@ -1,4 +1,6 @@
 // Choice c of a process node, found by counting: what it does, under which guards, and what it leaves.
+#![tactic(auto)]
+
 pub mod picks; // picks.rt: which part of a sequence or a parallel a choice is of
 pub mod turns; // turns.rt: one step from a node towards its choice
 pub mod writing; // writing.rt: what a node's choice leaves, written between two places

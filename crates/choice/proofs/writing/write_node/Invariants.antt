@@ -1,0 +1,13 @@
+-- `write_node` meets its contract. Assumes nothing.
+use mathlib.Core.Path.{◌≡◌, subst, ◌∙◌}
+use Rattle.table.specs.Tables.{Table, table}
+use Rattle.choice.specs.declared.Turn.{Turn}
+use Rattle.choice.specs.Turns.{chosen_at, ahead, Ended, Onward, Turned}
+use Rattle.choice.proofs.Gaps.{Onto, onto_start, onto_last, onto_end, onto_room, onto_on}
+use Rattle.choice.proofs.writing.write_node.Given as goal
+
+abbrev pub invariant-loop-word : goal.invariant-loop-word
+invariant-loop-word l = Onto (table l.sizes l.kinds l.operands) l.initial.at l.initial.rest l.initial.words l.at l.rest l.words
+
+abbrev pub decreases-loop-word : goal.decreases-loop-word
+decreases-loop-word l = ahead (table l.sizes l.kinds l.operands) l.at
