@@ -31,7 +31,7 @@ use Rattle.steps.specs.Acts.{choices, chosen, acted}
 use Rattle.steps.specs.declared.Tally.{Tally}
 use Rattle.steps.specs.Steps.{Outcome, done, tally_of, after, own_checks, step_of}
 use Rattle.steps.specs.Refusals.{InRange}
-use Rattle.steps.proofs.Steps.{Done, act_able, state_checks_lem, step_in, done_step, step_done}
+use Rattle.steps.proofs.Steps.{Done, act_able, state_checks_lem, step_in_lem, done_step, step_done}
 use Rattle.steps.proofs.Proper.{step_checked}
 use Rattle.steps.proofs.Steps.{propagates as may-propagate, confirms as may-confirm}
 use Rattle.labs.specs.Agents.{Agent, Interface, System}
@@ -167,7 +167,7 @@ module _ (bytes s : List ℕ) (scratch : ℕ) (ready : Ready bytes s scratch) wh
   -- A DONE STEP LEAVES A WELL-FORMED STATE
   kept : (s' : List ℕ) (kind x number : ℕ) (counted : Tally) → step_of bytes s scratch kind x number ≡ done counted s' → Proper t s'
   kept s' kind x number counted e =
-      let f = ap (λ (o : Outcome). o.state) (sym (step_in bytes s scratch kind x number ready.passed) ∙ e) in
+      let f = ap (λ (o : Outcome). o.state) (sym (step_in_lem bytes s scratch kind x number ready.passed) ∙ e) in
       facts_proper t limits s' (subst (ProperFacts t) f (step_checked bytes ready.small s ready.state.small scratch ready.passed kind x number))
 
   exactly : (s' : List ℕ) (kind x number : ℕ) (counted : Tally) →

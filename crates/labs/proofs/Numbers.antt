@@ -42,7 +42,7 @@ fit_is z w = (by (in_range z) refl, back)
     by true e p =
         let i : of_z w32 z ≡ w = cc in
         let l = word_small z e in
-        subst (λ (o : ℕ). (o < 2 ^ 32) × (number o ≡ z)) i (l, number_is (of_z w32 z) l ∙ to_z-of_z (record { sfits = (in_range_lem z).0 e }))
+        subst (λ (o : ℕ). (o < 2 ^ 32) × (number o ≡ z)) i (l, number_is (of_z w32 z) l ∙ to_z-of_z {w = w32} (record { sfits = (in_range_lem z).0 e }))
     by false e p = absurd (no_value p)
 
     back : (w < 2 ^ 32) × (number w ≡ z) → fit z ≡ Present w

@@ -24,7 +24,7 @@ no_entry p q = let z : ◌≡◌ {A = ℕ} 0 1 = cc in omega arith
 one_time : {o : Option Entry} {f g : Entry} → o ≡ some f → o ≡ some g → f.time ≡ g.time
 one_time {o} {f} {g} p q = let e : f ≡ g = cc in ap (λ (h : Entry). h.time) e
 
-pub inserted_unique : {L L' L'' : Stigmergy} {x : ℕ} {e : Entry} {p q : Insertion} → Inserted L x e p L' → Inserted L x e q L'' → (p ≡ q) × (L' ≡ L'')
+pub inserted_unique : {L : Stigmergy} {x : ℕ} {e : Entry} {L' L'' : Stigmergy} {p q : Insertion} → Inserted L x e p L' → Inserted L x e q L'' → (p ≡ q) × (L' ≡ L'')
 inserted_unique (add p) (add q) = (refl, refl)
 inserted_unique (add p) (update q r) = absurd (no_entry p q)
 inserted_unique (add p) (discard q r) = absurd (no_entry p q)

@@ -92,6 +92,7 @@ module _ (t : Table) (was : List ℕ) (x : ℕ) where
       (and_fails (holds t was x x b) (all_hold t was x g) e)
 
   each_holds : (guards : List ℕ) {b : ℕ} → Memᴰ b guards → all_hold t was x guards ≡ true → holds t was x x b ≡ true
+  each_holds [] {b = b} m e = elim m [ ]
   each_holds (b ∷ g) (Memᴰ.head i) e = ap (λ (c : ℕ). holds t was x x c) i ∙ and_left (holds t was x x b) (all_hold t was x g) e
   each_holds (b ∷ g) (Memᴰ.tail m) e = each_holds g m (and_right (holds t was x x b) (all_hold t was x g) e)
 

@@ -1,6 +1,8 @@
 // Load, act, propagate, confirm, step, preview, run, save, restore and drop: definitions in specs/, laws in proofs/. The
 // crate has no functions.
 
+#![tactic(auto)]
+
 use state::Insertion;
 
 // What an offer does to an agent: it takes the entry, by ADD or UPDATE of Table 1; it has a newer one, which it then has
