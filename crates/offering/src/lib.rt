@@ -1,4 +1,6 @@
 // Propagate and confirm: an agent's entry for a key is offered to every other agent.
+#![tactic(auto)]
+
 mod responses; // responses.rt: how an agent responds to an entry, what that writes and what it counts
 mod offers; // offers.rt: whom an offer could touch, and the offer to all
 

@@ -16,7 +16,7 @@ use Rattle.choice.specs.Marking.{WithMark, WalkMarks, Marked}
 use Rattle.choice.proofs.Collecting.{reached_process, only_first, marked_none, marked_guard_lem, marked_join, marked_before, marked_after, marked_same, marked_side}
 use Prim.Native.Nat.{ℕ, ◌<◌}
 use Rattle.choice.proofs.marking.+mark_tick.Goals as goal
-use Rattle.choice.proofs.marking.+mark_tick.Goals.{After-only_tick-once, After-turn_at-turn, In-End, In-On, Joined-side, Joined-turn}
+use Rattle.choice.proofs.marking.+mark_tick.Goals.{After-only_tick-once, After-turn_at-turn, In-End, In-On, Joined-side, Joined-turn, in-Alone, in-Under, in-After, in-End, in-On}
 
 abbrev tb : (t : ℕ) → After-only_tick-once t → Table
 tb t c = table c.args.sizes c.args.kinds.now c.args.operands.now
@@ -71,24 +71,37 @@ abbrev Aside : (t : ℕ) → In-On t → Side → List ℕ → Type 0
 Aside t c s out = Marked ((table c.args.sizes c.args.kinds.now c.args.operands.now)) (side_guards ((table c.args.sizes c.args.kinds.now c.args.operands.now)) s) ((c.args.marks.now)) out
 
 -- it has been collected
-collected : (t : ℕ) → (c : Joined-side t) → Aside t c.before ((c.in-On.side)) c.match-side.marks
+collected : (t : ℕ) → (c : Joined-side t) → Marked (table c.args.sizes c.args.kinds.now c.args.operands.now) (side_guards (table c.args.sizes c.args.kinds.now c.args.operands.now) c.in-On.side) c.args.marks.now c.match-side.marks
 collected t c =
-    ⊎_elim (λ w. marked_side w.1.given.1 w.2 (marked_none ((table c.args.sizes c.args.kinds.now c.args.operands.now)) ((c.args.marks.now)) ((c.requires.walk_marks))))
-    (⊎_elim (λ w. marked_side w.1.given.1 w.7 (marked_guard_lem ((table c.args.sizes c.args.kinds.now c.args.operands.now)) ((c.args.marks.now)) ((c.requires.walk_marks)) _ ((let it : (s : Side) → (c.in-On.side) ≡ s → SideReached ((table c.args.sizes c.args.kinds.now c.args.operands.now)) c.args.goal s =
-    λ s e. subst (SideReached ((table c.args.sizes c.args.kinds.now c.args.operands.now)) c.args.goal) e ((let it : Onward ((table c.args.sizes c.args.kinds.now c.args.operands.now)) c.args.goal c.in-On.next ((c.in-On.side)) c.in-On.kept =
-    (let it : (r : Turn) → c.turn_at-turn.result ≡ r → Turned ((table c.args.sizes c.args.kinds.now c.args.operands.now)) c.args.goal r =
-    λ r e. subst (Turned ((table c.args.sizes c.args.kinds.now c.args.operands.now)) c.args.goal) e c.turn_at-turn.ensures in it) _ c.in-On.is in it)).collects in it) _ w.1.given.1) w.4.ensures))
-    (λ w. marked_side w.1.given.1 w.7 w.4.ensures)) c.match-side.branch
+    let tb = (table c.args.sizes c.args.kinds.now c.args.operands.now) in
+    let on : Onward tb c.args.goal c.in-On.next c.in-On.side c.in-On.kept = subst (Turned tb c.args.goal) c.in-On.is c.turn_at-turn.ensures in
+    elim c.match-side.branch [
+      | in-Alone w ↦ marked_side w.in-Alone.is w.marks-is (marked_none tb c.args.marks.now c.requires.walk_marks)
+      | in-Under w ↦ marked_side w.in-Under.is w.marks-is
+          (marked_guard_lem tb c.args.marks.now c.requires.walk_marks _ (subst (SideReached tb c.args.goal) w.in-Under.is on.collects) w.mark.ensures)
+      | in-After w ↦ marked_side w.in-After.is w.marks-is w.mark_tick.ensures
+    ]
 
 -- the walk is done
 walked : (t : ℕ) → (c : Joined-turn t) → Marked ((table c.args.sizes c.args.kinds.now c.args.operands.now)) (((chosen_at ((table c.args.sizes c.args.kinds.now c.args.operands.now)) c.args.goal).guards)) ((c.args.marks.now)) c.match-turn.marks
 walked t c =
-    let Is : List ℕ → Type 0 = Marked ((table c.args.sizes c.args.kinds.now c.args.operands.now)) (((chosen_at ((table c.args.sizes c.args.kinds.now c.args.operands.now)) c.args.goal).guards)) ((c.args.marks.now)) in
-    ⊎_elim (λ w. subst Is (sym w.2) (marked_same (ended (record { before = record { before = c; match = w.0 }; enum_told = w.1 })) (marked_none ((table c.args.sizes c.args.kinds.now c.args.operands.now)) ((c.args.marks.now)) ((c.requires.walk_marks)))))
-    (λ w.
-    let o : tie.After-turn = record { before = record { before = c; match = w.0 }; turn = w.1 } in
-    let j : tie.At-match2-branch = record { before = record { before = o; known-told = w.2 }; match2 = w.3 } in
-    subst Is (sym w.8) (marked_same (onward o).around.guards (marked_join ((table c.args.sizes c.args.kinds.now c.args.operands.now)) ((c.args.marks.now)) ((c.requires.walk_marks)) _ _ _ _ (collected j) w.5.ensures))) c.match-turn.branch
+    let tb = (table c.args.sizes c.args.kinds.now c.args.operands.now) in
+    let marks = c.requires.walk_marks in
+    let turned = λ (r : Turn) (e : c.turn_at-turn.result ≡ r). subst (Turned tb c.args.goal) e c.turn_at-turn.ensures in
+    elim c.match-turn.branch [
+      | in-End w ↦ subst (Marked tb (chosen_at tb c.args.goal).guards c.args.marks.now) (sym w.marks-is) (marked_same (turned _ w.in-End.is).guards (marked_none tb c.args.marks.now marks))
+      | in-On w ↦
+          let on : Onward tb c.args.goal w.in-On.next w.in-On.side w.in-On.kept = turned _ w.in-On.is in
+          let side : Marked tb (side_guards tb w.in-On.side) c.args.marks.now w.match-side.marks =
+          elim w.match-side.branch [
+            | in-Alone v ↦ marked_side v.in-Alone.is v.marks-is (marked_none tb c.args.marks.now marks)
+            | in-Under v ↦ marked_side v.in-Under.is v.marks-is
+                (marked_guard_lem tb c.args.marks.now marks _ (subst (SideReached tb c.args.goal) v.in-Under.is on.collects) v.mark.ensures)
+            | in-After v ↦ marked_side v.in-After.is v.marks-is v.mark_tick.ensures
+          ] in
+          subst (Marked tb (chosen_at tb c.args.goal).guards c.args.marks.now) (sym w.marks-is)
+          (marked_same on.around.guards (marked_join tb c.args.marks.now marks _ _ _ _ side w.mark_tick-in-On.ensures))
+    ]
 
 pub pair-requires : goal.pair-requires
 pair-requires t c = omega (arith, c.requires.reached.low, c.requires.prepared.counted.words)
@@ -125,12 +138,12 @@ enum_known-side-in-On t c = c.in-After.in-After-own.keys3
 pub mark_tick-requires : goal.mark_tick-requires
 mark_tick-requires t c =
     let e = collects t (goal.at.mark_tick-requires t c).In-On _ c.in-After.is in
-    record { prepared = omega (arith, e.falls, c.decreases); reached = c.requires.prepared; walk_marks = (e.reached, c.requires.walk_marks) }
+    (omega (arith, e.falls, c.decreases), (c.requires.prepared, (e.reached, c.requires.walk_marks)))
 
 pub mark_tick-requires-in-On : goal.mark_tick-requires-in-On
 mark_tick-requires-in-On t c =
     let e = (onward t (goal.at.mark_tick-requires-in-On t c).In-On).nearer in
-    record { prepared = omega (arith, e.falls, c.decreases); reached = c.requires.prepared; walk_marks = (e.reached, (collected t (goal.at.mark_tick-requires-in-On t c).Joined-side).marks) }
+    (omega (arith, e.falls, c.decreases), (c.requires.prepared, (e.reached, (collected t (goal.at.mark_tick-requires-in-On t c).Joined-side).marks)))
 
 pub mark-requires-then-once-2 : goal.mark-requires-then-once-2
 mark-requires-then-once-2 t c = omega (arith, low t (goal.at.mark-requires-then-once-2 t c).After-only_tick-once, (walked t (goal.at.mark-requires-then-once-2 t c).Joined-turn).marks.room)

@@ -13,7 +13,7 @@ use Rattle.choice.proofs.Turning.{ahead_most}
 use Rattle.choice.proofs.Collecting.{marked_none, marked_guard_lem, marked_side}
 use Rattle.choice.proofs.Telling.{Toward, toward_start, toward_on, toward_end}
 use Rattle.choice.proofs.marking.mark_node.Goals as goal
-use Rattle.choice.proofs.marking.mark_node.Goals.{After-kept_words-size, After-turn_at-turn, In-On, Joined-side}
+use Rattle.choice.proofs.marking.mark_node.Goals.{After-kept_words-size, After-turn_at-turn, In-On, Joined-side, in-Alone, in-Under, in-After}
 
 abbrev tb : After-turn_at-turn → Table
 tb c = table c.args.sizes c.args.kinds.now c.args.operands.now
@@ -42,31 +42,22 @@ collected c =
     let t = (table c.args.sizes c.args.kinds.now c.args.operands.now) in
     let l = c.loop-label in
     let marks = l.invariant.marked.marks in
-    ⊎_elim (λ w. marked_side w.1.given.1 w.2 (marked_none t l.marks marks))
-    (⊎_elim (λ w. marked_side w.1.given.1 w.7 (marked_guard_lem t l.marks marks _ ((let it : (s : Side) → (c.in-On.side) ≡ s → SideReached ((table c.args.sizes c.args.kinds.now c.args.operands.now)) c.loop-label.at s =
-    λ s e. subst (SideReached ((table c.args.sizes c.args.kinds.now c.args.operands.now)) c.loop-label.at) e ((let it : Onward ((table c.args.sizes c.args.kinds.now c.args.operands.now)) c.loop-label.at c.in-On.next ((c.in-On.side)) c.in-On.kept =
-    (let it : (r : Turn) → c.turn_at-turn.result ≡ r → Turned ((table c.args.sizes c.args.kinds.now c.args.operands.now)) c.loop-label.at r =
-    λ r e. subst (Turned ((table c.args.sizes c.args.kinds.now c.args.operands.now)) c.loop-label.at) e c.turn_at-turn.ensures in it) _ c.in-On.is in it)).collects in it) _ w.1.given.1) w.4.ensures))
-    (λ w. marked_side w.1.given.1 w.7 w.4.ensures)) c.match-side.branch
+    let on : Onward t l.at c.in-On.next c.in-On.side c.in-On.kept = subst (Turned t l.at) c.in-On.is c.turn_at-turn.ensures in
+    elim c.match-side.branch [
+      | in-Alone w ↦ marked_side w.in-Alone.is w.marks-is (marked_none t l.marks marks)
+      | in-Under w ↦ marked_side w.in-Under.is w.marks-is
+          (marked_guard_lem t l.marks marks _ (subst (SideReached t l.at) w.in-Under.is on.collects) w.mark.ensures)
+      | in-After w ↦ marked_side w.in-After.is w.marks-is w.mark_tick.ensures
+    ]
 
-next : (c : After-kept_words-size) →
-    Toward ((table c.args.sizes c.args.kinds.now c.args.operands.now)) c.args.goal c.args.marks.now c.in-On.next (c.loop-label.size + c.kept_words-size.result) c.match-side.marks
-next c =
-    let l = c.loop-label in
-    toward_on ((table c.args.sizes c.args.kinds.now c.args.operands.now)) c.args.goal c.args.marks.now c.requires.walk_marks l.at l.size l.marks l.invariant _ _ _ _ c.kept_words-size.ensures ((let it : Onward ((table c.args.sizes c.args.kinds.now c.args.operands.now)) c.loop-label.at c.in-On.next ((c.in-On.side)) c.in-On.kept =
-    (let it : (r : Turn) → c.turn_at-turn.result ≡ r → Turned ((table c.args.sizes c.args.kinds.now c.args.operands.now)) c.loop-label.at r =
-    λ r e. subst (Turned ((table c.args.sizes c.args.kinds.now c.args.operands.now)) c.loop-label.at) e c.turn_at-turn.ensures in it) _ c.in-On.is in it)) _ ((let it :
-    Marked ((table c.args.sizes c.args.kinds.now c.args.operands.now)) (side_guards ((table c.args.sizes c.args.kinds.now c.args.operands.now)) ((c.in-On.side))) c.loop-label.marks c.match-side.marks =
-    let c = c in
+next : (c : After-kept_words-size)
+    → Marked (table c.args.sizes c.args.kinds.now c.args.operands.now) (side_guards (table c.args.sizes c.args.kinds.now c.args.operands.now) c.in-On.side) c.loop-label.marks c.match-side.marks
+    → Toward (table c.args.sizes c.args.kinds.now c.args.operands.now) c.args.goal c.args.marks.now c.in-On.next (c.loop-label.size + c.kept_words-size.result) c.match-side.marks
+next c m =
     let t = (table c.args.sizes c.args.kinds.now c.args.operands.now) in
     let l = c.loop-label in
-    let marks = l.invariant.marked.marks in
-    ⊎_elim (λ w. marked_side w.1.given.1 w.2 (marked_none t l.marks marks))
-    (⊎_elim (λ w. marked_side w.1.given.1 w.7 (marked_guard_lem t l.marks marks _ ((let it : (s : Side) → (c.in-On.side) ≡ s → SideReached ((table c.args.sizes c.args.kinds.now c.args.operands.now)) c.loop-label.at s =
-    λ s e. subst (SideReached ((table c.args.sizes c.args.kinds.now c.args.operands.now)) c.loop-label.at) e ((let it : Onward ((table c.args.sizes c.args.kinds.now c.args.operands.now)) c.loop-label.at c.in-On.next ((c.in-On.side)) c.in-On.kept =
-    (let it : (r : Turn) → c.turn_at-turn.result ≡ r → Turned ((table c.args.sizes c.args.kinds.now c.args.operands.now)) c.loop-label.at r =
-    λ r e. subst (Turned ((table c.args.sizes c.args.kinds.now c.args.operands.now)) c.loop-label.at) e c.turn_at-turn.ensures in it) _ c.in-On.is in it)).collects in it) _ w.1.given.1) w.4.ensures))
-    (λ w. marked_side w.1.given.1 w.7 w.4.ensures)) c.match-side.branch in it))
+    toward_on t c.args.goal c.args.marks.now c.requires.walk_marks l.at l.size l.marks l.invariant _ _ _ _ c.kept_words-size.ensures
+    (subst (Turned t l.at) c.in-On.is c.turn_at-turn.ensures) _ m
 
 pub loop-label-init : goal.loop-label-init
 loop-label-init c = toward_start _ _ _ c.requires.walk_marks c.requires.reached
@@ -111,10 +102,10 @@ kept_words-size-requires c = tt
 pub overflow_add-size : goal.overflow_add-size
 overflow_add-size c =
     let l = c.requires.prepared.checked.sound.shaped.limits in
-    record { fits = omega (arith, (next c).bound, limit (goal.at.overflow_add-size c).After-turn_at-turn, l.nodes, l.definitions) }
+    record { fits = omega (arith, (next c (collected (goal.at.overflow_add-size c).Joined-side)).bound, limit (goal.at.overflow_add-size c).After-turn_at-turn, l.nodes, l.definitions) }
 
 pub loop-label-smaller : goal.loop-label-smaller
 loop-label-smaller c = (onward (goal.at.loop-label-smaller c).In-On).nearer.falls
 
 pub loop-label-preserved : goal.loop-label-preserved
-loop-label-preserved c = next c
+loop-label-preserved c = next c (collected (goal.at.loop-label-preserved c).Joined-side)

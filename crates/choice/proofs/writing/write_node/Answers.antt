@@ -14,15 +14,11 @@ step : (c : After-turn_at-turn) (r : Turn) → c.turn_at-turn.result ≡ r → T
 step c r e = subst (Turned (tb c) c.loop-word.at) e c.turn_at-turn.ensures
 
 -- where the walk ends, and where it goes on
-ended : (c : In-End)
-    → let v = c.turn-1.given.0 in Ended (chosen_at ((table c.args.sizes c.args.kinds.now c.args.operands.now)) c.loop-word.at) v.0 v.1.0
-ended c = (let it : (r : Turn) → c.turn_at-turn.result ≡ r → Turned ((table c.args.sizes c.args.kinds.now c.args.operands.now)) c.loop-word.at r =
-    λ r e. subst (Turned ((table c.args.sizes c.args.kinds.now c.args.operands.now)) c.loop-word.at) e c.turn_at-turn.ensures in it) _ c.in-End.is
+ended : (c : In-End) → Ended (chosen_at (table c.args.sizes c.args.kinds.now c.args.operands.now) c.loop-word.at) c.in-End.label c.in-End.word
+ended c = subst (Turned (table c.args.sizes c.args.kinds.now c.args.operands.now) c.loop-word.at) c.in-End.is c.turn_at-turn.ensures
 
-onward : (c : In-On)
-    → let v = c.turn-in-On-1.given.0 in Onward ((table c.args.sizes c.args.kinds.now c.args.operands.now)) c.loop-word.at v.0 v.1.0 v.1.1.0
-onward c = (let it : (r : Turn) → c.turn_at-turn.result ≡ r → Turned ((table c.args.sizes c.args.kinds.now c.args.operands.now)) c.loop-word.at r =
-    λ r e. subst (Turned ((table c.args.sizes c.args.kinds.now c.args.operands.now)) c.loop-word.at) e c.turn_at-turn.ensures in it) _ c.in-On.is
+onward : (c : In-On) → Onward (table c.args.sizes c.args.kinds.now c.args.operands.now) c.loop-word.at c.in-On.next c.in-On.side c.in-On.kept
+onward c = subst (Turned (table c.args.sizes c.args.kinds.now c.args.operands.now) c.loop-word.at) c.in-On.is c.turn_at-turn.ensures
 
 pub loop-word-init : goal.loop-word-init
 loop-word-init c = onto_start _ _ _ _ c.requires.room
