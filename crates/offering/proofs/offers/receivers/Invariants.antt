@@ -9,7 +9,7 @@ use Rattle.offering.proofs.Turns.{set_more}
 use Rattle.offering.proofs.offers.receivers.Given as goal
 
 abbrev pub invariant-loop-other : goal.invariant-loop-other
-invariant-loop-other l = (l.other ≤ l.agents) × (l.found ≡ touched l.state l.agent l.key l.counts l.confirming l.other)
+invariant-loop-other l = (l.other ≤ l.agents) × (l.touched ≡ touched l.state l.agent l.key l.counts l.confirming l.other)
 
 abbrev pub decreases-loop-other : goal.decreases-loop-other
 decreases-loop-other l = l.agents - l.other
