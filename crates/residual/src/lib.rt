@@ -1,4 +1,6 @@
 // A residual's words: whole terms, counts, choices, and what a choice does and leaves.
+#![tactic(auto)]
+
 pub mod reading; // reading.rt: reading words from the front; whole terms
 mod counting; // counting.rt: the counts of a term; refusal 12
 mod steps; // steps.rt: one step from a residual towards its choice
