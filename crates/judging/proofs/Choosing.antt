@@ -11,7 +11,7 @@ use lib.Seq.{take-take}
 use borrow.Author.Tests.{eqb-true, not-false}
 use Rattle.basis.proofs.Tests.{and_left, and_right, not_and}
 use Rattle.table.specs.Tables.{Table, first_root}
-use Rattle.term.specs.Terms.{Term, words, term_of}
+use Rattle.term.specs.Terms.{Term, term_of}
 use Rattle.term.specs.Processes.{Derivation, all_few, derivation_at, process}
 use Rattle.term.specs.Accepted.{Labelled}
 use Rattle.term.proofs.Inside.{Inside}

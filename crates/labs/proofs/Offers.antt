@@ -26,7 +26,7 @@ use Rattle.state.proofs.Places.{Place, KeySet, Zc, Zp, Clock, Mark, Word, Waits,
 use Rattle.state.proofs.Frames.{word_at, SameAt, put_entry_length, drop_length, drop_other, value_same}
 use Rattle.steps.specs.declared.Response.{Response}
 use Rattle.steps.specs.declared.Response.TheVariants.{Takes, Propagates, Ignores}
-use Rattle.steps.specs.Offers.{take_entry, responded, linked, inserts, response, offer, offered, offer_tally, sent}
+use Rattle.steps.specs.Offers.{take_entry, responded, linked, inserts, offer, offered, offer_tally, sent}
 use Rattle.steps.proofs.Offers.{takes, holds_newer, response_by_lem, not_taken, offer_length, offered_length, offered_other, offered_turn}
 use Rattle.labs.specs.Agents.{⟨◌⸴◌⸴◌⸴◌⸴◌⟩, Agent, Entry, System, ◌⟦◌≔◌⟧, ◌∪｛◌｝, ◌∖｛◌｝, Inserted}
 use Rattle.labs.specs.Systems.{Kind, put, qry, Message, message, Sends, PROPAGATE, CONFIRM, Older, Newer, Linked, Receives, PUT, QRY₁, QRY₂, STAY, Passed}

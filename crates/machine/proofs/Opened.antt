@@ -23,7 +23,7 @@ use Rattle.machine.specs.declared.Stepped.{Stepped}
 use Rattle.machine.specs.declared.Stepped.TheVariants.{Refused as StepRefused}
 use Rattle.machine.specs.declared.Totals.{Totals}
 use Rattle.machine.specs.declared.Ran.TheVariants.{Done as RunDone, Refused as RunRefused}
-use Rattle.machine.specs.Answers.{totals, Steps, Reports, Runs}
+use Rattle.machine.specs.Answers.{Steps, Reports, Runs}
 use Rattle.machine.specs.Stepping.{into}
 use Rattle.machine.proofs.Outcomes.{steps_as, steps_refused, into_outcome}
 

@@ -3,14 +3,14 @@
 use Prim.Native.Nat.{ℕ, ◌+◌, ◌*◌, ◌<◌, ◌≤◌}
 use mathlib.Core.Bool.{Bool, true, false, not, ◌||◌}
 use mathlib.Core.Logic.{inr, ◌↔◌, ⊎_elim}
-use mathlib.Core.Path.{◌≡◌, refl, ap}
+use mathlib.Core.Path.{◌≡◌, ap}
 use mathlib.Core.List.{List}
 use native.Mathlib.Omega.{arith}
 use lib.Dec.{ltb, leb, eqb}
 use lib.ListN.{length}
 use borrow.Author.Tests.{leb-false, lt-leb, eqb-true, not-false}
 use Rattle.basis.proofs.Tests.{not_both, is_false, lt_or_le}
-use Rattle.table.specs.Checks.{passes, refuse_if, first_of}
+use Rattle.table.specs.Checks.{refuse_if, first_of}
 use Rattle.table.specs.Conditions.{◌when◌, Comes}
 use Rattle.table.specs.Tables.{Table, sizes_of, within_limits, table_of, kind_at}
 use Rattle.table.specs.Nodes.{is_process, bad_node}
