@@ -1,4 +1,6 @@
 // An act is judged before anything is written: refusals 11 to 17.
+#![tactic(auto)]
+
 mod acts; // acts.rt: 11 to 13, and the order of all
 mod guards; // guards.rt: 14
 mod outcomes; // outcomes.rt: 15 to 17

@@ -1,4 +1,6 @@
 // Whether a state's words are well formed for a table, and the words that load writes.
+#![tactic(auto)]
+
 mod agents; // agents.rt: an agent's block, and all of them
 mod entries; // entries.rt: entries of an agent, and its pending keys
 mod loading; // loading.rt: the words that load writes
