@@ -1,4 +1,6 @@
 // What calls on a state begin with, refusals 1 to 9: a table that is accepted, and a state of it that is well formed.
+#![tactic(auto)]
+
 ghost use Rattle.opening.specs.Opening.{Opens};
 
 use accept::Acceptance;
