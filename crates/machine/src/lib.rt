@@ -1,4 +1,6 @@
 // Load, step, preview and run, for any bytes as table, state and schedule.
+#![tactic(auto)]
+
 mod checking; // checking.rt: refusals 10 to 18
 mod stepping; // stepping.rt: a step, or its preview, of an accepted table and a well-formed state
 mod running; // running.rt: the steps of a schedule

@@ -1,4 +1,6 @@
 // Points to come back to, for any bytes: a lent shelf holds eight states under names.
+#![tactic(auto)]
+
 mod forming; // forming.rt: 9, of a shelf
 mod keeping; // keeping.rt: refusals 21 and 22, and what is then written
 mod places; // places.rt: names and places
