@@ -1,5 +1,5 @@
 /* The proved LAbS rehearsal machine, for C and C++ on x86-64 Linux: target/staticlib/librehearsal.a, which
- * `rt staticlib rehearsal` writes. docs/FORMATS.md says what tables, schedules, states, shelves and steps are;
+ * `./rehearse` writes. docs/FORMATS.md says what tables, schedules, states, shelves and steps are;
  * examples/rehearse.c is a whole program.
  *
  * Slices. A slice is a pointer and a count of elements. A caller owes for each that the pointer is aligned, not null

@@ -1,9 +1,9 @@
-//! Functions as the compiler lowers them, in the form that `rt mir` prints: for each the functions that it calls, the
-//! arrays that it keeps, and whether it writes what is lent to it.
+//! Functions as the compiler lowers them, in the form that a built library of the toolchain keeps of itself, its file
+//! mir.json: for each the functions that it calls, the arrays that it keeps, and whether it writes what is lent to it.
 
 use std::collections::{BTreeMap, BTreeSet};
+use std::fs;
 use std::path::Path;
-use std::process::Command;
 
 /// What a function's lowered form says of it.
 #[derive(Clone, Debug, Default, PartialEq, Eq)]
@@ -23,17 +23,21 @@ pub struct Function {
 /// By their names: crate, module, function.
 pub type Functions = BTreeMap<String, Function>;
 
-/// The functions of a crate of a repository, with those that they call in its dependencies.
-pub fn functions(repository: &Path, name: &str) -> Functions {
-    let mut command = Command::new("rt");
-    command.args(["mir", name]).current_dir(repository);
-    let output = command.output().expect("rt runs");
-    let printed = String::from_utf8_lossy(&output.stdout);
-    let program = printed.lines().find(|line| line.starts_with("program "));
-    match program {
-        Some(program) if output.status.success() => lowered(program),
-        _ => panic!("rt mir {name}: {}", String::from_utf8_lossy(&output.stderr)),
+/// The functions of the built libraries of a repository.
+pub fn functions(repository: &Path) -> Functions {
+    let crates = fs::read_dir(repository.join("crates")).expect("crates");
+    let mut all = Functions::new();
+    for folder in crates {
+        let folder = folder.expect("a folder").path();
+        let name = folder.file_name().unwrap().to_str().expect("a name");
+        let file = folder.join(format!("out/rlib/{name}.rlib/toolchain/mir.json"));
+        // A program and a static library have none.
+        if file.exists() {
+            let text = fs::read_to_string(file).expect("a built library");
+            all.extend(read(&text).parts().1.iter().map(function));
+        }
     }
+    all
 }
 
 /// The functions that are run where these are: they and all that they call.
@@ -50,134 +54,162 @@ pub fn reached<'f>(functions: &'f Functions, from: &[&'f str]) -> BTreeSet<&'f s
     all
 }
 
-/// A printed term: a word, or terms in parentheses of which the first says what it is.
-enum Printed<'p> {
-    Word(&'p str),
-    Terms(Vec<Printed<'p>>),
+/// A value of JSON: a word, which a number too is here; a list; or fields by their names.
+enum Json<'j> {
+    Word(&'j str),
+    List(Vec<Json<'j>>),
+    Fields(Vec<(&'j str, Json<'j>)>),
 }
 
-use Printed::{Terms, Word};
+use Json::{Fields, List, Word};
 
-/// The terms of a text, one after another.
-fn read(text: &str) -> Vec<Printed<'_>> {
-    let mut open = vec![Vec::new()];
-    let mut rest = text.trim_start();
-    while let Some(first) = rest.chars().next() {
-        let ends = |c: char| c == '(' || c == ')' || c.is_whitespace();
-        let length = match first {
-            '(' | ')' => 1,
-            '"' => 2 + rest[1..].find('"').expect("the end of a text"),
-            _ => rest.find(ends).unwrap_or(rest.len()),
-        };
-        let (word, after) = rest.split_at(length);
-        rest = after.trim_start();
-        let term = match word {
-            "(" => {
-                open.push(Vec::new());
-                continue;
-            }
-            ")" => Terms(open.pop().expect("an open parenthesis")),
-            word => Word(word.trim_matches('"')),
-        };
-        open.last_mut().expect("an open parenthesis").push(term);
+/// What is left of a text that is read, with no blank before it.
+struct Rest<'j>(&'j str);
+
+impl<'j> Rest<'j> {
+    fn take(&mut self, length: usize) -> &'j str {
+        let (taken, rest) = self.0.split_at(length);
+        self.0 = rest.trim_start();
+        taken
     }
-    assert_eq!(open.len(), 1, "parentheses that do not close");
-    open.remove(0)
+
+    /// Whether this stands next, which is then taken.
+    fn next(&mut self, mark: char) -> bool {
+        let found = self.0.starts_with(mark);
+        if found {
+            self.take(mark.len_utf8());
+        }
+        found
+    }
+
+    fn word(&mut self) -> &'j str {
+        if self.0.starts_with('"') {
+            let end = 2 + self.0[1..].find('"').expect("the end of a text");
+            let word = self.take(end).trim_matches('"');
+            assert!(!word.contains('\\'), "a text with an escape: {word}");
+            return word;
+        }
+        let ends = |c: char| ",:[]{}".contains(c) || c.is_whitespace();
+        let end = self.0.find(ends).unwrap_or(self.0.len());
+        assert!(end > 0, "a word");
+        self.take(end)
+    }
+
+    /// What stands up to this mark, with commas between.
+    fn until<T>(&mut self, mark: char, one: impl Fn(&mut Self) -> T) -> Vec<T> {
+        let mut all = Vec::new();
+        while !self.next(mark) {
+            assert!(all.is_empty() || self.next(','), "a comma");
+            all.push(one(self));
+        }
+        all
+    }
+
+    fn value(&mut self) -> Json<'j> {
+        if self.next('[') {
+            List(self.until(']', Self::value))
+        } else if self.next('{') {
+            Fields(self.until('}', |rest| {
+                let name = rest.word();
+                assert!(rest.next(':'), "a colon after {name}");
+                (name, rest.value())
+            }))
+        } else {
+            Word(self.word())
+        }
+    }
 }
 
-impl<'p> Printed<'p> {
-    /// Its name and what follows that.
-    fn parts(&self) -> (&'p str, &[Printed<'p>]) {
+fn read(text: &str) -> Json<'_> {
+    let mut rest = Rest(text.trim_start());
+    let value = rest.value();
+    assert_eq!(rest.0, "", "what follows the value");
+    value
+}
+
+impl<'j> Json<'j> {
+    /// Its name and what is said under that: of a single field its name and the list or the one value that it has; of
+    /// a list, which has no name, its items.
+    fn parts(&self) -> (&'j str, &[Json<'j>]) {
         match self {
             Word(word) => (word, &[]),
-            Terms(terms) => (terms[0].parts().0, &terms[1..]),
+            List(items) => ("", items),
+            Fields(fields) => match &fields[..] {
+                [(name, List(items))] => (name, items),
+                [(name, one)] => (name, std::slice::from_ref(one)),
+                _ => panic!("{} fields, and not one", fields.len()),
+            },
         }
     }
 
-    fn name(&self) -> &'p str {
+    fn name(&self) -> &'j str {
         self.parts().0
     }
 
-    fn items(&self) -> Vec<&Printed<'p>> {
-        let (mut items, mut list) = (Vec::new(), self);
-        loop {
-            match list.parts() {
-                ("lcons", [item, rest]) => {
-                    items.push(item);
-                    list = rest;
-                }
-                ("lnil", []) => return items,
-                (other, _) => panic!("a list of an unknown form: {other}"),
-            }
-        }
+    fn field(&self, wanted: &str) -> &Json<'j> {
+        let Fields(fields) = self else {
+            panic!("no fields, and so no {wanted}");
+        };
+        let found = fields.iter().find(|(name, _)| *name == wanted);
+        &found.unwrap_or_else(|| panic!("no field {wanted}")).1
     }
 
-    /// A name and what is said of it.
-    fn pair(&self) -> (&'p str, &Printed<'p>) {
-        let ("pair", [name, of]) = self.parts() else {
-            panic!("no pair: {}", self.name());
-        };
-        (name.name(), of)
+    fn number(&self) -> usize {
+        self.name().parse().expect("a number")
     }
 }
 
-/// The declared types that a function names, by their names.
-type Types<'t, 'p> = BTreeMap<&'p str, &'t Printed<'p>>;
+/// The declared types that a function names, by their names: how each is made.
+type Types<'t, 'j> = BTreeMap<&'j str, &'t Json<'j>>;
 
 /// The arrays that a value of a type holds.
-fn arrays_of(ty: &Printed, types: &Types) -> Vec<String> {
+fn arrays_of(ty: &Json, types: &Types) -> Vec<String> {
+    let all = |held: &[Json]| held.iter().flat_map(|ty| arrays_of(ty, types)).collect();
     match ty.parts() {
-        ("tyInt" | "tyBool" | "tyFloat" | "tyPtr" | "tyRef" | "tyUnit" | "tnil" | "ttnil", _) => {
-            Vec::new()
-        }
-        ("tyArray", _) => vec![shown(ty)],
-        ("tyStruct" | "tyEnum", [_, parts]) | ("fields" | "variants", [parts]) => {
-            arrays_of(parts, types)
-        }
-        ("tcons" | "ttcons", [first, rest]) => {
-            [arrays_of(first, types), arrays_of(rest, types)].concat()
-        }
-        ("tyNamed", [named]) => {
-            let name = named.pair().0;
-            let declared = types.get(name);
-            arrays_of(declared.expect("a declared type"), types)
+        ("Int" | "Bool" | "Float" | "Ptr" | "Ref" | "Unit", _) => Vec::new(),
+        ("Array", _) => vec![shown(ty)],
+        // How a type is made, the fields of a variant, or how a slice is.
+        ("Fields" | "Variants" | "", held) => all(held),
+        ("Struct", [_, fields]) => arrays_of(fields, types),
+        ("Named", [named, _]) => {
+            let made = types.get(named.field("name").name());
+            arrays_of(made.expect("a declared type"), types)
         }
         (other, _) => panic!("a type of an unknown form: {other}"),
     }
 }
 
 /// Whether a type is a reference through which is written, or a slice, which holds one.
-fn is_mutable(ty: &Printed) -> bool {
+fn is_mutable(ty: &Json) -> bool {
     match ty.parts() {
-        ("tyRef", [_, mutability, _]) => mutability.name() == "mut",
-        ("tyStruct", [_, parts]) => is_mutable(parts),
-        ("tcons", [first, rest]) => is_mutable(first) || is_mutable(rest),
+        ("Ref", [_, mutability, _]) => mutability.name() == "Mut",
+        ("Struct", [_, fields]) => fields.parts().1.iter().any(is_mutable),
         _ => false,
     }
 }
 
 /// A type as the source writes it, as far as an array's elements need.
-fn shown(ty: &Printed) -> String {
+fn shown(ty: &Json) -> String {
     match ty.parts() {
-        ("tyArray", [element, length]) => {
-            let ("lenLit", [length]) = length.parts() else {
+        ("Array", [element, length]) => {
+            let ("Lit", [length]) = length.parts() else {
                 panic!("a length of an unknown form: {}", length.name());
             };
-            format!("[{}; {}]", shown(element), length.name())
+            format!("[{}; {}]", shown(element), length.number())
         }
-        ("tyInt", [bits]) => format!("u{}", bits.name()),
-        ("tyBool", []) => "bool".to_string(),
-        ("tyNamed", [named]) => named.pair().0.to_string(),
+        ("Int", [bits]) => format!("u{}", bits.number()),
+        ("Bool", []) => "bool".to_string(),
+        ("Named", [named, _]) => named.field("name").name().to_string(),
         (other, _) => other.to_string(),
     }
 }
 
 /// Whether a value is made of constants alone. (An operation's is no array.)
-fn is_constant(value: &Printed) -> bool {
-    let constant = |operand: &Printed| operand.name() != "copy";
+fn is_constant(value: &Json) -> bool {
+    let constant = |operand: &Json| operand.name() != "Copy";
     match value.parts() {
-        ("rvOpd", [operand]) | ("repeat", [operand, _]) => constant(operand),
-        ("aggregate", [operands]) => operands.items().into_iter().all(constant),
+        ("Opd", [operand]) | ("Repeat", [operand, _]) => constant(operand),
+        ("Aggregate", operands) => operands.iter().all(constant),
         _ => false,
     }
 }
@@ -189,18 +221,12 @@ struct Lowered {
 }
 
 impl Lowered {
-    fn statement(&mut self, statement: &Printed) {
+    /// A body has each statement before those that it is made of, so all of them stand in one list.
+    fn statement(&mut self, statement: &Json) {
         match statement.parts() {
-            ("skip" | "return" | "noDefault", []) | ("exit", [_]) => {}
-            ("block" | "loop" | "default", [inner]) | ("switch", [_, inner]) => {
-                self.statement(inner);
-            }
-            ("seq", [first, second]) | ("if" | "arm", [_, first, second]) => {
-                self.statement(first);
-                self.statement(second);
-            }
-            ("assign", [place, value]) => self.store(place, is_constant(value)),
-            ("call", [callee, _, place]) => {
+            ("Seq" | "Block" | "Loop" | "If" | "Switch" | "Exit" | "Skip" | "Return", _) => {}
+            ("Assign", [place, value]) => self.store(place, is_constant(value)),
+            ("Call", [callee, _, place]) => {
                 self.call(callee);
                 self.store(place, false);
             }
@@ -208,46 +234,38 @@ impl Lowered {
         }
     }
 
-    fn call(&mut self, callee: &Printed) {
-        let ("direct", [function]) = callee.parts() else {
-            panic!("a call of an unknown form: {}", callee.name());
-        };
-        let ("fnRef", [name]) = function.parts() else {
-            panic!("a callee of an unknown form: {}", function.name());
+    fn call(&mut self, callee: &Json) {
+        let ("Fn", [name, _]) = callee.parts() else {
+            panic!("a callee of an unknown form: {}", callee.name());
         };
         self.function.calls.insert(name.name().to_string());
     }
 
-    fn store(&mut self, place: &Printed, constant: bool) {
-        let ("place", [local, steps]) = place.parts() else {
-            panic!("a place of an unknown form: {}", place.name());
-        };
-        let local: usize = local.name().parse().expect("a local's number");
-        let behind = steps.items().iter().any(|step| step.name() == "deref");
+    fn store(&mut self, place: &Json, constant: bool) {
+        let local = place.field("local").number();
+        let steps = place.field("steps").parts().1;
+        let behind = steps.iter().any(|step| step.name() == "Deref");
         self.function.writes |= behind || self.holding[local] && !constant;
     }
 }
 
-/// A definition is a name, an item and, where the function names declared types, these.
-fn function(definition: &Printed) -> (String, Function) {
-    let ("fn-def", [name, item, declared @ ..]) = definition.parts() else {
-        panic!("a definition of an unknown form: {}", definition.name());
+/// A definition is a name and what is said of the function.
+fn function(definition: &Json) -> (String, Function) {
+    let ("", [name, said]) = definition.parts() else {
+        panic!("a definition of an unknown form");
     };
-    let ("fnItem", [_, _, parameters, locals, body]) = item.parts() else {
-        panic!("an item of an unknown form: {}", item.name());
-    };
-    let parameters: usize = parameters.name().parse().expect("a count");
-    let declared = declared.iter().flat_map(Printed::items);
-    let types: Types = declared.map(Printed::pair).collect();
+    let parameters = said.field("params").number();
+    let declared = said.field("types").parts().1.iter();
+    let types: Types = declared
+        .map(|ty| (ty.field("name").name(), ty.field("shape")))
+        .collect();
     let mut lowered = Lowered {
         holding: Vec::new(),
         function: Function::default(),
     };
     // The result is local 0, and the parameters follow.
-    for (number, local) in locals.items().into_iter().enumerate() {
-        let ("local", [ty, _]) = local.parts() else {
-            panic!("a local of an unknown form: {}", local.name());
-        };
+    for (number, local) in said.field("locals").parts().1.iter().enumerate() {
+        let ty = local.field("ty");
         let parameter = (1..=parameters).contains(&number);
         lowered.function.lent += usize::from(parameter && is_mutable(ty));
         let arrays = arrays_of(ty, &types);
@@ -255,12 +273,8 @@ fn function(definition: &Printed) -> (String, Function) {
         lowered.function.arrays.extend(arrays);
     }
     lowered.function.arrays.sort();
-    lowered.statement(body);
+    for statement in said.field("body").parts().1 {
+        lowered.statement(statement);
+    }
     (name.name().to_string(), lowered.function)
-}
-
-/// The functions of a printed program.
-fn lowered(program: &str) -> Functions {
-    let terms = read(program);
-    terms[1].items().into_iter().map(function).collect()
 }

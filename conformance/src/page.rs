@@ -1,11 +1,19 @@
 //! Documents of the repository, read for what tests hold: tables, fenced blocks, commands.
 
-use std::fs;
 use std::path::{Path, PathBuf};
+use std::{env, fs, process};
 
 /// The repository's folder.
 pub fn root() -> PathBuf {
     Path::new(env!("CARGO_MANIFEST_DIR")).join("..")
+}
+
+/// An empty folder outside the repository, in which rt would take files of a test for its own: who makes it removes it.
+pub fn apart(name: &str) -> PathBuf {
+    let folder = env::temp_dir().join(format!("conformance_{}_{name}", process::id()));
+    let _ = fs::remove_dir_all(&folder);
+    fs::create_dir_all(&folder).expect("a folder");
+    folder
 }
 
 /// The text of a file of the repository.

@@ -3,11 +3,11 @@
 
 use std::collections::{BTreeMap, BTreeSet};
 use std::fs;
-use std::path::Path;
+use std::process::Command;
 use std::sync::LazyLock;
 
 use conformance::mir::{functions, reached, Function, Functions};
-use conformance::page::{root, rows, text};
+use conformance::page::{apart, root, rows, text};
 
 /// The calls that do acts.
 const CALLS: [&str; 3] = [
@@ -113,7 +113,7 @@ fn compare_writers(all: &Functions, name: &str, listed: &Listed, lines: &mut Vec
 }
 
 /// The library's functions.
-static LIBRARY: LazyLock<Functions> = LazyLock::new(|| functions(&root(), "rehearsal"));
+static LIBRARY: LazyLock<Functions> = LazyLock::new(|| functions(&root()));
 
 #[test]
 fn an_act_keeps_no_residual_in_an_array() {
@@ -149,14 +149,21 @@ fn an_act_is_lent_nothing_to_write_but_the_state() {
 }
 
 /// Functions that keep words in many ways, beside some that keep none.
-const SOURCE: &str = "
+const SOURCE: &str = "// Functions that keep words.
+#![tactic(auto)]
+
+ghost use Rattle.std.specs.Prelude.{◌<◌, ◌≤◌, length};
+
+#[derive(Clone, Copy)]
 pub struct Spare {
     words: [u32; 63],
     length: usize,
 }
 
+#[derive(Clone, Copy)]
 pub struct Marked(u32, Spare);
 
+#[derive(Clone, Copy)]
 pub enum Kept {
     Nothing,
     Spare(Spare),
@@ -168,7 +175,9 @@ impl Spare {
     }
 }
 
-fn copy(from: &[u32], to: &mut [u32]) {
+fn copy(from: &[u32], to: &mut [u32])
+    requires { (63 ≤ length from.now) × (63 ≤ length to.old) }
+{
     let mut i = 0;
     while i < 63 {
         to[i] = from[i];
@@ -176,21 +185,27 @@ fn copy(from: &[u32], to: &mut [u32]) {
     }
 }
 
-pub fn leave(state: &mut [u32]) {
+pub fn leave(state: &mut [u32])
+    requires { 63 ≤ length state.old }
+{
     let mut spare = [0u32; 63];
     copy(state, &mut spare);
     state[0] = spare[62];
 }
 
-pub fn marks(n: usize) -> u32 {
+pub fn marks(n: usize) -> u32
+    requires { n < 128 }
+{
     let marks = [0u32; 128];
     marks[n]
 }
 
-pub fn two(n: usize) -> u32 {
+pub fn two(n: usize) -> u32
+    requires { n < 128 }
+{
     let marks = [0u32; 128];
     let spare = [1u32; 128];
-    marks[n] + spare[n]
+    marks[n] | spare[n]
 }
 
 pub fn repeated(word: u32) -> u32 {
@@ -229,7 +244,10 @@ pub fn passed_on(word: u32) -> u32 {
 }
 
 pub fn in_a_struct(length: usize) -> usize {
-    let spare = Spare { words: [0; 63], length };
+    let spare = Spare {
+        words: [0; 63],
+        length,
+    };
     spare.length
 }
 
@@ -244,21 +262,46 @@ pub fn in_an_enum(kept: Kept) -> bool {
     }
 }
 
-pub fn act(state: &mut [u32]) {
+pub fn act(state: &mut [u32])
+    requires { 63 ≤ length state.old }
+{
     let word = state[1];
     leave(state);
     state[1] = word;
 }
 ";
 
-/// These functions, lowered from a repository of their own; nothing proves them.
+/// What the proof of its loop needs.
+const COPY: &str = "use Rattle.std.proofs.Common.{◌-◌, ◌≡◌, ◌≤◌, length}
+use Rattle.kept.proofs.copy.Given as goal
+
+abbrev pub invariant-loop-i : goal.invariant-loop-i
+invariant-loop-i l = (l.i ≤ 63) × (length l.to ≡ length l.initial.to)
+
+abbrev pub decreases-loop-i : goal.decreases-loop-i
+decreases-loop-i l = 63 - l.i
+";
+
+/// These functions, proved and built in a repository of their own.
 static KEPT: LazyLock<Functions> = LazyLock::new(|| {
-    let folder = Path::new(env!("CARGO_TARGET_TMPDIR")).join("arrays");
-    let source = folder.join("crates/kept/src");
-    fs::create_dir_all(&source).expect("a folder");
-    fs::write(folder.join("crates.txt"), "kept:\n").expect("a file");
-    fs::write(source.join("lib.rt"), SOURCE).expect("a file");
-    functions(&folder, "kept")
+    let folder = apart("arrays");
+    let kept = folder.join("crates/kept");
+    let files = [
+        (folder.join("crates.txt"), "kept:\n"),
+        (kept.join("src/lib.rt"), SOURCE),
+        (kept.join("proofs/copy/Invariants.antt"), COPY),
+    ];
+    for (file, text) in files {
+        fs::create_dir_all(file.parent().unwrap()).expect("a folder");
+        fs::write(file, text).expect("a file");
+    }
+    let output = Command::new("rt").arg("lib").current_dir(&kept).output();
+    let output = output.expect("rt runs");
+    let said = String::from_utf8_lossy(&output.stdout);
+    assert!(output.status.success(), "rt lib: {said}");
+    let found = functions(&folder);
+    let _ = fs::remove_dir_all(&folder);
+    found
 });
 
 /// What the check is made of finds all of them, and tells apart whether they are made of constants.

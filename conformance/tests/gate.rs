@@ -19,10 +19,17 @@ case $asked in
     printf 'rt: basis proved\n\n%s' "${SAYS-"7 passed, 0 failed"}"
     exit "${CI-0}"
     ;;
-"rt staticlib "*) exit "${LIBRARY-0}" ;;
+"rt lib rehearsal_c") exit "${LIBRARY-0}" ;;
 "cargo test conformance") exit "${CONFORMANCE-0}" ;;
 esac
 "#;
+
+/// What rt leaves, and where the gate puts it.
+const BUILT: [&str; 2] = [
+    "crates/rehearsal_c/out/librehearsal_c.a",
+    "crates/labs_show/out/labs_show",
+];
+const PUT: [&str; 2] = ["target/staticlib/librehearsal.a", "target/bin/labs_show"];
 
 /// Where a command of this machine is.
 fn found(command: &str) -> String {
@@ -40,6 +47,11 @@ fn repository(without: &str) -> PathBuf {
     for part in [".ci", "reference", "conformance", "commands"] {
         fs::create_dir_all(folder.join(part)).unwrap();
     }
+    for built in BUILT {
+        let file = folder.join(built);
+        fs::create_dir_all(file.parent().unwrap()).unwrap();
+        fs::write(file, built).unwrap();
+    }
     fs::copy(root().join(".ci/run"), folder.join(".ci/run")).unwrap();
     let told = TOLD.replace("BASH", &found("bash"));
     for command in COMMANDS.into_iter().filter(|command| *command != without) {
@@ -47,7 +59,9 @@ fn repository(without: &str) -> PathBuf {
         fs::write(&file, &told).unwrap();
         fs::set_permissions(&file, fs::Permissions::from_mode(0o755)).unwrap();
     }
-    symlink(found("dirname"), folder.join("commands/dirname")).unwrap();
+    for tool in ["dirname", "mkdir", "cp"] {
+        symlink(found(tool), folder.join("commands").join(tool)).unwrap();
+    }
     folder
 }
 
@@ -82,6 +96,23 @@ fn the_gate_says_last_whether_it_passed() {
         gate(&folder, &[("SAYS", &whole)]),
         (PASSED.to_string(), 0, true)
     );
+    for (built, put) in BUILT.iter().zip(PUT) {
+        assert_eq!(fs::read_to_string(folder.join(put)).unwrap(), *built);
+    }
+
+    // Edits that are refused only by a limit count; bad ones do not.
+    for (edits, passes) in [
+        ("213 refused", true),
+        ("213 refused, 3 of them only by a limit", true),
+        ("213 refused, 2 bad", false),
+        ("213 refused, 3 of them only by a limit, 12 bad", false),
+    ] {
+        let line = format!("rt: ok; handles allowed: none; must-fail edits: {edits}; every proof");
+        let (last, status, asked) = gate(&folder, &[("SAYS", &format!("{line}\n{PASSED}"))]);
+        assert_eq!((status, asked), (i32::from(!passes), passes), "{edits}");
+        let wanted = if passes { PASSED } else { "the gate failed: " };
+        assert!(last.starts_with(wanted), "{edits}: {last}");
+    }
 
     // rt ci counts what failed.
     let count = "12 passed, 10 failed";
@@ -102,7 +133,12 @@ fn the_gate_says_last_whether_it_passed() {
         assert_eq!((status, asked), (1, conformance), "{told:?}");
     }
 
-    // So it does where a command is missing.
+    // So it does where something that it needs is missing.
+    for built in BUILT {
+        let folder = repository("a_file");
+        fs::remove_file(folder.join(built)).unwrap();
+        assert_eq!(gate(&folder, &[]).1, 1, "{built}");
+    }
     for command in COMMANDS {
         let given = gate(&repository(command), &[]);
         let last = format!("the gate failed: it needs the command {command}, which is not on PATH");

@@ -8,7 +8,7 @@ use std::os::unix::fs::{symlink, PermissionsExt};
 use std::path::{Path, PathBuf};
 use std::process::{Command, Output, Stdio};
 
-use conformance::page::{block, bytes, commands, root, text};
+use conformance::page::{apart, block, bytes, commands, root, text};
 use conformance::program::labs_show;
 use reference::generate::edges;
 use reference::generate::fleets::{accepted, Scale};
@@ -175,12 +175,15 @@ fn readme_s_commands_work_as_typed() {
     }
 }
 
+/// What rt lib writes.
+const ARCHIVE: &str = "crates/rehearsal_c/out/librehearsal_c.a";
+
 /// A folder with the tools that ./rehearse uses besides rt, and rt where it is given as a script.
 fn tools(name: &str, rt: Option<&str>) -> PathBuf {
-    let folder = Path::new(env!("CARGO_TARGET_TMPDIR")).join(name);
-    let _ = fs::remove_dir_all(&folder);
-    fs::create_dir(&folder).unwrap();
-    for tool in ["bash", "awk", "dirname", "mkdir", "sleep", "tee", "uname"] {
+    let folder = apart(name);
+    for tool in [
+        "awk", "bash", "cp", "dirname", "mkdir", "sleep", "tee", "uname",
+    ] {
         let found = shell(&format!("command -v {tool}")).stdout;
         let found = String::from_utf8(found).unwrap();
         symlink(found.trim(), folder.join(tool)).unwrap();
@@ -193,19 +196,20 @@ fn tools(name: &str, rt: Option<&str>) -> PathBuf {
     folder
 }
 
-/// What ./rehearse prints, in a copy of what it reads and with these tools alone. Once it has said that the first crate is
-/// proved, the file `seen` is there.
-fn rehearse(tools: &Path) -> Output {
+/// What ./rehearse prints, in a copy of what it reads and with these tools alone, which are removed then; and what it asked
+/// rt. Once it has said that the first crate is proved, the file `seen` is there.
+fn rehearse(tools: &Path) -> (Output, String) {
     let folder = tools.join("repository");
-    fs::create_dir_all(folder.join("crates/labs_show")).unwrap();
+    for part in ["crates/labs_show/out", "crates/rehearsal_c/out"] {
+        fs::create_dir_all(folder.join(part)).unwrap();
+    }
     for file in ["rehearse", "crates.txt", STORED] {
         fs::copy(root().join(file), folder.join(file)).unwrap();
     }
     if let Some(program) = labs_show() {
-        fs::create_dir_all(folder.join("target/bin")).unwrap();
-        let copy = folder.join("target/bin/labs_show");
-        symlink(program.canonicalize().unwrap(), copy).unwrap();
+        fs::copy(program, folder.join("crates/labs_show/out/labs_show")).unwrap();
     }
+    fs::write(folder.join(ARCHIVE), ARCHIVE).unwrap();
     let mut child = Command::new("bash")
         .arg(folder.join("rehearse"))
         .env("PATH", tools)
@@ -222,12 +226,18 @@ fn rehearse(tools: &Path) -> Output {
         stdout.extend(format!("{line}\n").into_bytes());
     }
     let rest = child.wait_with_output().unwrap();
-    Output { stdout, ..rest }
+    if rest.status.success() {
+        let put = fs::read_to_string(folder.join("target/staticlib/librehearsal.a"));
+        assert_eq!(put.unwrap(), ARCHIVE);
+    }
+    let asked = fs::read_to_string(folder.join("asked")).unwrap_or_default();
+    fs::remove_dir_all(tools).unwrap();
+    (Output { stdout, ..rest }, asked)
 }
 
 #[test]
 fn a_missing_tool_is_one_clear_line() {
-    let output = rehearse(&tools("without_rt", None));
+    let (output, _) = rehearse(&tools("without_rt", None));
     assert_eq!((output.stdout.len(), output.status.code()), (0, Some(1)));
     let said = String::from_utf8(output.stderr).unwrap();
     assert_eq!(said.lines().count(), 1, "{said}");
@@ -237,17 +247,21 @@ fn a_missing_tool_is_one_clear_line() {
 /// A toolchain that says of three crates what rt says, and keeps what it was asked. It goes on to the second crate once the
 /// first has been seen.
 const SAYS: &str = r#"#!/usr/bin/env bash
+cd ../..
 echo "$*" >>asked
-if [ "$1" = staticlib ]; then
-    echo "rt: basis proved (unchanged since it was last proved)"
-    echo "rt: shelf proved (3 s)"
+if [ "$1" = lib ]; then
+    echo "crate shelf: modules loaded=20 checked=30"
+    echo "logic=proved functions=9 sum=0"
     exit 0
 fi
+echo "rt: chose --jobs 2 for basis"
 echo "fn basis::lowest: proved"
-echo "rt: basis proved (5 s)"
+echo "crate basis: modules loaded=0 checked=10"
+echo "logic=proved functions=12 sum=0"
 for ((i = 0; i < 100; i++)); do [ -e seen ] || sleep 0.1; done
 [ -e seen ] || exit 1
-echo "rt: value SECOND
+echo "crate value: modules loaded=0 checked=10" >&2
+echo "SECOND
 "#;
 
 #[test]
@@ -255,31 +269,30 @@ fn rehearse_says_where_it_is() {
     if labs_show().is_none() {
         return;
     }
-    let folder = tools("with_rt", Some(&SAYS.replace("SECOND", "proved (4 s)\"")));
-    let output = rehearse(&folder);
+    let proved = SAYS.replace("SECOND", "logic=proved functions=7 sum=0\" >&2");
+    let (output, asked) = rehearse(&tools("with_rt", Some(&proved)));
     let said = String::from_utf8(output.stdout).unwrap();
     assert!(output.status.success(), "{said}");
     let count = needed().to_string();
     let lines: Vec<&str> = said.lines().collect();
-    let first = format!("proving {count} crates");
+    let first = format!("proving up to {count} crates");
     assert!(lines[0].starts_with(&first), "{said}");
-    assert_eq!(lines[1], format!("1 of {count}: basis proved (5 s)"));
-    assert_eq!(lines[2], format!("2 of {count}: value proved (4 s)"));
-    assert_eq!(lines[3], format!("3 of {count}: shelf proved (3 s)"));
-    let last = format!("4 of {count}: rehearsal proved (");
-    assert!(lines[4].starts_with(&last), "{said}");
+    for (line, name) in lines[1..].iter().zip(["basis", "value", "shelf"]) {
+        let at = lines.iter().position(|other| other == line).unwrap();
+        let wanted = format!("{at} of {count}: {name} proved (");
+        assert!(line.starts_with(&wanted), "{said}");
+    }
     assert!(
         said.ends_with(&block(&text("README.md"), "lines")),
         "{said}"
     );
-    let asked = fs::read_to_string(folder.join("repository/asked")).unwrap();
-    assert_eq!(asked, "check labs_show\nstaticlib rehearsal\n");
+    assert_eq!(asked, "run\nlib\n");
 
-    let fails = SAYS.replace("SECOND", "NOT PROVED (exit 1, 4 s)\"\nexit 1");
-    let output = rehearse(&tools("with_failing_rt", Some(&fails)));
+    let fails = SAYS.replace("SECOND", "logic=not-proved\"\nexit 1");
+    let (output, _) = rehearse(&tools("with_failing_rt", Some(&fails)));
     assert_eq!(output.status.code(), Some(1));
     let said = String::from_utf8(output.stdout).unwrap();
-    assert!(said.ends_with("value NOT PROVED (exit 1, 4 s)\n"), "{said}");
+    assert!(said.ends_with("value NOT PROVED\n"), "{said}");
 }
 
 /// How many crates labs_show and the library need.
@@ -288,10 +301,10 @@ fn needed() -> usize {
     let needs = |name: &str| {
         let line = list
             .lines()
-            .find(|line| line.starts_with(&format!("{name}:")))?;
+            .find(|line| line.split([' ', ':']).next() == Some(name))?;
         Some(line.split_once(':')?.1.split_whitespace())
     };
-    let mut found: Vec<&str> = vec!["labs_show", "rehearsal"];
+    let mut found: Vec<&str> = vec!["labs_show", "rehearsal_c"];
     let mut next = 0;
     while let Some(name) = found.get(next) {
         // Libraries of the toolchain have no line.

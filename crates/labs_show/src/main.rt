@@ -1,5 +1,7 @@
 // Rehearses the fleet on standard input, a table and then a schedule, and prints the run's totals and the state that it
 // leaves, or the refusal.
+#![tactic(auto)]
+
 mod rehearsal; // rehearsal.rt: where the table ends; load, then run; the lines of that
 mod stdin; // stdin.rt: standard input, read to its end
 
@@ -37,24 +39,22 @@ fn show(input: &[u8], out: &mut [u8]) -> usize
 }
 
 // Writes it to standard output.
-fn print(input: &[u8]) {
+fn print(rt: &(impl Print + Eprint), input: &[u8]) {
     let mut out = output_buffer();
     let n = show(input, &mut out);
-    if !io::write_all(libc::STDOUT_FILENO, &out[..n]) {
-        io::write_all(libc::STDERR_FILENO, b"labs_show: cannot write\n");
+    if rt.write_all(&out[..n]).is_err() {
+        let _ = rt.eprint("labs_show: cannot write\n");
     }
 }
 
-fn main() {
+fn main(rt: HostRuntime) {
     let mut input = input_buffer();
-    let got = read_input(&mut input);
+    let mut stdin = rt.stdin();
+    let got = read_input(&mut stdin, &mut input);
     match got {
-        Input::Read(n) => print(&input[..n]),
+        Input::Read(n) => print(&rt, &input[..n]),
         Input::Failed => {
-            io::write_all(
-                libc::STDERR_FILENO,
-                b"labs_show: cannot read standard input\n",
-            );
+            let _ = rt.eprint("labs_show: cannot read standard input\n");
         }
     }
 }

@@ -1,4 +1,6 @@
 // The machine at its limits: agents, the clock, a residual's words. A line for each answer.
+#![tactic(auto)]
+
 mod fleets; // fleets.rt: tables, and a schedule
 
 ghost use Rattle.std.specs.Prelude.{◌≡◌, ◌<◌, ◌≤◌, length};
@@ -8,64 +10,55 @@ use fleets::{ACT, PROPAGATE, nested, ticking, write_often, writing};
 use machine::{Ran, Stepped};
 use opening::Answer;
 use state::{Store, clock_of, length_at, mark_at};
-
-const OUTPUT: i32 = 1;
+use std::io;
 
 // 31 runs of 2,114 writes are 65,534 writes.
 const RUNS: usize = 31;
 
 const WRITES: usize = 2114;
 
-fn print_number(n: usize) {
-    io::write_all(OUTPUT, b" ");
-    io::print_decimal(OUTPUT, n as u64);
+fn print_refused(rt: &impl Print, number: u8) -> io::Result<()> {
+    print!(rt; " refused {number}")
 }
 
-fn print_word(word: u32) {
-    print_number(word as usize);
-}
-
-fn end_line() {
-    io::write_all(OUTPUT, b"\n");
-}
-
-fn print_refused(number: u8) {
-    io::write_all(OUTPUT, b" refused");
-    print_number(number as usize);
-}
-
-fn print_loaded(answer: Answer) {
+fn print_loaded(rt: &impl Print, answer: Answer) -> io::Result<()> {
     match answer {
-        Answer::Done => {
-            io::write_all(OUTPUT, b" done");
-        }
-        Answer::Refused(number, _) => print_refused(number),
+        Answer::Done => print!(rt; " done"),
+        Answer::Refused(number, _) => print_refused(rt, number),
     }
 }
 
-fn print_stepped(answer: Stepped) {
+fn print_stepped(rt: &impl Print, answer: Stepped) -> io::Result<()> {
     match answer {
-        Stepped::Done(_) => {
-            io::write_all(OUTPUT, b" done");
-        }
-        Stepped::Refused(number, _) => print_refused(number),
+        Stepped::Done(_) => print!(rt; " done"),
+        Stepped::Refused(number, _) => print_refused(rt, number),
     }
 }
 
-fn show_load(fleet: &[u8], state: &mut [u32], scratch: &mut [u32]) {
-    print_loaded(machine::load(fleet, state, scratch));
-    end_line();
+fn show_load(
+    rt: &impl Print,
+    fleet: &[u8],
+    state: &mut [u32],
+    scratch: &mut [u32],
+) -> io::Result<()> {
+    print_loaded(rt, machine::load(fleet, state, scratch))?;
+    println!(rt)
 }
 
 // Load of so many agents.
-fn show_agents(table: &mut [u8], state: &mut [u32], scratch: &mut [u32], agents: usize)
+fn show_agents(
+    rt: &impl Print,
+    table: &mut [u8],
+    state: &mut [u32],
+    scratch: &mut [u32],
+    agents: usize,
+) -> io::Result<()>
     requires { (length table.old ≡ 347) × (agents < 64) }
 {
-    io::write_all(OUTPUT, b"agents");
-    print_number(agents);
+    print!(rt; "agents {agents}")?;
     ticking(table, agents);
     let size = table::HEADER_BYTES + 5 * (1 + agents);
-    show_load(&table[..size], state, scratch);
+    show_load(rt, &table[..size], state, scratch)
 }
 
 // 1 where all steps of a run were done, else 0.
@@ -98,94 +91,131 @@ fn runs_done(
 }
 
 // Writes until the clock is 65,534.
-fn show_writes(fleet: &[u8], state: &mut [u32], scratch: &mut [u32])
+fn show_writes(
+    rt: &impl Print,
+    fleet: &[u8],
+    state: &mut [u32],
+    scratch: &mut [u32],
+) -> io::Result<()>
     requires { HasBlocks state.old }
 {
     let mut schedule = [0u8; 21142];
     let mut answers = [0u8; 4228];
     write_often(&mut schedule, WRITES);
     let runs = runs_done(fleet, state, scratch, &schedule, &mut answers, RUNS);
-    io::write_all(OUTPUT, b"runs");
-    print_number(runs);
-    io::write_all(OUTPUT, b" clock");
-    print_word(clock_of(state));
-    end_line();
+    let clock = clock_of(state);
+    println!(rt; "runs {runs} clock {clock}")
 }
 
 // A write, and the stamp of the entry.
-fn show_write(fleet: &[u8], state: &mut [u32], scratch: &mut [u32])
+fn show_write(
+    rt: &impl Print,
+    fleet: &[u8],
+    state: &mut [u32],
+    scratch: &mut [u32],
+) -> io::Result<()>
     requires { HasBlocks state.old }
 {
     let answer = machine::step(fleet, state, scratch, ACT, 0, 0);
-    io::write_all(OUTPUT, b"write");
-    print_stepped(answer);
-    io::write_all(OUTPUT, b" stamp");
-    print_word(state[mark_at(Store::Entries(0), 0)]);
-    end_line();
+    print!(rt; "write")?;
+    print_stepped(rt, answer)?;
+    let stamp = state[mark_at(Store::Entries(0), 0)];
+    println!(rt; " stamp {stamp}")
 }
 
-fn show_propagate(fleet: &[u8], state: &mut [u32], scratch: &mut [u32]) {
+fn show_propagate(
+    rt: &impl Print,
+    fleet: &[u8],
+    state: &mut [u32],
+    scratch: &mut [u32],
+) -> io::Result<()> {
     let answer = machine::step(fleet, state, scratch, PROPAGATE, 0, 0);
-    io::write_all(OUTPUT, b"propagate");
-    print_stepped(answer);
-    end_line();
+    print!(rt; "propagate")?;
+    print_stepped(rt, answer)?;
+    println!(rt)
 }
 
 // The last two writes: the second finds no stamp. Between them the key is propagated, so that Zp is empty again.
-fn show_last_writes(fleet: &[u8], state: &mut [u32], scratch: &mut [u32])
+fn show_last_writes(
+    rt: &impl Print,
+    fleet: &[u8],
+    state: &mut [u32],
+    scratch: &mut [u32],
+) -> io::Result<()>
     requires { HasBlocks state.old }
 {
-    io::write_all(OUTPUT, b"writing fleet");
-    show_load(fleet, state, scratch);
-    show_writes(fleet, state, scratch);
-    show_write(fleet, state, scratch);
-    show_propagate(fleet, state, scratch);
-    show_write(fleet, state, scratch);
+    print!(rt; "writing fleet")?;
+    show_load(rt, fleet, state, scratch)?;
+    show_writes(rt, fleet, state, scratch)?;
+    show_write(rt, fleet, state, scratch)?;
+    show_propagate(rt, fleet, state, scratch)?;
+    show_write(rt, fleet, state, scratch)
 }
 
-fn show_clock(table: &mut [u8], state: &mut [u32], scratch: &mut [u32])
+fn show_clock(
+    rt: &impl Print,
+    table: &mut [u8],
+    state: &mut [u32],
+    scratch: &mut [u32],
+) -> io::Result<()>
     requires { (length table.old ≡ 347) × HasBlocks state.old }
 {
     writing(table);
-    show_last_writes(&table[..52], state, scratch);
+    show_last_writes(rt, &table[..52], state, scratch)
 }
 
 // An act that is to leave so many words, and how many the residual has then.
-fn show_act(fleet: &[u8], state: &mut [u32], scratch: &mut [u32], words: usize)
+fn show_act(
+    rt: &impl Print,
+    fleet: &[u8],
+    state: &mut [u32],
+    scratch: &mut [u32],
+    words: usize,
+) -> io::Result<()>
     requires { HasBlocks state.old }
 {
     let answer = machine::step(fleet, state, scratch, ACT, 0, 0);
-    io::write_all(OUTPUT, b"residual");
-    print_number(words);
-    print_stepped(answer);
-    io::write_all(OUTPUT, b" words");
-    print_word(state[length_at(0)]);
-    end_line();
+    print!(rt; "residual {words}")?;
+    print_stepped(rt, answer)?;
+    let left = state[length_at(0)];
+    println!(rt; " words {left}")
 }
 
-fn show_nested(fleet: &[u8], state: &mut [u32], scratch: &mut [u32], words: usize)
+fn show_nested(
+    rt: &impl Print,
+    fleet: &[u8],
+    state: &mut [u32],
+    scratch: &mut [u32],
+    words: usize,
+) -> io::Result<()>
     requires { HasBlocks state.old }
 {
-    io::write_all(OUTPUT, b"nested fleet");
-    show_load(fleet, state, scratch);
-    show_act(fleet, state, scratch, words);
+    print!(rt; "nested fleet")?;
+    show_load(rt, fleet, state, scratch)?;
+    show_act(rt, fleet, state, scratch, words)
 }
 
-fn show_residual(table: &mut [u8], state: &mut [u32], scratch: &mut [u32], depth: usize)
+fn show_residual(
+    rt: &impl Print,
+    table: &mut [u8],
+    state: &mut [u32],
+    scratch: &mut [u32],
+    depth: usize,
+) -> io::Result<()>
     requires { (length table.old ≡ 347) × HasBlocks state.old × (depth ≤ 32) }
 {
     nested(table, depth);
     let size = table::HEADER_BYTES + 5 * (2 * depth + 3);
-    show_nested(&table[..size], state, scratch, 2 * depth + 1);
+    show_nested(rt, &table[..size], state, scratch, 2 * depth + 1)
 }
 
-fn main() {
+fn main(rt: HostRuntime) -> io::Result<()> {
     let mut table = [0u8; 347];
     let mut state = [0u32; state::STATE_WORDS];
     let mut scratch = [0u32; 8192];
-    show_agents(&mut table, &mut state, &mut scratch, 32);
-    show_agents(&mut table, &mut state, &mut scratch, 33);
-    show_clock(&mut table, &mut state, &mut scratch);
-    show_residual(&mut table, &mut state, &mut scratch, 31);
-    show_residual(&mut table, &mut state, &mut scratch, 32);
+    show_agents(&rt, &mut table, &mut state, &mut scratch, 32)?;
+    show_agents(&rt, &mut table, &mut state, &mut scratch, 33)?;
+    show_clock(&rt, &mut table, &mut state, &mut scratch)?;
+    show_residual(&rt, &mut table, &mut state, &mut scratch, 31)?;
+    show_residual(&rt, &mut table, &mut state, &mut scratch, 32)
 }

@@ -1,4 +1,6 @@
 // What labs_show prints, rendered into a lent buffer: a line for each total, value, entry and pending key.
+#![tactic(auto)]
+
 mod text; // text.rt: bytes, numbers, the end of a line
 mod rows; // rows.rt: a line of each kind
 mod stores; // stores.rt: the lines of a store's values and of pending keys

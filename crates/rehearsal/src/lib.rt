@@ -1,5 +1,7 @@
-// The machine and the shelf for C and Rust: each function calls theirs and packs its answer into one number; a run's
-// totals go to a lent buffer. A slice is a pointer and a count.
+// The machine and the shelf with one number for an answer: each function calls theirs and packs what it answers; a run's
+// totals go to a lent buffer. rehearsal_c exports them for C and Rust.
+#![tactic(auto)]
+
 mod packing; // packing.rt: answers as one number
 mod results; // results.rt: result numbers in a lent buffer
 
@@ -14,8 +16,7 @@ use packing::{pack_answer, pack_run, pack_step};
 use results::{totals_of, write_totals};
 
 // The state becomes that of a fleet which has not stepped yet. Reports 0.
-#[unsafe(no_mangle)]
-pub extern "C" fn labs_load(table: &[u8], state: &mut [u32], scratch: &mut [u32]) -> u64
+pub fn labs_load(table: &[u8], state: &mut [u32], scratch: &mut [u32]) -> u64
     ensures { LoadPacked (load_of table.now state.old (length scratch.old)) result state.new }
 {
     pack_answer(machine::load(table, state, scratch))
@@ -23,8 +24,7 @@ pub extern "C" fn labs_load(table: &[u8], state: &mut [u32], scratch: &mut [u32]
 
 // One step: act (kind 0; number is a choice), propagate (1) or confirm (2; number is a key). Reports how many agents
 // took the entry: those that had none, and those that had an older one.
-#[unsafe(no_mangle)]
-pub extern "C" fn labs_step(
+pub fn labs_step(
     table: &[u8],
     state: &mut [u32],
     scratch: &mut [u32],
@@ -40,8 +40,7 @@ pub extern "C" fn labs_step(
 
 // What the same step would do: the state after it goes to a second buffer, which a refusal leaves as it came. Reports
 // what the step would.
-#[unsafe(no_mangle)]
-pub extern "C" fn labs_preview(
+pub fn labs_preview(
     table: &[u8],
     state: &[u32],
     scratch: &mut [u32],
@@ -59,8 +58,7 @@ pub extern "C" fn labs_preview(
 
 // The steps of a schedule, each in turn, with an answer byte for each: 0, or its refusal. The totals go to a buffer,
 // as many as it has room for: done, refused, added, replaced; all 0 where the run is refused. Reports 0.
-#[unsafe(no_mangle)]
-pub extern "C" fn labs_run(
+pub fn labs_run(
     table: &[u8],
     state: &mut [u32],
     scratch: &mut [u32],
@@ -79,8 +77,7 @@ pub extern "C" fn labs_run(
 
 // The state goes to the shelf under a name, 1 to 255: to the place that the name holds, or else to the lowest free one.
 // Reports 0.
-#[unsafe(no_mangle)]
-pub extern "C" fn labs_save(
+pub fn labs_save(
     table: &[u8],
     state: &[u32],
     scratch: &mut [u32],
@@ -94,8 +91,7 @@ pub extern "C" fn labs_save(
 }
 
 // The state becomes the one that the shelf holds under a name. Reports 0.
-#[unsafe(no_mangle)]
-pub extern "C" fn labs_restore(
+pub fn labs_restore(
     table: &[u8],
     state: &mut [u32],
     scratch: &mut [u32],
@@ -109,8 +105,7 @@ pub extern "C" fn labs_restore(
 }
 
 // The place that a name holds becomes free: its name word becomes 0, and no other word changes. Reports 0.
-#[unsafe(no_mangle)]
-pub extern "C" fn labs_drop(table: &[u8], scratch: &mut [u32], shelf: &mut [u32], name: u32) -> u64
+pub fn labs_drop(table: &[u8], scratch: &mut [u32], shelf: &mut [u32], name: u32) -> u64
     ensures { ChangePacked (drop_of table.now (length scratch.old) shelf.old name) result shelf.new }
 {
     pack_answer(shelf::drop(table, scratch, shelf, name))
