@@ -9,6 +9,7 @@ use lib.Seq.{paste, paste-zero, paste-suc, length-paste}
 use borrow.Author.Rules.{rules}
 use Rattle.lines.specs.Writing.{Room}
 use Rattle.lines.proofs.Writing.{wrote_all}
+use Rattle.lines.proofs.Copying.{Copied}
 use Rattle.lines.proofs.text.put.Given as goal
 
 abbrev pub invariant-loop-i : goal.invariant-loop-i

@@ -9,9 +9,9 @@ use Rattle.lines.proofs.text.put_decimal.Goals as goal
 pub put-requires : goal.put-requires
 put-requires c =
     let d = c.decimal-size in
-    room_same (sym (d.ensures.1.1 ∙ decimal_is c.args.n d.result d.ensures.1.0)) c.requires
+    room_same (sym (d.ensures.digits ∙ decimal_is c.args.n d.result d.ensures.len)) c.requires
 
 pub returns : goal.returns
 returns c =
     let d = c.decimal-size in
-    wrote_same (d.ensures.1.1 ∙ decimal_is c.args.n d.result d.ensures.1.0) c.put.ensures
+    wrote_same (d.ensures.digits ∙ decimal_is c.args.n d.result d.ensures.len) c.put.ensures
