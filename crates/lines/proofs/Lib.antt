@@ -3,3 +3,4 @@ pub mod Each
 pub mod Decimal
 pub mod Sizes
 pub mod Examples
+mod Copying

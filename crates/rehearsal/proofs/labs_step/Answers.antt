@@ -1,0 +1,12 @@
+-- `rehearsal::labs_step` meets its contract.
+-- Assumes nothing.
+use Rattle.rehearsal.proofs.Places.{step_near}
+use Rattle.rehearsal.proofs.Packed.{place_near, step_packs}
+use borrow.Author.Rules.{rules}
+use Rattle.rehearsal.proofs.labs_step.Goals as goal
+
+pub pack_step-requires : goal.pack_step-requires
+pack_step-requires c = place_near c.step.ensures.check (step_near _ _ _ _ _ _)
+
+pub returns : goal.returns
+returns c = step_packs c.step.ensures c.pack_step.ensures
