@@ -8,9 +8,7 @@ use lib.ListN.{length}
 use borrow.Author.Tests.{lt-ltb, le-ltb}
 use Rattle.basis.specs.Bytes.{u16_at}
 use Rattle.labs_show.specs.Input.{TableEnd}
-use borrow.Author.Rules.{rules}
-use Rattle.labs_show.proofs.rehearsal.table_end.Statement.{statement}
-use Rattle.labs_show.proofs.rehearsal.table_end.Tie as tie
+use Rattle.labs_show.proofs.rehearsal.table_end.Goals as goal
 
 module _ (input : List ℕ) where
   no_header : length input < 12 → TableEnd input (length input)
@@ -23,23 +21,11 @@ module _ (input : List ℕ) where
     all-table : length input ≤ size → TableEnd input (length input)
     all-table l = record { is = rw (le-ltb (length input) 12 h, le-ltb (12 + 5 * u16_at input 0) (length input) (omega arith)); fits = omega arith }
 
-returns : tie.Need-returns
-returns c = no_header c.before.before.args.input.now c.if1.true
+pub returns-then-input-lt-HEADER_BYTES : goal.returns-then-input-lt-HEADER_BYTES
+returns-then-input-lt-HEADER_BYTES c = no_header c.args.input.now c.if-input-lt-HEADER_BYTES.true
 
-u16-at-requires : tie.Need-u16-at-requires
-u16-at-requires c κs = search rules
+pub returns-then-size-input : goal.returns-then-size-input
+returns-then-size-input c = let e = c.u16_at.ensures.is in schedule-follows c.args.input.now c.if-input-lt-HEADER_BYTES.false (omega arith) c.if-size-input.true
 
-mul-size : tie.Need-overflow-mul-size
-mul-size c = search rules
-
-add-size : tie.Need-overflow-add-size
-add-size c = search rules
-
-returns-2 : tie.Need-returns-2
-returns-2 c = let e = c.before.u16-at.ensures.is in schedule-follows c.before.before.before.before.args.input.now c.before.before.if1.false (omega arith) c.if2.true
-
-returns-3 : tie.Need-returns-3
-returns-3 c = let e = c.before.u16-at.ensures.is in all-table c.before.before.before.before.args.input.now c.before.before.if1.false (omega arith) c.if2.false
-
-pub table-end-spec : {M : Type 1} → statement M
-table-end-spec = tie.close (tie.spec returns u16-at-requires mul-size add-size returns-2 returns-3)
+pub returns-else-size-input : goal.returns-else-size-input
+returns-else-size-input c = let e = c.u16_at.ensures.is in all-table c.args.input.now c.if-input-lt-HEADER_BYTES.false (omega arith) c.if-size-input.false
