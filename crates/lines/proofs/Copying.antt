@@ -7,9 +7,7 @@ use native.Mathlib.Numerals.{add-one}
 use native.Mathlib.Omega.{arith}
 use lib.ListN.{length, get_or, set}
 use lib.Seq.{paste, paste-zero, paste-suc, length-paste}
-use borrow.Author.Rules.{rules}
 use Rattle.lines.specs.Writing.{Room}
-use Rattle.lines.proofs.Writing.{wrote_all}
 
 -- i bytes are copied
 pub record Copied (bytes was : List ℕ) (at : ℕ) (out : List ℕ) (i : ℕ) : Type 0 where

@@ -1,7 +1,6 @@
 -- `accept::accept` meets its contract.
 -- Assumes nothing.
 use mathlib.Core.Path.{refl}
-use borrow.Author.Rules.{rules}
 use Rattle.accept.proofs.Answering.{size_passes, accepts_refused, accepts_judged}
 use Rattle.accept.proofs.accept.Goals as goal
 

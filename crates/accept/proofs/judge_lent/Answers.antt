@@ -5,8 +5,6 @@ use mathlib.Core.List.{List}
 use mathlib.Core.Path.{◌≡◌, sym, ap, subst, refl}
 use native.Mathlib.Omega.{arith}
 use lib.ListN.{length, take, drop}
-use borrow.Author.Rules.{rules}
-use borrow.Author.Tests.{not-true, not-false}
 use Rattle.table.specs.declared.Sizes.{Sizes}
 use Rattle.table.specs.Tables.{Table, table, sizes_of, table_of}
 use Rattle.table.specs.Sound.{Limits, Shaped}

@@ -1,6 +1,5 @@
 -- `basis::has` meets its contract.
 -- Assumes nothing.
-use borrow.Author.Rules.{rules}
 use lib.Pow.{pow_pos}
 use Rattle.basis.specs.KeySets.{has}
 use Rattle.basis.proofs.has.Goals as goal

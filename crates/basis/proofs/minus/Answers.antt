@@ -2,7 +2,6 @@
 -- Assumes nothing.
 use mathlib.Core.Path.{◌≡◌, sym, ◌∙◌}
 use mathlib.Core.Bool.{true}
-use borrow.Author.Rules.{rules}
 use Rattle.basis.specs.KeySets.{has, minus}
 use Rattle.basis.proofs.KeySets.{enough}
 use Rattle.basis.proofs.minus.Goals as goal

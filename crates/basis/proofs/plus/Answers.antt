@@ -3,7 +3,6 @@
 use mathlib.Core.Path.{◌≡◌, sym, ◌∙◌}
 use mathlib.Core.Bool.{false}
 use native.Mathlib.Omega.{arith}
-use borrow.Author.Rules.{rules}
 use Rattle.basis.specs.KeySets.{has, plus}
 use Rattle.basis.proofs.KeySets.{room}
 use Rattle.basis.proofs.plus.Goals as goal

@@ -1,6 +1,5 @@
 -- `basis::plus_if` meets its contract.
 -- Assumes nothing.
-use borrow.Author.Rules.{rules}
 use Rattle.basis.specs.KeySets.{plus_if}
 use Rattle.basis.proofs.plus_if.Goals as goal
 

@@ -5,7 +5,6 @@ use mathlib.Core.Path.{ap, ◌∙◌}
 use mathlib.Core.List.{List}
 use native.Mathlib.Omega.{arith}
 use lib.ListN.{take, drop}
-use borrow.Author.Rules.{rules}
 use Rattle.table.specs.Tables.{Table}
 use Rattle.accept.proofs.Answering.{lent_table}
 use Rattle.state.specs.WellFormed.{loaded}

@@ -7,7 +7,6 @@ use borrow.Author.Tests.{eqb-true}
 use Rattle.state.specs.Layout.{state_words}
 use Rattle.opening.proofs.Opened.{opened_nodes, opened_ready, opened_proper, opened_fit}
 use Rattle.machine.proofs.Opened.{preview_refused, preview_opened}
-use borrow.Author.Rules.{rules}
 use Rattle.machine.proofs.preview.Goals as goal
 
 pub overflow_add-operands : goal.overflow_add-operands

@@ -3,7 +3,6 @@
 use native.Mathlib.Omega.{arith}
 use Rattle.opening.proofs.Opened.{opened_nodes, opened_ready, opened_proper}
 use Rattle.machine.proofs.Opened.{run_refused, run_unscheduled, run_opened}
-use borrow.Author.Rules.{rules}
 use Rattle.machine.proofs.run.Goals as goal
 
 pub overflow_add-operands : goal.overflow_add-operands

@@ -3,7 +3,6 @@
 use native.Mathlib.Omega.{arith}
 use Rattle.opening.proofs.Opened.{opened_nodes, opened_ready, opened_proper}
 use Rattle.machine.proofs.Opened.{step_refused, step_opened}
-use borrow.Author.Rules.{rules}
 use Rattle.machine.proofs.step.Goals as goal
 
 pub overflow_add-operands : goal.overflow_add-operands

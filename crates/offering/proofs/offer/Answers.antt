@@ -1,5 +1,4 @@
 -- `offer` meets its contract: the offers, and then the set without the key. Assumes nothing.
-use borrow.Author.Rules.{rules}
 use Rattle.offering.proofs.Turns.{key_dropped}
 use Rattle.offering.proofs.offer.Goals as goal
 

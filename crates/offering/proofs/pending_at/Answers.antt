@@ -1,5 +1,4 @@
 -- `pending_at` meets its contract. Assumes nothing.
-use borrow.Author.Rules.{rules}
 use Rattle.offering.proofs.pending_at.Goals as goal
 
 pub returns-then-confirming : goal.returns-then-confirming

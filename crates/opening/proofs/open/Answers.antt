@@ -5,7 +5,6 @@ use mathlib.Core.Bool.{Bool}
 use mathlib.Core.Path.{◌∙◌}
 use mathlib.Core.List.{List}
 use native.Mathlib.Omega.{arith}
-use borrow.Author.Rules.{rules}
 use Rattle.table.specs.Tables.{Table}
 use Rattle.state.specs.WellFormed.{well_formed}
 use Rattle.opening.proofs.Accepting.{accepted_limits, accepted_size, told_parts, check_given, open_broken, open_formed, open_refused}

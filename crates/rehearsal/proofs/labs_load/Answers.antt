@@ -3,7 +3,6 @@
 use lib.ListN.{length}
 use Rattle.rehearsal.proofs.Places.{load_near}
 use Rattle.rehearsal.proofs.Packed.{place_near, answer_packs}
-use borrow.Author.Rules.{rules}
 use Rattle.rehearsal.proofs.labs_load.Goals as goal
 
 pub pack_answer-requires : goal.pack_answer-requires

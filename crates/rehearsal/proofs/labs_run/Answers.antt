@@ -1,6 +1,5 @@
 -- `rehearsal::labs_run` meets its contract.
 -- Assumes nothing.
-use borrow.Author.Rules.{rules}
 use Rattle.rehearsal.proofs.Places.{run_near}
 use Rattle.rehearsal.proofs.Packed.{place_near, run_packs}
 use Rattle.rehearsal.proofs.labs_run.Goals as goal

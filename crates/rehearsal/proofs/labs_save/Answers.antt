@@ -2,7 +2,6 @@
 -- Assumes nothing.
 use Rattle.rehearsal.proofs.Places.{save_near}
 use Rattle.rehearsal.proofs.Packed.{place_near, answer_packs}
-use borrow.Author.Rules.{rules}
 use Rattle.rehearsal.proofs.labs_save.Goals as goal
 
 pub pack_answer-requires : goal.pack_answer-requires

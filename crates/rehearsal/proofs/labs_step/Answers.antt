@@ -2,7 +2,6 @@
 -- Assumes nothing.
 use Rattle.rehearsal.proofs.Places.{step_near}
 use Rattle.rehearsal.proofs.Packed.{place_near, step_packs}
-use borrow.Author.Rules.{rules}
 use Rattle.rehearsal.proofs.labs_step.Goals as goal
 
 pub pack_step-requires : goal.pack_step-requires

@@ -6,7 +6,6 @@ use Rattle.steps.specs.Shelves.{is_whole_shelf}
 use Rattle.steps.specs.Points.{held_checks, dropped, drop_of}
 use Rattle.shelf.proofs.Judging.{then_own, stops}
 use Rattle.shelf.proofs.Given.{accepts_given, accepts_whole}
-use borrow.Author.Rules.{rules}
 use Rattle.shelf.proofs.drop.Goals as goal
 
 pub judge_shelf-judged-requires : goal.judge_shelf-judged-requires

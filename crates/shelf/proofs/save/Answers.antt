@@ -6,7 +6,6 @@ use Rattle.steps.specs.Shelves.{is_whole_shelf}
 use Rattle.steps.specs.Points.{save_checks, saved, save_of}
 use Rattle.shelf.proofs.Judging.{then_own, stops}
 use Rattle.shelf.proofs.Given.{opens_given, opens_whole}
-use borrow.Author.Rules.{rules}
 use Rattle.shelf.proofs.save.Goals as goal
 
 pub judge_shelf-judged-requires : goal.judge_shelf-judged-requires

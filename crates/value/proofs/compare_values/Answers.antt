@@ -1,6 +1,5 @@
 -- `value::compare_values` meets its contract: both values are present, or nothing is defined.
 -- Assumes nothing.
-use borrow.Author.Rules.{rules}
 use Rattle.value.proofs.compare_values.Goals as goal
 
 pub returns-in_default : goal.returns-in_default

@@ -1,6 +1,5 @@
 -- `value::compute` meets its contract: by the kind, one operation on two numbers of 32 bits, whose result fits 64 bits.
 -- Assumes nothing.
-use borrow.Author.Rules.{rules}
 use borrow.Author.Tests.{ne_eqb}
 use mathlib.Core.Bool.{true, false}
 use mathlib.Core.Path.{◌≡◌, refl, ◌∙◌, ap}

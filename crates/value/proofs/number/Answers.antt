@@ -1,6 +1,5 @@
 -- `value::number` meets its contract.
 -- Assumes nothing.
-use borrow.Author.Rules.{rules}
 use mir.Facts.{to_z-of_z}
 use Rattle.value.proofs.Words.{low_word, high_word}
 use Rattle.value.proofs.Bounds.{word_fits}

@@ -1,6 +1,5 @@
 -- `value::operate` meets its contract: both values are present, or the answer is absent.
 -- Assumes nothing.
-use borrow.Author.Rules.{rules}
 use Rattle.value.proofs.operate.Goals as goal
 
 pub returns : goal.returns

@@ -1,6 +1,5 @@
 -- `value::test` meets its contract: the kind picks the case.
 -- Assumes nothing.
-use borrow.Author.Rules.{rules}
 use borrow.Author.Tests.{ne_eqb}
 use Rattle.value.proofs.Bounds.{whole}
 use Rattle.value.proofs.test.Goals as goal

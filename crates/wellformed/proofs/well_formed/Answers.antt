@@ -5,7 +5,7 @@ use mathlib.Core.Bool.{true}
 use mathlib.Core.List.{List}
 use mathlib.Core.Path.{◌≡◌, sym, ap, ◌∙◌}
 use native.Mathlib.Omega.{arith}
-use borrow.Author.Tests.{not-true, not-false, eq-eqb, ne_eqb, lt-leb, le-leb}
+use borrow.Author.Tests.{eq-eqb, ne_eqb, lt-leb, le-leb}
 use lib.Dec.{eqb, leb}
 use lib.ListN.{get_or, drop}
 use Rattle.basis.specs.Numbers.{every}
@@ -15,7 +15,6 @@ use Rattle.state.specs.declared.Store.TheVariants.{Environment}
 use Rattle.state.specs.Layout.{agents_at, key_limit}
 use Rattle.state.specs.Entries.{clock_limit, clock_of}
 use Rattle.state.specs.WellFormed.{all_zero, pair_formed, agent_formed, well_formed}
-use borrow.Author.Rules.{rules}
 use Rattle.wellformed.proofs.well_formed.Goals as goal
 use Rattle.wellformed.proofs.well_formed.Goals.{Else-clock_of-gt-CLOCK_LIMIT, Else-not-agents_formed, Else-not-store_formed, Else-state-sizes, Start}
 

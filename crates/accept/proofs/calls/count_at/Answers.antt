@@ -9,7 +9,6 @@ use Rattle.accept.specs.Scratch.{is_counted}
 use Rattle.accept.specs.Calls.{CountsAt}
 use Rattle.accept.proofs.Cells.{node_room}
 use Rattle.accept.proofs.Fullness.{count_small, count_more}
-use borrow.Author.Rules.{rules}
 use Rattle.accept.proofs.calls.count_at.Goals as goal
 use Rattle.accept.proofs.calls.count_at.Goals.{Start}
 

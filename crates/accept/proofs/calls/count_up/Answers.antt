@@ -1,11 +1,8 @@
 -- `accept::calls::count_up` meets its contract: the words stay such as `settle` takes and leaves.
 -- Assumes nothing.
-use Prim.Native.Nat.{◌+◌, ◌-◌}
-use mathlib.Core.Path.{◌≡◌, refl, ◌∙◌}
+use Prim.Native.Nat.{◌-◌}
+use mathlib.Core.Path.{refl, ◌∙◌}
 use native.Mathlib.Omega.{arith}
-use lib.ListN.{length}
-use Rattle.table.specs.Tables.{table}
-use Rattle.accept.specs.Scratch.{Held}
 use Rattle.accept.proofs.calls.count_up.Goals as goal
 
 pub loop-n-init : goal.loop-n-init

@@ -1,7 +1,6 @@
 -- `accept::calls::count_up` meets its contract: the words stay such as `settle` takes and leaves.
 use Prim.Native.Nat.{◌+◌, ◌-◌}
-use mathlib.Core.Path.{◌≡◌, refl, ◌∙◌}
-use native.Mathlib.Omega.{arith}
+use mathlib.Core.Path.{◌≡◌}
 use lib.ListN.{length}
 use Rattle.table.specs.Tables.{table}
 use Rattle.accept.specs.Scratch.{Held}

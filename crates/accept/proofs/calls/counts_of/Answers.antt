@@ -1,7 +1,6 @@
 -- `accept::calls::counts_of` meets its contract: a visit finds no part that is not counted, and no call that is too high.
 -- Assumes nothing.
 use mathlib.Core.Path.{◌≡◌, subst}
-use borrow.Author.Rules.{rules}
 use Rattle.basis.proofs.Tests.{not_both}
 use Rattle.table.specs.Tables.{Table, table}
 use Rattle.accept.specs.Calls.{Visits}

@@ -6,7 +6,6 @@ use mathlib.Core.Path.{◌≡◌, refl, sym, ap, subst, ◌∙◌}
 use mathlib.Core.List.{List}
 use native.Mathlib.Omega.{arith}
 use lib.ListN.{length}
-use borrow.Author.Tests.{not-true, not-false}
 use Rattle.basis.proofs.Numbers.{lowest_at, lowest_none}
 use Rattle.table.specs.Tables.{Table, table, p_at, first_root, body_at}
 use Rattle.table.proofs.Promises.{body_process}

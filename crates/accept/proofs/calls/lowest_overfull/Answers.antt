@@ -1,15 +1,12 @@
 -- `accept::calls::lowest_overfull` meets its contract: the nodes below the loop's are counted, and none has too many derivations.
 -- Assumes nothing.
-use Prim.Native.Nat.{ℕ, ◌-◌, ◌≤◌, ◌<◌}
+use Prim.Native.Nat.{◌-◌, ◌<◌}
 use mathlib.Core.Bool.{true, false}
-use mathlib.Core.Path.{◌≡◌, refl, sym, subst, ◌∙◌}
+use mathlib.Core.Path.{refl, sym, subst, ◌∙◌}
 use native.Mathlib.Omega.{arith}
-use lib.ListN.{length}
 use borrow.Author.Count.{below_more}
 use Rattle.table.specs.Tables.{Table, table, first_root}
-use Rattle.term.specs.Acceptance.{overfull}
 use Rattle.accept.specs.Counts.{Capped}
-use Rattle.accept.specs.Scratch.{is_counted, Held}
 use Rattle.accept.proofs.Cells.{held_small}
 use Rattle.accept.proofs.Fullness.{overfull_yes, overfull_no, lowest_full, none_full}
 use Rattle.accept.proofs.calls.lowest_overfull.Goals as goal

@@ -2,7 +2,6 @@
 -- Assumes nothing.
 use mathlib.Core.Path.{◌≡◌, refl, sym, subst, ◌∙◌}
 use native.Mathlib.Omega.{arith}
-use borrow.Author.Rules.{rules}
 use borrow.Author.Tests.{leb-false}
 use Rattle.basis.proofs.Tests.{not_both}
 use Rattle.table.specs.Tables.{Table, table}
@@ -11,7 +10,7 @@ use Rattle.accept.specs.declared.Visit.{Visit}
 use Rattle.accept.specs.declared.Visit.TheVariants.{High}
 use Rattle.accept.proofs.Caps.{counts_small}
 use Rattle.accept.proofs.Cells.{node_room}
-use Rattle.accept.proofs.Walking.{Walk, left, walk_start, walk_done, walk_back, back_less, walk_down, down_less, walk_high}
+use Rattle.accept.proofs.Walking.{walk_start, walk_done, walk_back, back_less, walk_down, down_less, walk_high}
 use Rattle.accept.proofs.calls.settle.Goals as goal
 use Rattle.accept.proofs.calls.settle.Goals.{After-visit-found, At-loop-c}
 

@@ -7,7 +7,6 @@ use Rattle.accept.specs.Calls.{Visits}
 use Rattle.accept.specs.declared.Visit.{Visit}
 use Rattle.accept.proofs.Cells.{node_room, held_more}
 use Rattle.accept.proofs.Fullness.{count_small}
-use borrow.Author.Rules.{rules}
 use Rattle.accept.proofs.calls.try_count.Goals as goal
 use Rattle.accept.proofs.calls.try_count.Goals.{After-visit-found, Start}
 

@@ -6,7 +6,6 @@ use mathlib.Core.Path.{◌≡◌, refl, sym, ap, subst, ◌∙◌}
 use mathlib.Core.List.{List}
 use native.Mathlib.Omega.{arith}
 use lib.ListN.{length}
-use borrow.Author.Rules.{rules}
 use Rattle.table.specs.Tables.{Table, table, kind_at, p_at, q_at, first_root, body_at}
 use Rattle.table.proofs.Promises.{call_operands, body_process}
 use Rattle.accept.specs.Counts.{Capped}

@@ -3,12 +3,10 @@
 use mathlib.Core.Bool.{Bool, true, false, ◌&&◌}
 use mathlib.Core.Path.{◌≡◌, sym, ap, ap₂, ◌∙◌}
 use lib.Dec.{eqb}
-use borrow.Author.Tests.{not-true, not-false}
 use Rattle.accept.specs.Calls.{joined_counts, right_hidden, pair_visit}
 use Rattle.accept.specs.Scratch.{pair_at, is_counted}
 use Rattle.accept.specs.declared.Counts.{Counts}
 use Rattle.accept.specs.declared.Visit.TheVariants.{Done}
-use borrow.Author.Rules.{rules}
 use Rattle.accept.proofs.nodes.visit_pair.Goals as goal
 use Rattle.accept.proofs.nodes.visit_pair.Goals.{After-struct_known-1, Else-not-is_counted, Else-not-is_counted-2}
 

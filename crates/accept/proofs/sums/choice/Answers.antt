@@ -1,6 +1,5 @@
 -- `accept::sums::choice` meets its contract.
 -- Assumes nothing.
-use borrow.Author.Rules.{rules}
 use Rattle.accept.specs.Counts.{choice_counts}
 use Rattle.accept.proofs.sums.choice.Goals as goal
 

@@ -4,7 +4,6 @@ use Prim.Native.Nat.{ℕ}
 use mathlib.Core.Path.{sym, ap, ◌∙◌}
 use borrow.Author.Tests.{ne_eqb}
 use Rattle.accept.specs.Calls.{joined_counts}
-use borrow.Author.Rules.{rules}
 use Rattle.accept.proofs.sums.joined.Goals as goal
 
 pub returns-in-5 : goal.returns-in-5

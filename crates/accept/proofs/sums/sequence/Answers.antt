@@ -1,6 +1,5 @@
 -- `accept::sums::sequence` meets its contract.
 -- Assumes nothing.
-use borrow.Author.Rules.{rules}
 use Rattle.accept.specs.Counts.{seq_counts}
 use Rattle.accept.proofs.sums.sequence.Goals as goal
 

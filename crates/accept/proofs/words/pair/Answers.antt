@@ -1,6 +1,5 @@
 -- `accept::words::pair` meets its contract.
 -- Assumes nothing.
-use borrow.Author.Rules.{rules}
 use Rattle.accept.proofs.words.pair.Goals as goal
 
 pub returns : goal.returns

@@ -2,7 +2,6 @@
 use mathlib.Core.Path.{◌∙◌}
 use Rattle.table.specs.Tables.{Table, table}
 use Rattle.acting.proofs.Gains.{gains}
-use borrow.Author.Rules.{rules}
 use Rattle.acting.proofs.gaining.gained.Goals as goal
 use Rattle.acting.proofs.gaining.gained.Goals.{Start}
 

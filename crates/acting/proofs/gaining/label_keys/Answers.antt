@@ -5,7 +5,6 @@ use Rattle.term.specs.declared.Label.{Label}
 use Rattle.table.specs.Tables.{Table, table}
 use Rattle.acting.specs.Gaining.{LabelKey}
 use Rattle.acting.proofs.Gains.{label_none, label_expression}
-use borrow.Author.Rules.{rules}
 use Rattle.acting.proofs.gaining.label_keys.Goals as goal
 use Rattle.acting.proofs.gaining.label_keys.Goals.{Start}
 

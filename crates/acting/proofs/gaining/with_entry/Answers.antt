@@ -1,10 +1,8 @@
 -- `with_entry` meets its contract. Assumes nothing.
-use Prim.Native.Nat.{ℕ, ◌-◌, ◌≤◌}
+use Prim.Native.Nat.{ℕ, ◌-◌}
 use mathlib.Core.Bool.{true, false}
 use mathlib.Core.Path.{◌≡◌, sym, ap, ◌∙◌}
-use mathlib.Core.Logic.{⊎_elim}
 use native.Mathlib.Omega.{arith}
-use borrow.Author.Rules.{rules}
 use Rattle.basis.specs.KeySets.{plus_all}
 use Rattle.basis.proofs.KeySets.{plus_all_zero}
 use Rattle.state.specs.Layout.{key_limit}

@@ -1,15 +1,9 @@
 -- `with_entry` meets its contract. Assumes nothing.
-use Prim.Native.Nat.{ℕ, ◌-◌, ◌≤◌}
-use mathlib.Core.Bool.{true, false}
-use mathlib.Core.Path.{◌≡◌, sym, ap, ◌∙◌}
-use mathlib.Core.Logic.{⊎_elim}
-use native.Mathlib.Omega.{arith}
-use borrow.Author.Rules.{rules}
+use Prim.Native.Nat.{◌-◌, ◌≤◌}
+use mathlib.Core.Path.{◌≡◌}
 use Rattle.basis.specs.KeySets.{plus_all}
-use Rattle.basis.proofs.KeySets.{plus_all_zero}
 use Rattle.state.specs.Layout.{key_limit}
 use Rattle.acting.specs.Gaining.{has_entry}
-use Rattle.acting.proofs.Gains.{entry_more}
 use Rattle.acting.proofs.gaining.with_entry.Given as goal
 
 abbrev pub invariant-loop-key : goal.invariant-loop-key

@@ -5,7 +5,6 @@ use lib.ListN.{get_or}
 use native.Mathlib.Omega.{arith}
 use Rattle.table.specs.Tables.{Table, table}
 use Rattle.acting.proofs.Lent.{lends, left_size, left}
-use borrow.Author.Rules.{rules}
 use Rattle.acting.proofs.leaving.leave.Goals as goal
 use Rattle.acting.proofs.leaving.leave.Goals.{Start}
 

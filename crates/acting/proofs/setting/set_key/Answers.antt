@@ -1,7 +1,6 @@
 -- `set_key` meets its contract. Assumes nothing.
 use Rattle.table.specs.Tables.{Table, table}
 use Rattle.acting.proofs.Sets.{entered_is, stored_is}
-use borrow.Author.Rules.{rules}
 use Rattle.acting.proofs.setting.set_key.Goals as goal
 use Rattle.acting.proofs.setting.set_key.Goals.{Start}
 

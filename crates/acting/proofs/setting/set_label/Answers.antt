@@ -1,7 +1,6 @@
 -- `set_label` meets its contract. Assumes nothing.
 use Rattle.table.specs.Tables.{Table, table}
 use Rattle.acting.proofs.Sets.{tick_sets, action_sets}
-use borrow.Author.Rules.{rules}
 use Rattle.acting.proofs.setting.set_label.Goals as goal
 use Rattle.acting.proofs.setting.set_label.Goals.{Start}
 

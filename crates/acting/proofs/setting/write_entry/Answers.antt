@@ -1,5 +1,4 @@
 -- `write_entry` meets its contract. Assumes nothing.
-use borrow.Author.Rules.{rules}
 use Rattle.acting.proofs.setting.write_entry.Goals as goal
 
 pub returns : goal.returns

@@ -1,7 +1,6 @@
 -- `perform` meets its contract. Assumes nothing.
 use Rattle.table.specs.Tables.{Table, table}
 use Rattle.acting.proofs.Performs.{allowed_gaining, allowed_setting, allowed_leaving, allowed_acted}
-use borrow.Author.Rules.{rules}
 use Rattle.acting.proofs.writing.perform.Goals as goal
 use Rattle.acting.proofs.writing.perform.Goals.{Start}
 

@@ -1,5 +1,4 @@
 -- `set_zc` meets its contract. Assumes nothing.
-use borrow.Author.Rules.{rules}
 use Rattle.acting.proofs.writing.set_zc.Goals as goal
 
 pub returns : goal.returns

@@ -3,10 +3,9 @@
 use Prim.Native.Nat.{ℕ, ◌-◌}
 use mathlib.Core.Path.{sym}
 use native.Mathlib.Omega.{arith}
-use lib.ListN.{length, replicate, length-replicate}
-use borrow.Author.Rules.{rules}
+use lib.ListN.{length, length-replicate}
 use Rattle.basis.proofs.Lists.{get_d_row}
-use Rattle.basis.proofs.Writing.{Written, written_none, written_more, written_length, written_all}
+use Rattle.basis.proofs.Writing.{written_none, written_more, written_length, written_all}
 use Rattle.basis.proofs.words.clear.Goals as goal
 
 pub loop-i-init : goal.loop-i-init

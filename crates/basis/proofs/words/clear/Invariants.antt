@@ -1,11 +1,7 @@
 -- `basis::words::clear` meets its contract.
-use Prim.Native.Nat.{ℕ, ◌-◌}
-use mathlib.Core.Path.{sym}
-use native.Mathlib.Omega.{arith}
-use lib.ListN.{length, replicate, length-replicate}
-use borrow.Author.Rules.{rules}
-use Rattle.basis.proofs.Lists.{get_d_row}
-use Rattle.basis.proofs.Writing.{Written, written_none, written_more, written_length, written_all}
+use Prim.Native.Nat.{◌-◌}
+use lib.ListN.{length, replicate}
+use Rattle.basis.proofs.Writing.{Written}
 use Rattle.basis.proofs.words.clear.Given as goal
 
 abbrev pub invariant-loop-i : goal.invariant-loop-i

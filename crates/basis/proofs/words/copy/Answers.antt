@@ -3,9 +3,7 @@
 use Prim.Native.Nat.{◌-◌}
 use native.Mathlib.Nat.{sub-zero}
 use native.Mathlib.Omega.{arith}
-use lib.ListN.{length}
-use borrow.Author.Rules.{rules}
-use Rattle.basis.proofs.Writing.{Written, written_none, written_more, written_length, written_all}
+use Rattle.basis.proofs.Writing.{written_none, written_more, written_length, written_all}
 use Rattle.basis.proofs.words.copy.Goals as goal
 
 pub loop-i-init : goal.loop-i-init

@@ -1,10 +1,7 @@
 -- `basis::words::copy` meets its contract.
 use Prim.Native.Nat.{◌-◌}
-use native.Mathlib.Nat.{sub-zero}
-use native.Mathlib.Omega.{arith}
 use lib.ListN.{length}
-use borrow.Author.Rules.{rules}
-use Rattle.basis.proofs.Writing.{Written, written_none, written_more, written_length, written_all}
+use Rattle.basis.proofs.Writing.{Written}
 use Rattle.basis.proofs.words.copy.Given as goal
 
 abbrev pub invariant-loop-i : goal.invariant-loop-i

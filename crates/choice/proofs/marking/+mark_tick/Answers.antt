@@ -1,6 +1,5 @@
 -- `mark_tick` meets its contract. Assumes nothing.
 use mathlib.Core.Bool.{true}
-use mathlib.Core.Logic.{⊎_elim}
 use mathlib.Core.Path.{◌≡◌, refl, sym, ap, subst, ◌∙◌}
 use mathlib.Core.List.{List, []}
 use native.Mathlib.Omega.{arith}
@@ -11,7 +10,7 @@ use Rattle.term.specs.Processes.{Derivation, node_process}
 use Rattle.choice.specs.declared.Side.{Side}
 use Rattle.choice.specs.declared.Turn.{Turn}
 use Rattle.choice.specs.Chosen.{chosen_in}
-use Rattle.choice.specs.Turns.{chosen_at, ahead, side_guards, SideReached, Onward, Turned}
+use Rattle.choice.specs.Turns.{chosen_at, side_guards, SideReached, Onward, Turned}
 use Rattle.choice.specs.Marking.{WithMark, WalkMarks, Marked}
 use Rattle.choice.proofs.Collecting.{reached_process, only_first, marked_none, marked_guard_lem, marked_join, marked_before, marked_after, marked_same, marked_side}
 use Prim.Native.Nat.{ℕ, ◌<◌}

@@ -3,9 +3,6 @@ use Prim.Native.Nat.{◌-◌}
 use mathlib.Core.Bool.{◌&&◌}
 use mathlib.Core.Path.{sym, ap₂, ◌∙◌}
 use native.Mathlib.Omega.{arith}
-use borrow.Author.Rules.{rules}
-use lib.ListN.{length}
-use Rattle.choice.specs.Marking.{marked_guard, Next}
 use Rattle.choice.proofs.Searching.{after_none, next_at, next_on}
 use Rattle.choice.proofs.marking.next_guard.Goals as goal
 

@@ -1,12 +1,7 @@
 -- `next_guard` meets its contract. Assumes nothing.
 use Prim.Native.Nat.{◌-◌}
-use mathlib.Core.Bool.{◌&&◌}
-use mathlib.Core.Path.{sym, ap₂, ◌∙◌}
-use native.Mathlib.Omega.{arith}
-use borrow.Author.Rules.{rules}
 use lib.ListN.{length}
 use Rattle.choice.specs.Marking.{marked_guard, Next}
-use Rattle.choice.proofs.Searching.{after_none, next_at, next_on}
 use Rattle.choice.proofs.marking.next_guard.Given as goal
 
 -- no marked guard has been passed

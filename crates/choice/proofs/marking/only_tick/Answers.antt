@@ -2,7 +2,6 @@
 use mathlib.Core.Path.{sym, ap}
 use Rattle.term.specs.declared.Mode.{Mode}
 use Rattle.choice.specs.Marking.{only_tick}
-use borrow.Author.Rules.{rules}
 use Rattle.choice.proofs.marking.only_tick.Goals as goal
 
 pub returns-in-Ticks : goal.returns-in-Ticks

@@ -1,7 +1,6 @@
 -- `kept_words` meets its contract. Assumes nothing.
 use mathlib.Core.Path.{sym, ap}
 use Rattle.choice.specs.Turns.{kept_size}
-use borrow.Author.Rules.{rules}
 use Rattle.choice.proofs.outcomes.kept_words.Goals as goal
 
 pub returns-in-Nothing : goal.returns-in-Nothing

@@ -3,7 +3,6 @@ use mathlib.Core.Path.{sym}
 use native.Mathlib.Nat.{mul-le-mul}
 use native.Mathlib.Omega.{arith}
 use Rattle.choice.proofs.Picking.{picks_first, picks_second, picks_third, picks_fourth}
-use borrow.Author.Rules.{rules}
 use Rattle.choice.proofs.picks.pick.Goals as goal
 
 pub returns-then-c-first : goal.returns-then-c-first

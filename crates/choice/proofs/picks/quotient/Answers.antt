@@ -1,7 +1,6 @@
 -- `quotient` meets its contract. Assumes nothing.
 use mathlib.Core.Path.{sym}
 use native.Mathlib.Nat.{div-zero}
-use borrow.Author.Rules.{rules}
 use Rattle.choice.proofs.picks.quotient.Goals as goal
 
 pub returns-then-n-eq0 : goal.returns-then-n-eq0

@@ -1,7 +1,6 @@
 -- `remainder` meets its contract. Assumes nothing.
 use mathlib.Core.Path.{sym}
 use native.Mathlib.Nat.{mod-zero}
-use borrow.Author.Rules.{rules}
 use Rattle.choice.proofs.picks.remainder.Goals as goal
 
 pub returns-then-n-eq0 : goal.returns-then-n-eq0

@@ -3,7 +3,6 @@ use mathlib.Core.Path.{sym, ap}
 use native.Mathlib.Omega.{arith}
 use Rattle.term.specs.declared.Mode.{Mode}
 use Rattle.choice.specs.Picks.{total_of}
-use borrow.Author.Rules.{rules}
 use Rattle.choice.proofs.picks.total.Goals as goal
 
 pub returns-in-Any : goal.returns-in-Any

@@ -1,5 +1,4 @@
 -- `body_at` meets its contract. Assumes nothing.
-use borrow.Author.Rules.{rules}
 use Rattle.choice.proofs.turns.body_at.Goals as goal
 
 pub returns : goal.returns

@@ -1,7 +1,6 @@
 -- `either` meets its contract. Assumes nothing.
 use borrow.Author.Tests.{lt-ltb, le-ltb}
 use Rattle.choice.specs.Turns.{choice_turn}
-use borrow.Author.Rules.{rules}
 use Rattle.choice.proofs.turns.either.Goals as goal
 
 pub returns-then-c-k : goal.returns-then-c-k

@@ -2,7 +2,6 @@
 use mathlib.Core.Path.{◌≡◌, sym, ap, ◌∙◌}
 use Rattle.choice.specs.declared.Pick.{Pick}
 use Rattle.choice.specs.Turns.{pick_turn}
-use borrow.Author.Rules.{rules}
 use Rattle.choice.proofs.turns.part.Goals as goal
 use Rattle.choice.proofs.turns.part.Goals.{Start}
 

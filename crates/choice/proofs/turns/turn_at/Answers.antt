@@ -7,7 +7,6 @@ use Rattle.choice.specs.declared.Turn.{Turn}
 use Rattle.choice.specs.Picks.{total_of, pick_of}
 use Rattle.choice.specs.Turns.{Turned}
 use Rattle.choice.proofs.Turning.{Here, lower_nodes, lower_small, lower_room, turned_tick, turned_act, turned_seq, turned_par, turned_choice, turned_guarded, call_definition, turned_call}
-use borrow.Author.Rules.{rules}
 use Rattle.choice.proofs.turns.turn_at.Goals as goal
 use Rattle.choice.proofs.turns.turn_at.Goals.{After-q_at-q}
 

@@ -9,7 +9,6 @@ use Rattle.choice.specs.declared.Kept.{Kept}
 use Rattle.choice.specs.Turns.{kept_before, kept_after, kept_size}
 use Rattle.choice.specs.Writing.{RoomFor, Narrowed}
 use Rattle.choice.proofs.Gaps.{narrowed_none, narrowed_right, narrowed_left}
-use borrow.Author.Rules.{rules}
 use Rattle.choice.proofs.writing.put_kept.Goals as goal
 use Rattle.choice.proofs.writing.put_kept.Goals.{In-Left, In-Right, Start}
 

@@ -1,7 +1,6 @@
 -- `put_last` meets its contract. Assumes nothing.
 use native.Mathlib.Omega.{arith}
 use Rattle.choice.proofs.Gaps.{written_end}
-use borrow.Author.Rules.{rules}
 use Rattle.choice.proofs.writing.put_last.Goals as goal
 
 pub returns : goal.returns

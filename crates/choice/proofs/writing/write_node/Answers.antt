@@ -2,8 +2,8 @@
 use mathlib.Core.Path.{◌≡◌, subst, ◌∙◌}
 use Rattle.table.specs.Tables.{Table, table}
 use Rattle.choice.specs.declared.Turn.{Turn}
-use Rattle.choice.specs.Turns.{chosen_at, ahead, Ended, Onward, Turned}
-use Rattle.choice.proofs.Gaps.{Onto, onto_start, onto_last, onto_end, onto_room, onto_on}
+use Rattle.choice.specs.Turns.{chosen_at, Ended, Onward, Turned}
+use Rattle.choice.proofs.Gaps.{onto_start, onto_last, onto_end, onto_room, onto_on}
 use Rattle.choice.proofs.writing.write_node.Goals as goal
 use Rattle.choice.proofs.writing.write_node.Goals.{After-turn_at-turn, In-End, In-On}
 

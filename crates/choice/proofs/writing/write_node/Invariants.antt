@@ -1,9 +1,7 @@
 -- `write_node` meets its contract. Assumes nothing.
-use mathlib.Core.Path.{◌≡◌, subst, ◌∙◌}
-use Rattle.table.specs.Tables.{Table, table}
-use Rattle.choice.specs.declared.Turn.{Turn}
-use Rattle.choice.specs.Turns.{chosen_at, ahead, Ended, Onward, Turned}
-use Rattle.choice.proofs.Gaps.{Onto, onto_start, onto_last, onto_end, onto_room, onto_on}
+use Rattle.table.specs.Tables.{table}
+use Rattle.choice.specs.Turns.{ahead}
+use Rattle.choice.proofs.Gaps.{Onto}
 use Rattle.choice.proofs.writing.write_node.Given as goal
 
 abbrev pub invariant-loop-word : goal.invariant-loop-word

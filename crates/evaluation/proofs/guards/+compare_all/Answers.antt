@@ -1,8 +1,6 @@
 -- `evaluation::guards::compare_all` meets its contract. The measure is the set's word: a call is made without the lowest agent.
 -- Assumes nothing.
-use Prim.Native.Nat.{ℕ, ◌<◌}
 use native.Mathlib.Omega.{arith}
-use borrow.Author.Rules.{rules}
 use Rattle.basis.proofs.KeySets.{minus_less}
 use Rattle.evaluation.proofs.Steps.{comparison_found}
 use Rattle.evaluation.proofs.Sets.{found_nobody, found_more}

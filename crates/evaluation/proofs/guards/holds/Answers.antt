@@ -1,7 +1,6 @@
 -- `evaluation::guards::holds` meets its contract: the receiver alone is asked for.
 -- Assumes nothing.
 use mathlib.Core.Path.{sym, ◌∙◌}
-use borrow.Author.Rules.{rules}
 use Rattle.evaluation.proofs.Sets.{alone}
 use Rattle.evaluation.proofs.guards.holds.Goals as goal
 

@@ -1,7 +1,6 @@
 -- `evaluation::guards::links_hold` meets its contract.
 -- Assumes nothing.
 use mathlib.Core.Path.{sym}
-use borrow.Author.Rules.{rules}
 use Rattle.evaluation.proofs.guards.links_hold.Goals as goal
 
 pub returns : goal.returns

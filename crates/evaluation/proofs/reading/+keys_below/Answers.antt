@@ -1,12 +1,9 @@
 -- `evaluation::reading::keys_below` meets its contract. The measure is the limit: a call's limit is the node, which is below it.
 -- Assumes nothing.
-use Prim.Native.Nat.{ℕ, ◌<◌}
+use Prim.Native.Nat.{ℕ}
 use mathlib.Core.Bool.{◌&&◌}
-use mathlib.Core.Logic.{⊎_elim}
 use mathlib.Core.Path.{sym, ap, ◌∙◌}
 use native.Mathlib.Omega.{arith}
-use borrow.Author.Rules.{rules}
-use borrow.Author.Tests.{not-true, not-false}
 use Rattle.table.specs.declared.Fields.{Fields}
 use Rattle.table.specs.Tables.{Table, table, p_at}
 use Rattle.table.specs.Nodes.{is_node, left_node}

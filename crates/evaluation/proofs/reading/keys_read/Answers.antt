@@ -1,6 +1,5 @@
 -- `evaluation::reading::keys_read` meets its contract.
 -- Assumes nothing.
-use borrow.Author.Rules.{rules}
 use Rattle.evaluation.proofs.Adding.{adds_all}
 use Rattle.evaluation.proofs.reading.keys_read.Goals as goal
 

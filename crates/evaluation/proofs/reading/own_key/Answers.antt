@@ -1,7 +1,6 @@
 -- `evaluation::reading::own_key` meets its contract.
 -- Assumes nothing.
 use native.Mathlib.Omega.{arith}
-use borrow.Author.Rules.{rules}
 use Rattle.table.specs.Tables.{table}
 use Rattle.evaluation.proofs.Adding.{key_none, key_past, key_there}
 use Rattle.evaluation.proofs.reading.own_key.Goals as goal

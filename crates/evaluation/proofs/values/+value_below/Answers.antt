@@ -1,9 +1,6 @@
 -- `evaluation::values::value_below` meets its contract: the kind picks the case. The measure is the limit: a call's limit is the node, which is below it.
 -- Assumes nothing.
-use Prim.Native.Nat.{ℕ, ◌<◌}
 use mathlib.Core.Path.{sym, ap}
-use native.Mathlib.Omega.{arith}
-use borrow.Author.Rules.{rules}
 use borrow.Author.Tests.{ne_eqb}
 use Rattle.value.specs.declared.Value.TheVariants.{Present}
 use Rattle.state.specs.Evaluation.{value_step}

@@ -1,7 +1,6 @@
 -- `evaluation::values::value_of` meets its contract.
 -- Assumes nothing.
 use mathlib.Core.Path.{sym}
-use borrow.Author.Rules.{rules}
 use Rattle.evaluation.proofs.values.value_of.Goals as goal
 
 pub returns : goal.returns

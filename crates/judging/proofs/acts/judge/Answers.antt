@@ -1,7 +1,6 @@
 -- `judging::acts::judge` meets its contract.
 -- Assumes nothing.
 use native.Mathlib.Omega.{arith}
-use borrow.Author.Rules.{rules}
 use Prim.Native.Nat.{◌≤◌}
 use lib.ListN.{get_or}
 use Rattle.state.specs.Layout.{residual_words}

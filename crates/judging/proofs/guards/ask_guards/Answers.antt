@@ -3,9 +3,8 @@
 -- Assumes nothing.
 use Prim.Native.Nat.{ℕ, ◌-◌, ◌<◌}
 use mathlib.Core.Bool.{Bool, false, not}
-use mathlib.Core.Path.{◌≡◌, refl, sym, ◌∙◌}
+use mathlib.Core.Path.{refl, sym, ◌∙◌}
 use native.Mathlib.Omega.{arith}
-use borrow.Author.Rules.{rules}
 use borrow.Author.Tests.{not-true, not-false}
 use Rattle.basis.specs.Numbers.{some_below}
 use Rattle.basis.proofs.Numbers.{some_at}
@@ -13,9 +12,8 @@ use Rattle.basis.proofs.Tests.{and_both}
 use Rattle.table.specs.Tables.{Table, table}
 use Rattle.state.specs.Evaluation.{holds}
 use Rattle.choice.proofs.Searching.{some_skip, some_next}
-use Rattle.evaluation.specs.Reading.{Adds}
 use Rattle.evaluation.proofs.Adding.{adds_none}
-use Rattle.judging.proofs.Asking.{some_fails, all_held, marked_reads, reads_more, reads_all, asked_hold, asked_fails}
+use Rattle.judging.proofs.Asking.{all_held, reads_more, reads_all, asked_hold, asked_fails}
 use mathlib.Core.Path.{ap}
 use mathlib.Core.Bool.{not}
 use Rattle.judging.proofs.guards.ask_guards.Goals as goal

@@ -1,19 +1,10 @@
 -- `judging::guards::ask_guards` meets its contract. The loop's invariant: no marked guard before n fails, and the keys
-use Prim.Native.Nat.{ℕ, ◌-◌, ◌<◌}
-use mathlib.Core.Bool.{Bool, false, not}
-use mathlib.Core.Path.{◌≡◌, refl, sym, ◌∙◌}
-use native.Mathlib.Omega.{arith}
-use borrow.Author.Rules.{rules}
-use borrow.Author.Tests.{not-true, not-false}
-use Rattle.basis.specs.Numbers.{some_below}
-use Rattle.basis.proofs.Numbers.{some_at}
-use Rattle.basis.proofs.Tests.{and_both}
-use Rattle.table.specs.Tables.{Table, table}
-use Rattle.state.specs.Evaluation.{holds}
-use Rattle.choice.proofs.Searching.{some_skip, some_next}
+use Prim.Native.Nat.{◌-◌}
+use mathlib.Core.Bool.{false}
+use mathlib.Core.Path.{◌≡◌}
+use Rattle.table.specs.Tables.{table}
 use Rattle.evaluation.specs.Reading.{Adds}
-use Rattle.evaluation.proofs.Adding.{adds_none}
-use Rattle.judging.proofs.Asking.{some_fails, all_held, marked_reads, reads_more, reads_all, asked_hold, asked_fails}
+use Rattle.judging.proofs.Asking.{some_fails, marked_reads}
 use Rattle.judging.proofs.guards.ask_guards.Given as goal
 
 abbrev pub invariant-loop-n : goal.invariant-loop-n

@@ -1,7 +1,6 @@
 -- `judging::outcomes::judge_action` meets its contract.
 -- Assumes nothing.
 use mathlib.Core.Path.{◌≡◌, sym, ap, ◌∙◌}
-use borrow.Author.Rules.{rules}
 use Rattle.table.specs.Tables.{Table, table}
 use Rattle.state.specs.Evaluation.{value_of}
 use Rattle.steps.specs.Acts.{value_for}

@@ -1,7 +1,6 @@
 -- `judging::outcomes::judge_outcome` meets its contract.
 -- Assumes nothing.
 use mathlib.Core.Path.{sym, subst}
-use borrow.Author.Rules.{rules}
 use Rattle.term.specs.declared.Label.{Label}
 use Rattle.table.specs.Tables.{Table, table}
 use Rattle.judging.specs.Outcomes.{Doing, Ended}

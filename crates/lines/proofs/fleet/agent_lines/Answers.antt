@@ -8,7 +8,6 @@ use lib.ListN.{length, get_or, length-append}
 use Rattle.lines.specs.Text.{ascii}
 use Rattle.lines.specs.Lines.{pending_lines, agent_lines}
 use Rattle.lines.proofs.Writing.{room_same, wrote_same, wrote_then}
-use borrow.Author.Rules.{rules}
 use Rattle.lines.proofs.fleet.agent_lines.Goals as goal
 
 -- the set that is read at a place

@@ -1,9 +1,8 @@
 -- `lines::fleet::fleet_lines` meets its contract: the lines of the agents below the loop's have been written.
 -- Assumes nothing.
 use Prim.Native.Nat.{◌-◌}
-use Rattle.lines.specs.Lines.{agent_lines}
 use Rattle.lines.proofs.Writing.{wrote_length}
-use Rattle.lines.proofs.Each.{Each, each_none, each_room, each_more, each_all}
+use Rattle.lines.proofs.Each.{each_none, each_room, each_more, each_all}
 use borrow.Author.Rules.{rules}
 use Rattle.lines.proofs.fleet.fleet_lines.Goals as goal
 

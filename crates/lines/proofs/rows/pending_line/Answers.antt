@@ -6,7 +6,6 @@ use lib.ListN.{length-append}
 use Rattle.lines.specs.Text.{ascii, decimal, line, spaced}
 use Rattle.lines.specs.Lines.{pending_line}
 use Rattle.lines.proofs.Writing.{wrote_same, wrote_then, line_size}
-use borrow.Author.Rules.{rules}
 use Rattle.lines.proofs.rows.pending_line.Goals as goal
 
 pub put_named-next-requires : goal.put_named-next-requires

@@ -6,7 +6,6 @@ use native.Mathlib.Omega.{arith}
 use lib.ListN.{length}
 use Rattle.lines.specs.Text.{decimal, spaced}
 use Rattle.lines.proofs.Writing.{wrote_then, spaced_size}
-use borrow.Author.Rules.{rules}
 use Rattle.lines.proofs.rows.tally_end.Goals as goal
 
 -- equal numbers have as many digits

@@ -4,7 +4,6 @@ use native.Mathlib.Omega.{arith}
 use Rattle.lines.specs.Text.{line, spaced}
 use Rattle.lines.specs.Lines.{totals_line}
 use Rattle.lines.proofs.Writing.{wrote_then, spaced_size, line_size}
-use borrow.Author.Rules.{rules}
 use Rattle.lines.proofs.rows.totals_line.Goals as goal
 
 pub put_named-next-requires : goal.put_named-next-requires

@@ -9,7 +9,6 @@ use Rattle.state.specs.declared.Store.{Store}
 use Rattle.state.specs.Layout.{value_in}
 use Rattle.lines.specs.Lines.{value_line, key_line}
 use Rattle.lines.proofs.Writing.{room_same, wrote_same, wrote_nothing}
-use borrow.Author.Rules.{rules}
 use Rattle.lines.proofs.stores.key_line.Goals as goal
 
 module _ (s : List ℕ) (store : Store) (key : ℕ) where

@@ -8,7 +8,6 @@ use native.Mathlib.Omega.{arith}
 use Rattle.basis.specs.KeySets.{has}
 use Rattle.lines.specs.Lines.{pending_line, member_line}
 use Rattle.lines.proofs.Writing.{room_same, wrote_same, wrote_nothing}
-use borrow.Author.Rules.{rules}
 use Rattle.lines.proofs.stores.member_line.Goals as goal
 
 module _ (name : List ℕ) (agent keys key : ℕ) where

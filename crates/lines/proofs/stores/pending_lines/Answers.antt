@@ -1,10 +1,8 @@
 -- `lines::stores::pending_lines` meets its contract: the lines of the keys below the loop's have been written.
 -- Assumes nothing.
 use Prim.Native.Nat.{◌-◌}
-use Rattle.table.specs.Tables.{key_limit}
-use Rattle.lines.specs.Lines.{member_line}
 use Rattle.lines.proofs.Writing.{wrote_length}
-use Rattle.lines.proofs.Each.{Each, each_none, each_room, each_more, each_all}
+use Rattle.lines.proofs.Each.{each_none, each_room, each_more, each_all}
 use borrow.Author.Rules.{rules}
 use Rattle.lines.proofs.stores.pending_lines.Goals as goal
 

@@ -2,9 +2,7 @@
 use Prim.Native.Nat.{◌-◌}
 use Rattle.table.specs.Tables.{key_limit}
 use Rattle.lines.specs.Lines.{key_line}
-use Rattle.lines.proofs.Writing.{wrote_length}
-use Rattle.lines.proofs.Each.{Each, each_none, each_room, each_more, each_all}
-use borrow.Author.Rules.{rules}
+use Rattle.lines.proofs.Each.{Each}
 use Rattle.lines.proofs.stores.store_lines.Given as goal
 
 abbrev pub invariant-loop-key : goal.invariant-loop-key

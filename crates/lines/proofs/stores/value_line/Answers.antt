@@ -9,7 +9,6 @@ use Rattle.state.specs.Entries.{entry_of}
 use Rattle.state.specs.Standing.{Pair}
 use Rattle.lines.specs.Lines.{entry_line, value_line}
 use Rattle.lines.proofs.Writing.{room_same, wrote_same}
-use borrow.Author.Rules.{rules}
 use Rattle.lines.proofs.stores.value_line.Goals as goal
 
 module _ (s : List ℕ) (key word : ℕ) where

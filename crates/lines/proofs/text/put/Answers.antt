@@ -1,16 +1,9 @@
 -- `lines::text::put` meets its contract: the bytes below the loop's have been copied.
 -- Assumes nothing.
-use Prim.Native.Nat.{ℕ, suc, ◌+◌, ◌-◌, ◌≤◌}
-use mathlib.Core.Path.{◌≡◌, ap, ◌∙◌}
-use mathlib.Core.List.{List}
-use native.Mathlib.Numerals.{add-one}
-use native.Mathlib.Omega.{arith}
-use lib.ListN.{length, get_or, set}
-use lib.Seq.{paste, paste-zero, paste-suc, length-paste}
+use Prim.Native.Nat.{◌-◌}
 use borrow.Author.Rules.{rules}
-use Rattle.lines.specs.Writing.{Room}
 use Rattle.lines.proofs.Writing.{wrote_all}
-use Rattle.lines.proofs.Copying.{Copied, none, more}
+use Rattle.lines.proofs.Copying.{none, more}
 use Rattle.lines.proofs.text.put.Goals as goal
 
 pub loop-i-init : goal.loop-i-init

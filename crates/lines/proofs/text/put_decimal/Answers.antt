@@ -1,7 +1,6 @@
 -- `lines::text::put_decimal` meets its contract.
 -- Assumes nothing.
 use mathlib.Core.Path.{sym, ◌∙◌}
-use borrow.Author.Rules.{rules}
 use Rattle.lines.proofs.Writing.{room_same, wrote_same}
 use Rattle.lines.proofs.Decimal.{decimal_is}
 use Rattle.lines.proofs.text.put_decimal.Goals as goal

@@ -5,7 +5,6 @@ use native.Mathlib.Omega.{arith}
 use lib.ListN.{length-append}
 use Rattle.lines.specs.Text.{ascii, decimal}
 use Rattle.lines.proofs.Writing.{wrote_then}
-use borrow.Author.Rules.{rules}
 use Rattle.lines.proofs.text.put_named.Goals as goal
 
 pub put-next-requires : goal.put-next-requires

@@ -1,7 +1,6 @@
 -- `lines::text::put_number` meets its contract.
 -- Assumes nothing.
 use Rattle.lines.proofs.Writing.{wrote_then}
-use borrow.Author.Rules.{rules}
 use Rattle.lines.proofs.text.put_number.Goals as goal
 
 pub returns : goal.returns

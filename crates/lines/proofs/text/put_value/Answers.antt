@@ -8,7 +8,6 @@ use Rattle.lines.specs.Text.{ascii, decimal}
 use Rattle.lines.specs.Lines.{value}
 use Rattle.lines.proofs.Decimal.{value_low, value_high}
 use Rattle.lines.proofs.Writing.{room_same, wrote_same, wrote_then}
-use borrow.Author.Rules.{rules}
 use Rattle.lines.proofs.text.put_value.Goals as goal
 
 low : (w : ℕ) → w < 2147483648 → ascii " " ++ value w ≡ ascii " " ++ decimal w

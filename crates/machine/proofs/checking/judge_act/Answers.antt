@@ -5,7 +5,6 @@ use Rattle.table.specs.Tables.{Table, table}
 use Rattle.judging.specs.declared.Judgement.{Judgement}
 use Rattle.judging.specs.Judging.{Judges}
 use Rattle.machine.proofs.Outcomes.{act_refused, act_allowed}
-use borrow.Author.Rules.{rules}
 use Rattle.machine.proofs.checking.judge_act.Goals as goal
 use Rattle.machine.proofs.checking.judge_act.Goals.{After-judge-found, Start}
 

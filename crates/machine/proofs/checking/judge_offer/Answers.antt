@@ -1,8 +1,6 @@
 -- `machine::checking::judge_offer` meets its contract.
 -- Assumes nothing.
 use mathlib.Core.Path.{sym, ◌∙◌}
-use borrow.Author.Rules.{rules}
-use borrow.Author.Tests.{not-true, not-false}
 use Rattle.machine.proofs.checking.judge_offer.Goals as goal
 
 pub returns-then-not-has : goal.returns-then-not-has

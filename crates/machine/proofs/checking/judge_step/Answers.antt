@@ -15,7 +15,6 @@ use Rattle.machine.specs.declared.Judged.{Judged}
 use Rattle.machine.specs.Stepping.{own_step, offer_kind, StepJudged}
 use Rattle.machine.proofs.Ranges.{offer_kind_lem}
 use Rattle.machine.proofs.Outcomes.{step_out, step_own, offer_judged}
-use borrow.Author.Rules.{rules}
 use Rattle.machine.proofs.checking.judge_step.Goals as goal
 use Rattle.machine.proofs.checking.judge_step.Goals.{Start}
 

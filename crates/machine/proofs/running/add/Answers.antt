@@ -1,7 +1,6 @@
 -- `machine::running::add` meets its contract.
 -- Assumes nothing.
 use Rattle.machine.proofs.Sums.{added_done, added_refused}
-use borrow.Author.Rules.{rules}
 use Rattle.machine.proofs.running.add.Goals as goal
 
 pub add_tally-requires : goal.add_tally-requires

@@ -4,7 +4,6 @@ use Prim.Native.Nat.{ℕ}
 use mathlib.Core.Path.{◌≡◌}
 use mathlib.Core.List.{List}
 use native.Mathlib.Omega.{arith}
-use borrow.Author.Rules.{rules}
 use Rattle.steps.specs.Runs.{steps_of}
 use Rattle.machine.proofs.Schedules.{schedule_short, schedule_odd, schedule_long, answers_short, schedule_passes}
 use Rattle.machine.proofs.running.judge_schedule.Goals as goal

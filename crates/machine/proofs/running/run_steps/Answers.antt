@@ -1,13 +1,12 @@
 -- `machine::running::run_steps` meets its contract.
 -- Assumes nothing.
-use Prim.Native.Nat.{ℕ, ◌+◌, ◌-◌, ◌<◌, ◌≤◌}
+use Prim.Native.Nat.{ℕ, ◌+◌, ◌-◌, ◌<◌}
 use mathlib.Core.Path.{◌≡◌, sym, subst}
 use mathlib.Core.List.{List}
 use native.Mathlib.Omega.{arith}
 use mir.Syntax.{w8}
 use mir.Val.{Fits}
 use lib.ListN.{get_or, set}
-use borrow.Author.Rules.{rules}
 use Rattle.table.specs.Tables.{Table, table}
 use Rattle.steps.specs.Runs.{begun, ran}
 use Rattle.machine.specs.declared.Totals.{Totals}

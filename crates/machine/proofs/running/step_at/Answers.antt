@@ -8,7 +8,6 @@ use Rattle.table.specs.Tables.{Table, table}
 use Rattle.steps.specs.Steps.{step_in}
 use Rattle.steps.specs.Runs.{kind_in, agent_in, number_in}
 use Rattle.machine.specs.Answers.{Steps}
-use borrow.Author.Rules.{rules}
 use Rattle.machine.proofs.running.step_at.Goals as goal
 use Rattle.machine.proofs.running.step_at.Goals.{Start}
 

@@ -7,7 +7,6 @@ use Rattle.table.specs.Tables.{Table, table}
 use Rattle.machine.specs.declared.Judged.{Judged}
 use Rattle.machine.specs.Stepping.{Finishing}
 use Rattle.machine.proofs.Outcomes.{finish_refused, finish_act, finish_offer}
-use borrow.Author.Rules.{rules}
 use Rattle.machine.proofs.stepping.finish.Goals as goal
 use Rattle.machine.proofs.stepping.finish.Goals.{Start}
 

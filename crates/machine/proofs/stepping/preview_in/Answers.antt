@@ -9,7 +9,6 @@ use Rattle.table.specs.Tables.{Table, table}
 use Rattle.machine.specs.declared.Judged.{Judged}
 use Rattle.machine.specs.Stepping.{into}
 use Rattle.machine.proofs.Outcomes.{steps_as, Copied, copied_asked, copied_finished}
-use borrow.Author.Rules.{rules}
 use Rattle.machine.proofs.stepping.preview_in.Goals as goal
 use Rattle.machine.proofs.stepping.preview_in.Goals.{Joined-is_allowed, Start, then-is_allowed, else-is_allowed}
 

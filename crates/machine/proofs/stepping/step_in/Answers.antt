@@ -1,7 +1,6 @@
 -- `machine::stepping::step_in` meets its contract.
 -- Assumes nothing.
 use Rattle.machine.proofs.Outcomes.{steps_as}
-use borrow.Author.Rules.{rules}
 use Rattle.machine.proofs.stepping.step_in.Goals as goal
 
 pub returns : goal.returns

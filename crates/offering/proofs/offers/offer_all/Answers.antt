@@ -1,16 +1,14 @@
 -- `offer_all` meets its contract: after the turns of the agents below `other` the words and the tally are those of these turns.
 -- Assumes nothing.
-use Prim.Native.Nat.{◌-◌, ◌<◌, ◌≤◌}
+use Prim.Native.Nat.{◌-◌, ◌<◌}
 use mathlib.Core.Path.{◌≡◌, refl, ap, ◌∙◌}
 use native.Mathlib.Omega.{arith}
 use lib.ListN.{length}
-use borrow.Author.Rules.{rules}
 use Rattle.basis.specs.Numbers.{for_each, how_many}
-use Rattle.table.specs.Tables.{table}
 use Rattle.state.specs.declared.Store.TheVariants.{Entries}
 use Rattle.state.specs.Standing.{Pair, HasBlocks}
 use Rattle.steps.proofs.Offers.{offered_length}
-use Rattle.offering.proofs.Turns.{Turns, few_take, next_turn, responds, nobody, counts_once}
+use Rattle.offering.proofs.Turns.{few_take, next_turn, responds, nobody, counts_once}
 use Rattle.offering.proofs.offers.offer_all.Goals as goal
 use Rattle.offering.proofs.offers.offer_all.Goals.{At-loop-other}
 

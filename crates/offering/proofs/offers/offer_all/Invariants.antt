@@ -1,15 +1,7 @@
 -- `offer_all` meets its contract: after the turns of the agents below `other` the words and the tally are those of these turns.
-use Prim.Native.Nat.{◌-◌, ◌<◌, ◌≤◌}
-use mathlib.Core.Path.{◌≡◌, refl, ap, ◌∙◌}
-use native.Mathlib.Omega.{arith}
-use lib.ListN.{length}
-use borrow.Author.Rules.{rules}
-use Rattle.basis.specs.Numbers.{for_each, how_many}
+use Prim.Native.Nat.{◌-◌, ◌≤◌}
 use Rattle.table.specs.Tables.{table}
-use Rattle.state.specs.declared.Store.TheVariants.{Entries}
-use Rattle.state.specs.Standing.{Pair, HasBlocks}
-use Rattle.steps.proofs.Offers.{offered_length}
-use Rattle.offering.proofs.Turns.{Turns, few_take, next_turn, responds, nobody, counts_once}
+use Rattle.offering.proofs.Turns.{Turns}
 use Rattle.offering.proofs.offers.offer_all.Given as goal
 
 abbrev pub invariant-loop-other : goal.invariant-loop-other

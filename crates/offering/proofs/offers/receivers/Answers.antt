@@ -1,8 +1,7 @@
 -- `receivers` meets its contract: at `other` the set holds the agents below it. Assumes nothing.
-use Prim.Native.Nat.{◌-◌, ◌≤◌}
+use Prim.Native.Nat.{◌-◌}
 use mathlib.Core.Path.{◌≡◌, sym, ◌∙◌}
 use native.Mathlib.Omega.{arith}
-use borrow.Author.Rules.{rules}
 use Rattle.basis.proofs.KeySets.{plus_if_twice, plus_all_zero}
 use Rattle.offering.specs.Passing.{touched}
 use Rattle.offering.proofs.Turns.{set_more}

@@ -2,7 +2,6 @@
 use Prim.Native.Nat.{ℕ}
 use mathlib.Core.Bool.{Bool, true}
 use mathlib.Core.Path.{◌≡◌, sym, ap, ◌∙◌}
-use borrow.Author.Rules.{rules}
 use Rattle.basis.specs.KeySets.{has}
 use Rattle.state.specs.declared.Entry.{Entry}
 use Rattle.state.specs.declared.Insertion.{Insertion}

@@ -1,5 +1,4 @@
 -- `rule_tally` meets its contract. Assumes nothing.
-use borrow.Author.Rules.{rules}
 use Rattle.offering.proofs.responses.rule_tally.Goals as goal
 
 pub returns-in-Add : goal.returns-in-Add

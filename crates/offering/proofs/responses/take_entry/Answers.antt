@@ -1,6 +1,5 @@
 -- `take_entry` meets its contract. Assumes nothing.
 use Rattle.steps.specs.Offers.{take_entry}
-use borrow.Author.Rules.{rules}
 use Rattle.offering.proofs.responses.take_entry.Goals as goal
 
 pub returns : goal.returns

@@ -1,6 +1,5 @@
 -- `write_response` meets its contract, by the response. Assumes nothing.
 use Rattle.steps.specs.Offers.{responded}
-use borrow.Author.Rules.{rules}
 use Rattle.offering.proofs.responses.write_response.Goals as goal
 
 pub returns-in-Takes : goal.returns-in-Takes

@@ -6,7 +6,6 @@ use Rattle.table.specs.Checks.{place_of}
 use Rattle.opening.specs.declared.Answer.{Answer}
 use Rattle.opening.specs.Answers.{answer_check}
 use Rattle.rehearsal.specs.Packing.{packed}
-use borrow.Author.Rules.{rules}
 use Rattle.rehearsal.proofs.packing.pack_answer.Goals as goal
 
 pub pack_refusal-requires : goal.pack_refusal-requires

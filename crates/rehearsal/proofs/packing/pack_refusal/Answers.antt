@@ -1,7 +1,6 @@
 -- `rehearsal::packing::pack_refusal` meets its contract.
 -- Assumes nothing.
 use mathlib.Core.Path.{refl}
-use borrow.Author.Rules.{rules}
 use Rattle.rehearsal.proofs.packing.pack_refusal.Goals as goal
 
 pub returns : goal.returns

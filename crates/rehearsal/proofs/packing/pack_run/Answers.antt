@@ -6,7 +6,6 @@ use Rattle.table.specs.Checks.{place_of}
 use Rattle.machine.specs.declared.Ran.{Ran}
 use Rattle.machine.specs.Answers.{run_check}
 use Rattle.rehearsal.specs.Packing.{packed}
-use borrow.Author.Rules.{rules}
 use Rattle.rehearsal.proofs.packing.pack_run.Goals as goal
 
 pub pack_refusal-requires : goal.pack_refusal-requires

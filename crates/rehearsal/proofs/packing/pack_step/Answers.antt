@@ -6,7 +6,6 @@ use Rattle.table.specs.Checks.{place_of}
 use Rattle.machine.specs.declared.Stepped.{Stepped}
 use Rattle.machine.specs.Answers.{step_check, step_tally}
 use Rattle.rehearsal.specs.Packing.{packed, packed_tally}
-use borrow.Author.Rules.{rules}
 use Rattle.rehearsal.proofs.packing.pack_step.Goals as goal
 
 pub pack_refusal-requires : goal.pack_refusal-requires

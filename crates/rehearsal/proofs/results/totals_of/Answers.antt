@@ -1,6 +1,5 @@
 -- `rehearsal::results::totals_of` meets its contract.
 -- Assumes nothing.
-use borrow.Author.Rules.{rules}
 use Rattle.rehearsal.proofs.results.totals_of.Goals as goal
 
 pub returns-in-Refused : goal.returns-in-Refused

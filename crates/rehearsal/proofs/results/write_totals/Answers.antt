@@ -1,6 +1,5 @@
 -- `rehearsal::results::write_totals` meets its contract.
 -- Assumes nothing.
-use borrow.Author.Rules.{rules}
 use Rattle.rehearsal.proofs.Written.{totals_written}
 use Rattle.rehearsal.proofs.results.write_totals.Goals as goal
 

@@ -1,5 +1,4 @@
 -- `Cursor::read` meets its contract. Assumes nothing.
-use borrow.Author.Rules.{rules}
 use borrow.Author.Tests.{lt-ltb, le-ltb}
 use Rattle.residual.proofs.Cursor.read.Goals as goal
 

@@ -7,7 +7,6 @@ use Rattle.table.specs.Sound.{Limits}
 use Rattle.table.specs.Tables.{Table, first_root, roots_of}
 use Rattle.residual.proofs.Standing.{pairs_ready}
 use Rattle.residual.proofs.Residuals.{offered}
-use borrow.Author.Rules.{rules}
 use Rattle.residual.proofs.choosing.count_choices.Goals as goal
 use Rattle.residual.proofs.choosing.count_choices.Goals.{After-first_root}
 

@@ -10,7 +10,6 @@ use Rattle.term.specs.Terms.{words}
 use Rattle.term.specs.Processes.{process, derivation_at}
 use Rattle.residual.specs.Wholes.{residual_term, Placed}
 use Rattle.residual.proofs.Residuals.{moved_up, rewritten}
-use borrow.Author.Rules.{rules}
 use Rattle.residual.proofs.choosing.rewrite.Goals as goal
 use Rattle.residual.proofs.choosing.rewrite.Goals.{After-place-gap}
 

@@ -1,6 +1,5 @@
 -- `combined` meets its contract. Assumes nothing.
 use borrow.Author.Tests.{eq-eqb, ne_eqb}
-use borrow.Author.Rules.{rules}
 use Rattle.residual.specs.Measures.{operator_counts}
 use Rattle.residual.proofs.counting.combined.Goals as goal
 

@@ -1,6 +1,5 @@
 -- `few` meets its contract. Assumes nothing.
 use mathlib.Core.Path.{refl}
-use borrow.Author.Rules.{rules}
 use Rattle.residual.proofs.counting.few.Goals as goal
 
 pub returns : goal.returns

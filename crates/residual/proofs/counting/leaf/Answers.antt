@@ -1,7 +1,6 @@
 -- `leaf` meets its contract. Assumes nothing.
 use mathlib.Core.Path.{refl}
 use borrow.Author.Tests.{eq-eqb, ne_eqb, lt-ltb, le-ltb}
-use borrow.Author.Rules.{rules}
 use Rattle.residual.specs.Measures.{leaf_counts}
 use Rattle.residual.proofs.counting.leaf.Goals as goal
 

@@ -1,9 +1,8 @@
 -- `copy_within` meets its contract. Assumes nothing.
 use mathlib.Core.Path.{◌≡◌}
-use Prim.Native.Nat.{◌+◌, ◌-◌, ◌≤◌}
+use Prim.Native.Nat.{◌+◌, ◌-◌}
 use native.Mathlib.Omega.{arith}
 use native.Mathlib.Nat.{add-zero}
-use Rattle.residual.specs.Moves.{Moved}
 use Rattle.residual.proofs.Moving.{moved_none, down_step, up_step}
 use Rattle.residual.proofs.moves.copy_within.Goals as goal
 

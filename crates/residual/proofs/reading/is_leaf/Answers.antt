@@ -1,5 +1,4 @@
 -- `is_leaf` meets its contract. Assumes nothing.
-use borrow.Author.Rules.{rules}
 use borrow.Author.Tests.{eq-eqb, ne_eqb, lt-ltb, le-ltb}
 use Rattle.residual.proofs.reading.is_leaf.Goals as goal
 

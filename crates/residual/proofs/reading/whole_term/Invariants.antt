@@ -1,16 +1,9 @@
 -- `whole_term` meets its contract. Assumes nothing.
-use Prim.Native.Nat.{ℕ, ◌+◌, ◌-◌, ◌≤◌, ◌<◌}
-use mathlib.Core.List.{List}
-use mathlib.Core.Path.{◌≡◌, refl, sym, ◌∙◌}
-use native.Mathlib.Omega.{arith}
-use borrow.Author.Rules.{rules}
+use Prim.Native.Nat.{◌+◌, ◌-◌, ◌≤◌}
+use mathlib.Core.Path.{◌≡◌}
 use lib.ListN.{length, drop}
-use borrow.Author.Tests.{not-true, not-false}
-use Rattle.residual.specs.declared.Read.TheVariants.{Word}
-use Rattle.residual.specs.Reading.{read_at}
-use Rattle.table.specs.Tables.{Table, table, first_root}
+use Rattle.table.specs.Tables.{Table, first_root}
 use Rattle.term.specs.Terms.{are_terms}
-use Rattle.residual.proofs.Whole.{read_word, read_end, are_end, are_none, are_operator, are_leaf, are_bad}
 use Rattle.residual.proofs.reading.whole_term.Given as goal
 
 -- so many terms are to come in what is left of the words

@@ -1,7 +1,6 @@
 -- `beside` meets its contract. Assumes nothing.
 use borrow.Author.Tests.{eq-eqb, ne_eqb}
 use Rattle.residual.specs.Steps.{beside_of}
-use borrow.Author.Rules.{rules}
 use Rattle.residual.proofs.steps.beside.Goals as goal
 
 pub returns-then-word-eq-SEQ_WORD : goal.returns-then-word-eq-SEQ_WORD

@@ -9,7 +9,6 @@ use Rattle.residual.specs.Steps.{Stepped}
 use Rattle.residual.proofs.Standing.{stands_here}
 use Rattle.residual.proofs.Stepping.{on_operator, on_tick, on_leaf}
 use Rattle.residual.proofs.Whole.{read_word, read_end}
-use borrow.Author.Rules.{rules}
 use Rattle.residual.proofs.steps.step_at.Goals as goal
 use Rattle.residual.proofs.steps.step_at.Goals.{In-Word}
 

@@ -1,5 +1,4 @@
 -- `toward` meets its contract. Assumes nothing.
-use borrow.Author.Rules.{rules}
 use Rattle.residual.proofs.steps.toward.Goals as goal
 
 pub returns-in-LeftActs : goal.returns-in-LeftActs

@@ -1,20 +1,11 @@
 -- `place` meets its contract: the loop steps towards choice c (`Spot`), and the words before the gap are what it leaves of those passed.
-use Prim.Native.Nat.{ℕ, ◌-◌, ◌≤◌, ◌<◌}
-use mathlib.Core.List.{List}
-use mathlib.Core.Path.{◌≡◌, sym, ap, subst}
-use native.Mathlib.Omega.{arith}
+use Prim.Native.Nat.{◌-◌}
 use lib.ListN.{length, drop}
-use Rattle.table.specs.Tables.{Table, table}
+use Rattle.table.specs.Tables.{table}
 use Rattle.term.specs.Terms.{words as words_of}
-use Rattle.term.specs.Processes.{Derivation, process, derivation_at}
-use Rattle.choice.specs.Turns.{Prepared}
-use Rattle.residual.specs.declared.Step.{Step}
-use Rattle.residual.specs.declared.Target.{Target}
-use Rattle.residual.specs.Steps.{Stepped}
+use Rattle.term.specs.Processes.{process, derivation_at}
 use Rattle.residual.specs.Wholes.{residual_term}
-use Rattle.residual.proofs.Standing.{pairs_ready, stands_here}
-use Rattle.residual.proofs.Placing.{Spot, acts_bound, spot_acts, joins_bound, spot_joins, placed, room_node}
-use Rattle.residual.proofs.Residuals.{spot_whole}
+use Rattle.residual.proofs.Placing.{Spot}
 use Rattle.residual.proofs.writing.place.Given as goal
 
 abbrev pub invariant-loop-words : goal.invariant-loop-words

@@ -7,7 +7,6 @@ use Rattle.steps.specs.Shelves.{shelf_formed}
 use Rattle.opening.proofs.Accepting.{told_parts}
 use Rattle.shelf.proofs.Judging.{judged_formed, judged_broken, judged_earlier}
 use Rattle.shelf.proofs.Given.{form_given}
-use borrow.Author.Rules.{rules}
 use Rattle.shelf.proofs.forming.judge_shelf.Goals as goal
 
 pub overflow_add-operands : goal.overflow_add-operands

@@ -10,7 +10,6 @@ use Rattle.table.specs.Tables.{table}
 use Rattle.state.specs.WellFormed.{well_formed}
 use Rattle.steps.specs.Shelves.{name_limit, name_of, place_of, place_formed}
 use Rattle.shelf.proofs.Finding.{part_saved}
-use borrow.Author.Rules.{rules}
 use Rattle.shelf.proofs.forming.place_formed.Goals as goal
 use Rattle.shelf.proofs.forming.place_formed.Goals.{Else-name-eq0, Else-name-gt-NAME_LIMIT, Else-place_of-place, Start}
 

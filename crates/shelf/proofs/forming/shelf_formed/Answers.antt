@@ -1,17 +1,13 @@
 -- `shelf::forming::shelf_formed` meets its contract: the places below the loop's are well-formed.
 -- Assumes nothing.
-use Prim.Native.Nat.{ℕ, ◌-◌, ◌≤◌}
+use Prim.Native.Nat.{◌-◌}
 use mathlib.Core.Bool.{true}
-use mathlib.Core.List.{List}
 use mathlib.Core.Path.{◌≡◌, refl, sym, ◌∙◌}
 use native.Mathlib.Omega.{arith}
-use borrow.Author.Tests.{not-true, not-false}
 use Rattle.basis.specs.Numbers.{every}
 use Rattle.basis.proofs.Numbers.{every_more, every_fails}
 use Rattle.basis.proofs.Tests.{and_both}
-use Rattle.table.specs.Tables.{table}
 use Rattle.steps.specs.Shelves.{place_limit, place_formed, shelf_formed}
-use borrow.Author.Rules.{rules}
 use Rattle.shelf.proofs.forming.shelf_formed.Goals as goal
 
 pub loop-place-init : goal.loop-place-init

@@ -2,15 +2,10 @@
 use Prim.Native.Nat.{ℕ, ◌-◌, ◌≤◌}
 use mathlib.Core.Bool.{true}
 use mathlib.Core.List.{List}
-use mathlib.Core.Path.{◌≡◌, refl, sym, ◌∙◌}
-use native.Mathlib.Omega.{arith}
-use borrow.Author.Tests.{not-true, not-false}
+use mathlib.Core.Path.{◌≡◌}
 use Rattle.basis.specs.Numbers.{every}
-use Rattle.basis.proofs.Numbers.{every_more, every_fails}
-use Rattle.basis.proofs.Tests.{and_both}
 use Rattle.table.specs.Tables.{table}
-use Rattle.steps.specs.Shelves.{place_limit, place_formed, shelf_formed}
-use borrow.Author.Rules.{rules}
+use Rattle.steps.specs.Shelves.{place_limit, place_formed}
 use Rattle.shelf.proofs.forming.shelf_formed.Given as goal
 
 abbrev pub invariant-loop-place : goal.invariant-loop-place

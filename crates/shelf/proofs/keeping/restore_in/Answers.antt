@@ -8,7 +8,6 @@ use Rattle.steps.specs.Points.{held_checks, restored}
 use Rattle.steps.proofs.NameChecks.{not_held, held_passes}
 use Rattle.shelf.proofs.Finding.{part_saved}
 use Rattle.shelf.proofs.Changing.{answers_refused, answers_done}
-use borrow.Author.Rules.{rules}
 use Rattle.shelf.proofs.keeping.restore_in.Goals as goal
 
 pub returns-then-place-ge-PLACES : goal.returns-then-place-ge-PLACES

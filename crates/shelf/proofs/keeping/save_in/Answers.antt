@@ -2,14 +2,12 @@
 -- Assumes nothing.
 use Prim.Native.Nat.{ℕ}
 use mathlib.Core.Path.{sym, ap, ◌∙◌}
-use borrow.Author.Tests.{not-true, not-false}
 use Rattle.table.specs.Checks.{first_of}
 use Rattle.steps.specs.Shelves.{put_saved, put_name}
 use Rattle.steps.specs.Points.{save_checks, saved}
 use Rattle.steps.proofs.NameChecks.{save_no_name, save_no_place, save_passes}
 use Rattle.shelf.proofs.Finding.{put_back}
 use Rattle.shelf.proofs.Changing.{answers_refused, answers_done}
-use borrow.Author.Rules.{rules}
 use Rattle.shelf.proofs.keeping.save_in.Goals as goal
 
 pub returns-then-not-is_name : goal.returns-then-not-is_name

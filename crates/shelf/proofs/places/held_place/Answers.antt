@@ -1,9 +1,7 @@
 -- `shelf::places::held_place` meets its contract.
 -- Assumes nothing.
 use mathlib.Core.Path.{sym, ◌∙◌}
-use borrow.Author.Tests.{not-true, not-false}
 use Rattle.shelf.proofs.Finding.{no_name, held_found}
-use borrow.Author.Rules.{rules}
 use Rattle.shelf.proofs.places.held_place.Goals as goal
 
 pub returns-then-not-is_name : goal.returns-then-not-is_name

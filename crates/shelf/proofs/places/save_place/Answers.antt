@@ -1,7 +1,6 @@
 -- `shelf::places::save_place` meets its contract.
 -- Assumes nothing.
 use Rattle.shelf.proofs.Finding.{keeps_place, takes_place}
-use borrow.Author.Rules.{rules}
 use Rattle.shelf.proofs.places.save_place.Goals as goal
 
 pub returns-then-held-lt-PLACES : goal.returns-then-held-lt-PLACES

@@ -1,6 +1,5 @@
 -- `state::entries::entry_of` meets its contract.
 -- Assumes nothing.
-use borrow.Author.Rules.{rules}
 use Rattle.state.proofs.entries.entry_of.Goals as goal
 
 pub returns : goal.returns

@@ -1,6 +1,5 @@
 -- `state::entries::put_entry` meets its contract.
 -- Assumes nothing.
-use borrow.Author.Rules.{rules}
 use Rattle.state.proofs.entries.put_entry.Goals as goal
 
 pub returns : goal.returns

@@ -1,7 +1,6 @@
 -- `state::layout::mark_at` meets its contract: the kind of the store picks the case.
 -- Assumes nothing.
 use native.Mathlib.Omega.{arith}
-use borrow.Author.Rules.{rules}
 use Rattle.state.proofs.Standing.{pair_agent, mark_stands}
 use Rattle.state.proofs.layout.mark_at.Goals as goal
 

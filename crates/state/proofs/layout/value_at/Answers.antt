@@ -1,7 +1,6 @@
 -- `state::layout::value_at` meets its contract: the kind of the store picks the case.
 -- Assumes nothing.
 use native.Mathlib.Omega.{arith}
-use borrow.Author.Rules.{rules}
 use Rattle.state.proofs.Standing.{pair_agent, value_stands}
 use Rattle.state.proofs.layout.value_at.Goals as goal
 

@@ -1,6 +1,5 @@
 -- `state::stores::add_key` meets its contract.
 -- Assumes nothing.
-use borrow.Author.Rules.{rules}
 use Rattle.state.specs.Layout.{add_key}
 use Rattle.state.proofs.stores.add_key.Goals as goal
 

@@ -1,6 +1,5 @@
 -- `state::stores::drop_key` meets its contract.
 -- Assumes nothing.
-use borrow.Author.Rules.{rules}
 use Rattle.state.specs.Layout.{drop_key}
 use Rattle.state.proofs.stores.drop_key.Goals as goal
 

@@ -2,7 +2,6 @@
 -- Assumes nothing.
 use native.Mathlib.Omega.{arith}
 use lib.ListN.{length-set}
-use borrow.Author.Rules.{rules}
 use Rattle.state.specs.Layout.{put}
 use Rattle.state.proofs.stores.put.Goals as goal
 

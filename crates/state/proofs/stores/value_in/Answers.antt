@@ -1,6 +1,5 @@
 -- `state::stores::value_in` meets its contract: the key's test and the mark pick the case.
 -- Assumes nothing.
-use borrow.Author.Rules.{rules}
 use borrow.Author.Tests.{lt-ltb, le-ltb, eq-eqb, ne_eqb}
 use Rattle.state.specs.Layout.{value_in}
 use Rattle.state.proofs.stores.value_in.Goals as goal

@@ -1,6 +1,5 @@
 -- `table::header::header` meets its contract.
 -- Assumes nothing.
-use borrow.Author.Rules.{rules}
 use Rattle.table.proofs.Measuring.{sizes_eq}
 use Rattle.table.proofs.header.header.Goals as goal
 

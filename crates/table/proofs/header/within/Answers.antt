@@ -1,7 +1,6 @@
 -- `table::header::within` meets its contract.
 -- Assumes nothing.
 use mathlib.Core.Path.{refl}
-use borrow.Author.Rules.{rules}
 use Rattle.table.specs.Tables.{within_limits}
 use Rattle.table.proofs.header.within.Goals as goal
 

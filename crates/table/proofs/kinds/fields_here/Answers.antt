@@ -1,7 +1,6 @@
 -- `table::kinds::fields_here` meets its contract.
 -- Assumes nothing.
 use native.Mathlib.Omega.{arith}
-use borrow.Author.Rules.{rules}
 use borrow.Author.Tests.{lt-ltb, le-ltb, eq-eqb, ne_eqb}
 use Rattle.table.specs.Tables.{table, first_root}
 use Rattle.table.specs.Nodes.{fields_here}

@@ -1,7 +1,6 @@
 -- `table::kinds::fields_of` meets its contract.
 -- Assumes nothing.
 use borrow.Author.Tests.{lt-ltb, le-ltb}
-use borrow.Author.Rules.{rules}
 use Rattle.table.proofs.kinds.fields_of.Goals as goal
 
 pub returns-then-kind-lt-TRUE : goal.returns-then-kind-lt-TRUE

@@ -2,7 +2,6 @@
 -- Assumes nothing.
 use native.Mathlib.Omega.{arith}
 use borrow.Author.Tests.{lt-ltb, le-ltb}
-use borrow.Author.Rules.{rules}
 use Rattle.table.specs.Tables.{table, first_link_root, first_agent_root}
 use Rattle.table.proofs.kinds.root_fields.Goals as goal
 

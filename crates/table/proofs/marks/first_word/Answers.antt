@@ -1,6 +1,5 @@
 -- `table::marks::first_word` meets its contract.
 -- Assumes nothing.
-use borrow.Author.Rules.{rules}
 use Rattle.table.proofs.marks.first_word.Goals as goal
 
 pub returns : goal.returns

@@ -1,6 +1,5 @@
 -- `table::marks::is_link_root` meets its contract.
 -- Assumes nothing.
-use borrow.Author.Rules.{rules}
 use Rattle.table.proofs.marks.is_link_root.Goals as goal
 
 pub returns : goal.returns

@@ -4,8 +4,6 @@ use Prim.Native.Nat.{◌<◌}
 use native.Mathlib.Omega.{arith}
 use mathlib.Core.Path.{◌∙◌}
 use lib.ListN.{length}
-use borrow.Author.Rules.{rules}
-use borrow.Author.Tests.{not-true, not-false}
 use Rattle.table.specs.Marks.{marking}
 use Rattle.table.proofs.Marking.{changed_off, changed_on}
 use Rattle.table.proofs.marks.mark.Goals as goal

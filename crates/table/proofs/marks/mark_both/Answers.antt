@@ -1,7 +1,6 @@
 -- `table::marks::mark_both` meets its contract.
 -- Assumes nothing.
 use native.Mathlib.Omega.{arith}
-use borrow.Author.Rules.{rules}
 use Rattle.table.proofs.Marking.{marks_both}
 use Rattle.table.proofs.marks.mark_both.Goals as goal
 

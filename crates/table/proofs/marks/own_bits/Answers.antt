@@ -1,8 +1,6 @@
 -- `table::marks::own_bits` meets its contract.
 -- Assumes nothing.
 use mathlib.Core.Path.{sym, ◌∙◌}
-use borrow.Author.Rules.{rules}
-use borrow.Author.Tests.{not-true}
 use Rattle.basis.specs.KeySets.{plus_if}
 use Rattle.table.proofs.marks.own_bits.Goals as goal
 

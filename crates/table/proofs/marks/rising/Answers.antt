@@ -1,6 +1,5 @@
 -- `table::marks::rising` meets its contract.
 -- Assumes nothing.
-use borrow.Author.Rules.{rules}
 use Rattle.table.proofs.marks.rising.Goals as goal
 
 pub returns : goal.returns

@@ -1,6 +1,5 @@
 -- `table::nodes::look_at` meets its contract.
 -- Assumes nothing.
-use borrow.Author.Rules.{rules}
 use Rattle.table.specs.Tables.{table}
 use Rattle.table.proofs.Marking.{looked}
 use Rattle.table.proofs.nodes.look_at.Goals as goal

@@ -1,7 +1,6 @@
 -- `table::nodes::lower` meets its contract.
 -- Assumes nothing.
 use borrow.Author.Tests.{lt-ltb, le-ltb}
-use borrow.Author.Rules.{rules}
 use Rattle.table.proofs.nodes.lower.Goals as goal
 
 pub returns-then-x-node : goal.returns-then-x-node

@@ -1,10 +1,9 @@
 -- `table::wrong::descend` meets its contract: from the last node down, each hands on what reaches it; `lowest` is the lowest wrong key so far.
 -- Assumes nothing.
-use Prim.Native.Nat.{ℕ, ◌≤◌, ◌<◌, ◌+◌, ◌-◌}
+use Prim.Native.Nat.{ℕ, ◌<◌, ◌+◌, ◌-◌}
 use native.Mathlib.Omega.{arith}
 use mathlib.Core.Bool.{true}
 use mathlib.Core.Path.{◌≡◌, refl, subst}
-use lib.ListN.{length}
 use borrow.Author.Rules.{rules}
 use Rattle.table.specs.Tables.{Table, table}
 use Rattle.table.specs.Nodes.{fitting}

@@ -1,16 +1,11 @@
 -- `table::wrong::descend` meets its contract: from the last node down, each hands on what reaches it; `lowest` is the lowest wrong key so far.
-use Prim.Native.Nat.{ℕ, ◌≤◌, ◌<◌, ◌+◌, ◌-◌}
-use native.Mathlib.Omega.{arith}
-use mathlib.Core.Bool.{true}
-use mathlib.Core.Path.{◌≡◌, refl, subst}
+use Prim.Native.Nat.{◌≤◌, ◌-◌}
+use mathlib.Core.Path.{◌≡◌}
 use lib.ListN.{length}
-use borrow.Author.Rules.{rules}
-use Rattle.table.specs.Tables.{Table, table}
-use Rattle.table.specs.Nodes.{fitting}
+use Rattle.table.specs.Tables.{table}
 use Rattle.table.specs.Reach.{wrong_key}
 use Rattle.table.specs.Marks.{Above}
-use Rattle.table.proofs.Promises.{not_bad}
-use Rattle.table.proofs.Spreading.{above_first, Lower, lower_first, lower_more, lower_last}
+use Rattle.table.proofs.Spreading.{Lower}
 use Rattle.table.proofs.wrong.descend.Given as goal
 
 abbrev pub invariant-loop-i : goal.invariant-loop-i

@@ -2,8 +2,6 @@
 -- Assumes nothing.
 use mathlib.Core.Path.{sym}
 use native.Mathlib.Omega.{arith}
-use borrow.Author.Rules.{rules}
-use borrow.Author.Tests.{not-true}
 use Rattle.basis.proofs.Numbers.{lowest_none}
 use Rattle.table.specs.Tables.{table}
 use Rattle.table.specs.Reach.{wrong_key}

@@ -1,11 +1,9 @@
 -- `table::wrong::show_starts` meets its contract: the words of the nodes below the loop's show which fields are nodes, and what starts there.
 -- Assumes nothing.
-use Prim.Native.Nat.{ℕ, ◌≤◌, ◌<◌, ◌-◌}
+use Prim.Native.Nat.{◌<◌, ◌-◌}
 use mathlib.Core.Path.{◌≡◌, refl, subst, ◌∙◌}
-use mathlib.Core.List.{List}
 use native.Mathlib.Omega.{arith}
 use lib.ListN.{length, length-set}
-use borrow.Author.Rules.{rules}
 use Rattle.table.specs.Tables.{table}
 use Rattle.table.specs.Marks.{Shown}
 use Rattle.table.proofs.Marking.{shown_none, shown_next}

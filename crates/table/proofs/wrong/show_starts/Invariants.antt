@@ -1,13 +1,10 @@
 -- `table::wrong::show_starts` meets its contract: the words of the nodes below the loop's show which fields are nodes, and what starts there.
-use Prim.Native.Nat.{ℕ, ◌≤◌, ◌<◌, ◌-◌}
-use mathlib.Core.Path.{◌≡◌, refl, subst, ◌∙◌}
+use Prim.Native.Nat.{ℕ, ◌≤◌, ◌-◌}
+use mathlib.Core.Path.{◌≡◌}
 use mathlib.Core.List.{List}
-use native.Mathlib.Omega.{arith}
-use lib.ListN.{length, length-set}
-use borrow.Author.Rules.{rules}
+use lib.ListN.{length}
 use Rattle.table.specs.Tables.{table}
 use Rattle.table.specs.Marks.{Shown}
-use Rattle.table.proofs.Marking.{shown_none, shown_next}
 use Rattle.table.proofs.wrong.show_starts.Given as goal
 
 abbrev pub invariant-loop-i : goal.invariant-loop-i

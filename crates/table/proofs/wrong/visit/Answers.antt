@@ -3,7 +3,6 @@
 use native.Mathlib.Omega.{arith}
 use mathlib.Core.Bool.{Bool, true, cond}
 use mathlib.Core.Path.{refl, sym, ap, ◌∙◌}
-use borrow.Author.Rules.{rules}
 use Rattle.table.specs.Tables.{Table, table}
 use Rattle.table.specs.Marks.{Looked}
 use Rattle.table.proofs.Marking.{marks_found, marks_lower}

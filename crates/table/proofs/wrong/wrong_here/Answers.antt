@@ -1,6 +1,5 @@
 -- `table::wrong::wrong_here` meets its contract.
 -- Assumes nothing.
-use borrow.Author.Rules.{rules}
 use Rattle.table.proofs.wrong.wrong_here.Goals as goal
 
 pub returns : goal.returns

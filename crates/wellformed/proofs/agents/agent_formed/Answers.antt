@@ -4,7 +4,6 @@ use Prim.Native.Nat.{ℕ, ◌^◌}
 use mathlib.Core.Bool.{true}
 use mathlib.Core.List.{List}
 use mathlib.Core.Path.{◌≡◌, sym, subst, ◌∙◌}
-use borrow.Author.Tests.{not-true, not-false}
 use lib.Dec.{ltb}
 use Rattle.basis.specs.Numbers.{every}
 use Rattle.table.specs.Tables.{Table, table}
@@ -13,7 +12,6 @@ use Rattle.state.specs.Layout.{key_limit, zc_of, zp_of}
 use Rattle.state.specs.Entries.{clock_of}
 use Rattle.state.specs.WellFormed.{pair_formed, entry_formed, agent_formed}
 use Rattle.wellformed.proofs.Blocks.{wide, narrow}
-use borrow.Author.Rules.{rules}
 use Rattle.wellformed.proofs.agents.agent_formed.Goals as goal
 use Rattle.wellformed.proofs.agents.agent_formed.Goals.{Else-not-entries_formed, Else-not-store_formed, Else-not-store_formed-2, Else-state-zc-gt-ALL_KEYS, Else-state-zp-gt-ALL_KEYS, Start}
 

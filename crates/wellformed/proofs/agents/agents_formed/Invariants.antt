@@ -2,13 +2,8 @@
 use Prim.Native.Nat.{ℕ, ◌-◌, ◌≤◌}
 use mathlib.Core.Bool.{true}
 use mathlib.Core.List.{List}
-use mathlib.Core.Path.{◌≡◌, refl, sym, ◌∙◌}
-use native.Mathlib.Omega.{arith}
-use borrow.Author.Rules.{rules}
-use borrow.Author.Tests.{not-true, not-false}
+use mathlib.Core.Path.{◌≡◌}
 use Rattle.basis.specs.Numbers.{every}
-use Rattle.basis.proofs.Numbers.{every_more, every_fails}
-use Rattle.basis.proofs.Tests.{and_both}
 use Rattle.table.specs.Tables.{table}
 use Rattle.state.specs.WellFormed.{agent_formed}
 use Rattle.wellformed.proofs.agents.agents_formed.Given as goal

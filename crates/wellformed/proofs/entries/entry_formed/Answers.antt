@@ -1,6 +1,5 @@
 -- `entry_formed` meets its contract. Assumes nothing.
 use Rattle.wellformed.proofs.Keys.{entry_is}
-use borrow.Author.Rules.{rules}
 use Rattle.wellformed.proofs.entries.entry_formed.Goals as goal
 
 pub returns : goal.returns

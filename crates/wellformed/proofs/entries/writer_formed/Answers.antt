@@ -1,6 +1,5 @@
 -- `writer_formed` meets its contract: whether there is an entry picks the case.
 -- Assumes nothing.
-use borrow.Author.Rules.{rules}
 use borrow.Author.Tests.{eq-eqb, ne_eqb}
 use Rattle.state.specs.WellFormed.{writer_formed}
 use Rattle.wellformed.proofs.entries.writer_formed.Goals as goal

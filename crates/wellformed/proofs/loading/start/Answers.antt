@@ -1,12 +1,10 @@
 -- `start` meets its contract. Assumes nothing.
-use Prim.Native.Nat.{◌-◌, ◌≤◌}
+use Prim.Native.Nat.{◌-◌}
 use mathlib.Core.Path.{◌≡◌, refl}
 use native.Mathlib.Omega.{arith}
-use borrow.Author.Rules.{rules}
-use lib.ListN.{length, length-set}
+use lib.ListN.{length-set}
 use Rattle.basis.specs.Numbers.{for_each}
-use Rattle.table.specs.Tables.{Table, table, first_agent_root}
-use Rattle.state.specs.WellFormed.{started}
+use Rattle.table.specs.Tables.{table}
 use Rattle.wellformed.proofs.Starting.{started_more}
 use Rattle.wellformed.proofs.loading.start.Goals as goal
 

@@ -1,13 +1,10 @@
 -- `start` meets its contract. Assumes nothing.
 use Prim.Native.Nat.{◌-◌, ◌≤◌}
-use mathlib.Core.Path.{◌≡◌, refl}
-use native.Mathlib.Omega.{arith}
-use borrow.Author.Rules.{rules}
-use lib.ListN.{length, length-set}
+use mathlib.Core.Path.{◌≡◌}
+use lib.ListN.{length}
 use Rattle.basis.specs.Numbers.{for_each}
-use Rattle.table.specs.Tables.{Table, table, first_agent_root}
+use Rattle.table.specs.Tables.{Table, first_agent_root}
 use Rattle.state.specs.WellFormed.{started}
-use Rattle.wellformed.proofs.Starting.{started_more}
 use Rattle.wellformed.proofs.loading.start.Given as goal
 
 abbrev pub invariant-loop-agent : goal.invariant-loop-agent

@@ -3,7 +3,6 @@ use mathlib.Core.Path.{◌∙◌}
 use lib.ListN.{length-set}
 use Rattle.basis.proofs.Writing.{cleared_whole}
 use Rattle.state.specs.WellFormed.{loaded}
-use borrow.Author.Rules.{rules}
 use Rattle.wellformed.proofs.loading.write_loaded.Goals as goal
 
 pub shape_of-state : goal.shape_of-state

@@ -4,7 +4,6 @@ use mathlib.Core.Path.{◌≡◌, ap}
 use lib.ListN.{get_or}
 use Rattle.state.specs.Layout.{mark_of}
 use Rattle.wellformed.proofs.Keys.{pair_high, pair_absent, pair_present}
-use borrow.Author.Rules.{rules}
 use Rattle.wellformed.proofs.pairs.pair_formed.Goals as goal
 use Rattle.wellformed.proofs.pairs.pair_formed.Goals.{After-shared_slice_known-2-1}
 

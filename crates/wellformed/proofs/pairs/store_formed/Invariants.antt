@@ -1,13 +1,8 @@
 -- `store_formed` meets its contract. Assumes nothing.
 use Prim.Native.Nat.{◌-◌, ◌≤◌}
 use mathlib.Core.Bool.{true}
-use mathlib.Core.Path.{◌≡◌, refl, sym, ◌∙◌}
-use native.Mathlib.Omega.{arith}
-use borrow.Author.Rules.{rules}
-use borrow.Author.Tests.{not-true, not-false}
+use mathlib.Core.Path.{◌≡◌}
 use Rattle.basis.specs.Numbers.{every}
-use Rattle.basis.proofs.Numbers.{every_more, every_fails}
-use Rattle.basis.proofs.Tests.{and_both}
 use Rattle.state.specs.Layout.{key_limit}
 use Rattle.state.specs.WellFormed.{pair_formed}
 use Rattle.wellformed.proofs.pairs.store_formed.Given as goal

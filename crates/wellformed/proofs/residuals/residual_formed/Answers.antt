@@ -1,9 +1,7 @@
 -- `residual_formed` meets its contract. Assumes nothing.
 use mathlib.Core.Path.{sym, ◌∙◌}
 use native.Mathlib.Omega.{arith}
-use borrow.Author.Tests.{not-true, not-false}
 use Rattle.wellformed.proofs.Blocks.{residual_long, residual_broken, residual_rest}
-use borrow.Author.Rules.{rules}
 use Rattle.wellformed.proofs.residuals.residual_formed.Goals as goal
 
 pub overflow_cast-size : goal.overflow_cast-size

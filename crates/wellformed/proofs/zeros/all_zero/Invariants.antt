@@ -1,16 +1,7 @@
 -- `all_zero` meets its contract. Assumes nothing.
 use Prim.Native.Nat.{ℕ, ◌-◌, ◌≤◌, ◌<◌}
-use mathlib.Core.Path.{◌≡◌, refl}
-use native.Mathlib.Omega.{arith}
-use borrow.Author.Count.{below_more}
-use borrow.Author.Rules.{rules}
-use borrow.Author.Tests.{eqb-true, eq-eqb}
-use lib.Bits.{bit_or, or_add_and, and_le_l, and_le_r}
-use lib.Dec.{eqb}
+use mathlib.Core.Path.{◌≡◌}
 use lib.ListN.{length, get_or}
-use Rattle.basis.proofs.Tests.{same_test}
-use Rattle.state.specs.WellFormed.{all_zero}
-use Rattle.state.proofs.Residuals.{zero_at, at_zero}
 use Rattle.wellformed.proofs.zeros.all_zero.Given as goal
 
 -- the words up to i are 0 exactly where they come to 0
