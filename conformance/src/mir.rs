@@ -226,6 +226,8 @@ impl Lowered {
         match statement.parts() {
             ("Seq" | "Block" | "Loop" | "If" | "Switch" | "Exit" | "Skip" | "Return", _) => {}
             ("Assign", [place, value]) => self.store(place, is_constant(value)),
+            // A reference to bytes that the program has from the start.
+            ("LendStatic", [place, _, _]) => self.store(place, true),
             ("Call", [callee, _, place]) => {
                 self.call(callee);
                 self.store(place, false);
