@@ -108,12 +108,12 @@ module _ (t : Table) where
         (and_iff (right_node t n) (eqb (q n) m) by_q_iff (eqb_iff (q n) m))
 
     names_either : {m : ℕ} → Names t n m → Either m
-    names_either (Names.by_p_lem a b) = inl (a, b)
-    names_either (Names.by_q_lem a b) = inr (a, b)
+    names_either (Names.named_by_p a b) = inl (a, b)
+    names_either (Names.named_by_q a b) = inr (a, b)
 
     pub names_iff : (m : ℕ) → (names t n m ≡ true) ↔ Names t n m
     names_iff m = (
       λ e.
-          ⊎_elim (λ (w : NamesByP (k n) × (p n ≡ m)). Names.by_p_lem w.0 w.1) (λ (w : NamesByQ (k n) × (q n ≡ m)). Names.by_q_lem w.0 w.1) ((either_iff m).0 e),
+          ⊎_elim (λ (w : NamesByP (k n) × (p n ≡ m)). Names.named_by_p w.0 w.1) (λ (w : NamesByQ (k n) × (q n ≡ m)). Names.named_by_q w.0 w.1) ((either_iff m).0 e),
       λ w. (either_iff m).1 (names_either w),
     )

@@ -217,9 +217,9 @@ module _ (t : Table) (n : ℕ) where
         each_kind Shown (λ k a b. absurd a)
         (zeros Row.idle
         then zeros Row.tick
-        then (λ a. pair (Row.set_attribute_lem a))
-        then (λ a. pair (Row.set_stigmergy_lem a))
-        then (λ a. pair (Row.set_environment_lem a))
+        then (λ a. pair (Row.sets_attribute a))
+        then (λ a. pair (Row.sets_stigmergy a))
+        then (λ a. pair (Row.sets_environment a))
         then pairs Row.sequence
         then pairs Row.choice
         then pairs Row.guarded
@@ -249,9 +249,9 @@ module _ (t : Table) (n : ℕ) where
   unfolding row_of process_rows guard_rows expression_rows
   row_says Row.idle = (refl, refl)
   row_says Row.tick = (refl, refl)
-  row_says (Row.set_attribute_lem a b c) = (a, (b, c))
-  row_says (Row.set_stigmergy_lem a b c) = (a, (b, c))
-  row_says (Row.set_environment_lem a b c) = (a, (b, c))
+  row_says (Row.sets_attribute a b c) = (a, (b, c))
+  row_says (Row.sets_stigmergy a b c) = (a, (b, c))
+  row_says (Row.sets_environment a b c) = (a, (b, c))
   row_says (Row.sequence a b c d) = ((a, b), (c, d))
   row_says (Row.choice a b c d) = ((a, b), (c, d))
   row_says (Row.guarded a b c d) = ((a, b), (c, d))

@@ -48,8 +48,8 @@ module _ (t : Table) where
   Ways n = (NamesByP (k n) × Named n (p n)) ⊎ ((NamesByQ (k n) × Named n (q n)) ⊎ (NamesByP (k n) × (NamesByQ (k n) × (p n ≡ q n))))
 
   again_ways : {n : ℕ} → Again t n → (n < inners t) × Ways n
-  again_ways (Again.after {j} g h a (Names.by_p_lem b e)) = (h, inl (b, (j, g, subst (Names t j) (sym e) a)))
-  again_ways (Again.after {j} g h a (Names.by_q_lem b e)) = (h, inr (inl (b, (j, g, subst (Names t j) (sym e) a))))
+  again_ways (Again.after {j} g h a (Names.named_by_p b e)) = (h, inl (b, (j, g, subst (Names t j) (sym e) a)))
+  again_ways (Again.after {j} g h a (Names.named_by_q b e)) = (h, inr (inl (b, (j, g, subst (Names t j) (sym e) a))))
   again_ways (Again.twice h a b e) = (h, inr (inr (a, (b, e))))
 
   module _ (n : ℕ) (h : n < inners t) where
@@ -80,8 +80,8 @@ module _ (t : Table) where
 
     ways_again : Ways n → Again t n
     ways_again =
-        ⊎_elim (λ (w : NamesByP (k n) × Named n (p n)). Again.after w.1.1 h w.1.2 (Names.by_p_lem w.0 refl))
-        (⊎_elim (λ (w : NamesByQ (k n) × Named n (q n)). Again.after w.1.1 h w.1.2 (Names.by_q_lem w.0 refl))
+        ⊎_elim (λ (w : NamesByP (k n) × Named n (p n)). Again.after w.1.1 h w.1.2 (Names.named_by_p w.0 refl))
+        (⊎_elim (λ (w : NamesByQ (k n) × Named n (q n)). Again.after w.1.1 h w.1.2 (Names.named_by_q w.0 refl))
         (λ (w : NamesByP (k n) × (NamesByQ (k n) × (p n ≡ q n))). Again.twice h w.0 w.1.0 w.1.1))
 
   again_iff : (n : ℕ) → (names_again t n ≡ true) ↔ Again t n
@@ -128,15 +128,15 @@ module _ (t : Table) where
         (⊎_elim
         (λ (w : ByLeft t fit n m).
         let d = left_lower t n f w.0 in
-        Reaches.on (Names.by_p_lem ((by_p_iff t n h).0 w.0) refl) (reaches_fact b (p n) m (omega arith) (omega arith) w.1))
+        Reaches.on (Names.named_by_p ((by_p_iff t n h).0 w.0) refl) (reaches_fact b (p n) m (omega arith) (omega arith) w.1))
         (λ (w : ByRight t fit n m).
         let d = right_lower t n f w.0 in
-        Reaches.on (Names.by_q_lem ((by_q_iff t n h).0 w.0) refl) (reaches_fact b (q n) m (omega arith) (omega arith) w.1)))
+        Reaches.on (Names.named_by_q ((by_q_iff t n h).0 w.0) refl) (reaches_fact b (q n) m (omega arith) (omega arith) w.1)))
         (reaches_how t fit n m (omega arith) e)
 
     by_named : (n m : ℕ) → n < inners t → {i : ℕ} → Names t n i → reaches t i m ≡ true → reaches t n m ≡ true
-    by_named n m h (Names.by_p_lem a e) r = reaches_left t fit n m (omega arith) ((by_p_iff t n h).1 a) (ap (λ (x : ℕ). reaches t x m) e ∙ r)
-    by_named n m h (Names.by_q_lem a e) r = reaches_right t fit n m (omega arith) ((by_q_iff t n h).1 a) (ap (λ (x : ℕ). reaches t x m) e ∙ r)
+    by_named n m h (Names.named_by_p a e) r = reaches_left t fit n m (omega arith) ((by_p_iff t n h).1 a) (ap (λ (x : ℕ). reaches t x m) e ∙ r)
+    by_named n m h (Names.named_by_q a e) r = reaches_right t fit n m (omega arith) ((by_q_iff t n h).1 a) (ap (λ (x : ℕ). reaches t x m) e ∙ r)
 
     fact_reaches : {n m : ℕ} → n < inners t → Reaches t n m → reaches t n m ≡ true
     fact_reaches {n} h Reaches.itself = reaches_self t fit n (omega arith)

@@ -52,9 +52,9 @@ module _ (t : Table) where
   pub data Row (n : ℕ) : ℕ → ℕ → ℕ → Type 0 where
     idle : Row n 0 0 0
     tick : Row n 1 0 0
-    set_attribute_lem : {k e : ℕ} → k < t.sizes.attributes → e < n → IsExpression e → Row n 2 k e
-    set_stigmergy_lem : {k e : ℕ} → k < t.sizes.stigmergy → e < n → IsExpression e → Row n 3 k e
-    set_environment_lem : {k e : ℕ} → k < t.sizes.environment → e < n → IsExpression e → Row n 4 k e
+    sets_attribute : {k e : ℕ} → k < t.sizes.attributes → e < n → IsExpression e → Row n 2 k e
+    sets_stigmergy : {k e : ℕ} → k < t.sizes.stigmergy → e < n → IsExpression e → Row n 3 k e
+    sets_environment : {k e : ℕ} → k < t.sizes.environment → e < n → IsExpression e → Row n 4 k e
     sequence : {P Q : ℕ} → P < n → IsProcess P → Q < n → IsProcess Q → Row n 5 P Q
     choice : {P Q : ℕ} → P < n → IsProcess P → Q < n → IsProcess Q → Row n 6 P Q
     guarded : {b P : ℕ} → b < n → IsGuard b → P < n → IsProcess P → Row n 7 b P
@@ -93,8 +93,8 @@ module _ (t : Table) where
 
   -- node n names node m
   pub data Names (n m : ℕ) : Type 0 where
-    by_p_lem : NamesByP (kind_at t n) → p_at t n ≡ m → Names n m
-    by_q_lem : NamesByQ (kind_at t n) → q_at t n ≡ m → Names n m
+    named_by_p : NamesByP (kind_at t n) → p_at t n ≡ m → Names n m
+    named_by_q : NamesByQ (kind_at t n) → q_at t n ≡ m → Names n m
 
   -- node n, no root, makes a second naming: of a node that a lower one names, or by naming one twice
   pub data Again (n : ℕ) : Type 0 where

@@ -26,7 +26,7 @@ use Rattle.steps.proofs.Steps.{outcome_refused, step_refused}
 use Rattle.steps.proofs.Previews.{on_a_copy}
 use Rattle.steps.proofs.Points.{kept}
 use Rattle.steps.proofs.Orders.{in_order}
-use Rattle.theorems.specs.Demand1.{Placed, bad_node_lem, wrong_key_lem, bad_definition, overfull_node, nowhere}
+use Rattle.theorems.specs.Demand1.{Placed, at_bad_node, at_wrong_key, bad_definition, overfull_node, nowhere}
 use Rattle.theorems.specs.Demand1.{Answered, done, refused, step_numbers, AsItCame, Demand1}
 
 -- lines after 7, which have no place
@@ -75,8 +75,8 @@ module _ (bytes : List ℕ) (Unchanged : Type 0) where
   table_placed : (fits : Bool) (scratch : ℕ) (own : List Refusal) → no_places own ≡ true → AllPlaced (table_checks bytes fits scratch ++ own)
   table_placed fits scratch own e =
       if_placed 1 (inl (omega arith)) (if_placed 2 (inl (omega arith)) (if_placed 3 (inl (omega arith)) (if_placed 8 (inr (omega arith))
-      (line (λ d. bad_node_lem (ltb-true _ (sizes_of bytes).nodes d))
-      (line (λ d. wrong_key_lem (ltb-true _ (sizes_of bytes).nodes d))
+      (line (λ d. at_bad_node (ltb-true _ (sizes_of bytes).nodes d))
+      (line (λ d. at_wrong_key (ltb-true _ (sizes_of bytes).nodes d))
       (line (λ d. bad_definition (ltb-true _ (sizes_of bytes).definitions d))
       (line (λ d. overfull_node (ltb-true _ (sizes_of bytes).nodes d))
       (others_placed own e))))))))

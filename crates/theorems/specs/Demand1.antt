@@ -12,8 +12,8 @@ use Rattle.steps.specs.Points.{save_of, restore_of, drop_of}
 
 -- the place that comes with a number: a node for 4, 5 and 7, a definition for 6, 0 for all others
 pub data Placed (bytes : List ℕ) : ℕ → ℕ → Type 0 where
-  bad_node_lem : {n : ℕ} → n < (sizes_of bytes).nodes → Placed bytes 4 n
-  wrong_key_lem : {n : ℕ} → n < (sizes_of bytes).nodes → Placed bytes 5 n
+  at_bad_node : {n : ℕ} → n < (sizes_of bytes).nodes → Placed bytes 4 n
+  at_wrong_key : {n : ℕ} → n < (sizes_of bytes).nodes → Placed bytes 5 n
   bad_definition : {d : ℕ} → d < (sizes_of bytes).definitions → Placed bytes 6 d
   overfull_node : {n : ℕ} → n < (sizes_of bytes).nodes → Placed bytes 7 n
   nowhere : {number : ℕ} → (number < 4) ⊎ (7 < number) → Placed bytes number 0
