@@ -42,7 +42,7 @@ use Rattle.steps.proofs.Acts.{action_key, store_attribute, store_environment, se
 use Rattle.labs.specs.Agents.{⟨◌⸴◌⸴◌⸴◌⸴◌⟩, Agent, Interface, Keys, System, ◌⟦◌≔◌⟧, ◌∪｛◌｝, ◌∪◌}
 use Rattle.labs.specs.Expressions.{Expr, E⟦◌⟧◌⇓◌, expr_of}
 use Rattle.labs.specs.Processes.{Variable, attribute, stigmergy, environment}
-use Rattle.labs.specs.Systems.{Settled, known, Will, ε, ◌▹◌, Wills, SKIP, ATTR, LSTIG, ENV, alone, Await, guard_keys, Acts, EPSILON, EVALI, EVALL, EVALE, Acted}
+use Rattle.labs.specs.Systems.{Settled, known, Will, ε, ◌▹◌, Wills, SKIP, ATTR, LSTIG, ENV, alone, Await, guard_keys, Acts, EPSILON, EVAL-I, EVAL-L, EVAL-E, Acted}
 use Rattle.labs.specs.Reading.{agent_of, system_of}
 use Rattle.labs.specs.Demand2.{Same}
 use Rattle.labs.proofs.Moves.{Derivable, moves_in, moves_chosen}
@@ -244,7 +244,7 @@ module _ (t : Table) (ok : Checked t) (s : List ℕ) (narrow : Narrow t s) (room
         (λ y o. put_agents (Attributes x) p v 1 s key y (λ l f. o (sym f)))
         (fun_ext λ j. put_value_in (Attributes x) p v 1 s key room there (omega arith) Environment j ∙ rw and-false)
         (put_other (Attributes x) p v 1 s key Clock tt refl refl)
-        (EVALI v (ATTR r.moves.1 (attribute_action t n k) is_settled) await value_is)
+        (EVAL-I v (ATTR r.moves.1 (attribute_action t n k) is_settled) await value_is)
 
     done_environment : kind_at t n ≡ 4 → Done
     done_environment k =
@@ -254,7 +254,7 @@ module _ (t : Table) (ok : Checked t) (s : List ℕ) (narrow : Narrow t s) (room
         (λ y o. put_agents Environment p v 1 s key y (λ l f. omega arith))
         (put_environment p v s key room)
         (put_other Environment p v 1 s key Clock tt refl refl)
-        (EVALE v (ENV r.moves.1 (environment_action t n k) is_settled) await value_is)
+        (EVAL-E v (ENV r.moves.1 (environment_action t n k) is_settled) await value_is)
 
     done_stigmergy : kind_at t n ≡ 3 → Done
     done_stigmergy k =
@@ -269,7 +269,7 @@ module _ (t : Table) (ok : Checked t) (s : List ℕ) (narrow : Narrow t s) (room
         (λ q h b f. put_entry_other x p fresh s key q h (away q (Mark (Entries x) p) y b f o) (away q (Word (Entries x) p) y b f o) (away q (Writer x p) y b f o)))
         (fun_ext λ j. value_same (set queued clock_at m) s Environment j (λ l. stays (Mark Environment j) l refl refl (rw and-false) refl refl) (λ l. stays (Word Environment j) l refl refl refl (rw and-false) refl))
         (set_here queued Clock m tt (omega (arith, add_length Zp x p entered, entered_room)) (omega arith) ∙ add-one (clock_of s))
-        (EVALL v (LSTIG r.moves.1 (stigmergy_action t n k) is_settled) await value_is
+        (EVAL-L v (LSTIG r.moves.1 (stigmergy_action t n k) is_settled) await value_is
         (inserted me.L p (entry v (suc (clock_of s)) x) (λ f i. omega (arith, sym (ap time_in i) ∙ entry_stamp s x p key, (formed.formed.pairs (Entries x) is p key).bound))))
       where
         m : ℕ
@@ -340,9 +340,9 @@ module _ (t : Table) (ok : Checked t) (s : List ℕ) (narrow : Narrow t s) (room
 
   acts_enabled : {d : Derivation} {E₁ : Interface} {T₁ : ℕ} {b : Agent} → Acts t (system_of s).E (clock_of s) x me d E₁ T₁ b → Enabled t s x d
   acts_enabled {d} (EPSILON m g) = enabled m g (still d.label (wills_will m))
-  acts_enabled {d} (EVALI {e = e} {x = k} v m g h) = enabled m g (valued d.label e (attribute k) v (wills_will m) h)
-  acts_enabled {d} (EVALL {e = e} {x = k} v m g h i) = enabled m g (valued d.label e (stigmergy k) v (wills_will m) h)
-  acts_enabled {d} (EVALE {e = e} {x = k} v m g h) = enabled m g (valued d.label e (environment k) v (wills_will m) h)
+  acts_enabled {d} (EVAL-I {e = e} {x = k} v m g h) = enabled m g (valued d.label e (attribute k) v (wills_will m) h)
+  acts_enabled {d} (EVAL-L {e = e} {x = k} v m g h i) = enabled m g (valued d.label e (stigmergy k) v (wills_will m) h)
+  acts_enabled {d} (EVAL-E {e = e} {x = k} v m g h) = enabled m g (valued d.label e (environment k) v (wills_will m) h)
 
   pub act_enabled : {d : Derivation} {S' : System} → Acted t t.sizes.agents x d (system_of s) S' → Enabled t s x d
   act_enabled p = acts_enabled p.acts

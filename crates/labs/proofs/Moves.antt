@@ -30,7 +30,7 @@ use Rattle.term.proofs.Exposed.{node_calls}
 use Rattle.term.proofs.Members.{In, place_in}
 use Rattle.labs.specs.Processes.{Form, 𝟎, √, α, ◌⨾◌, ◌⊹◌, ◌∣◌, ◌⇒◌, K, forms, form, Moves}
 use Rattle.labs.specs.Processes.{Tree, by-TICK, by-ACT, by-CHOICE-L, by-CHOICE-R, by-SEQ₁, by-SEQ₂, by-CON, by-PAR₁, by-PAR₂, by-PAR₁-COMM, by-PAR₂-COMM, by-AWAIT}
-use Rattle.labs.specs.Processes.{TICK, ACT, CHOICEL, CHOICER, SEQ₁, SEQ₂, CON, PAR₁, PAR₂, PAR₁COMM, PAR₂COMM, AWAIT}
+use Rattle.labs.specs.Processes.{TICK, ACT, CHOICE-L, CHOICE-R, SEQ₁, SEQ₂, CON, PAR₁, PAR₂, PAR₁COMM, PAR₂COMM, AWAIT}
 use Rattle.labs.specs.Demand2.{Transitions}
 use Rattle.labs.proofs.Enumerations.{Relation, Enumerated, names, Changed, Tested, Joined, Either}
 use Rattle.labs.proofs.Enumerations.{enumerated_same, enumerated_none, enumerated_one, enumerated_changed, enumerated_tested, enumerated_append, enumerated_joined, enumerated_in, enumerated_some}
@@ -66,8 +66,8 @@ module _ (t : Table) where
   rules : {T : Tree} {R P' : Term} {l : Label} {g : List ℕ} → Moves t T R l g P' → Rules (form t R) T (derivation l g P')
   rules (TICK e) = rw e (refl, refl)
   rules (ACT e) = rw e (refl, refl)
-  rules (CHOICEL e m) = rw e (inl (_, _, m, refl, refl))
-  rules (CHOICER e m) = rw e (inr (_, _, m, refl, refl))
+  rules (CHOICE-L e m) = rw e (inl (_, _, m, refl, refl))
+  rules (CHOICE-R e m) = rw e (inr (_, _, m, refl, refl))
   rules (SEQ₁ e m) = rw e (inl (_, _, (m, refl), refl, refl))
   rules (SEQ₂ e m n) = rw e (inr (_, _, _, _, (m, refl), n, refl, refl))
   rules (CON e m) = rw e (_, _, m, refl, refl)
@@ -109,8 +109,8 @@ module _ (t : Table) where
   derived R 𝟎 e T d h = absurd h
   derived R √ e T d h = rw (h.0, h.1) (TICK e)
   derived R (α n) e T d h = rw (h.0, h.1) (ACT e)
-  derived R (P ⊹ Q) e T d (inl h) = rw (h.3, h.4) (CHOICEL {Q = Q} e h.2)
-  derived R (P ⊹ Q) e T d (inr h) = rw (h.3, h.4) (CHOICER {P = P} e h.2)
+  derived R (P ⊹ Q) e T d (inl h) = rw (h.3, h.4) (CHOICE-L {Q = Q} e h.2)
+  derived R (P ⊹ Q) e T d (inr h) = rw (h.3, h.4) (CHOICE-R {P = P} e h.2)
   derived R (b ⇒ P) e T d h = rw (h.3, h.4) (AWAIT e h.2)
   derived R (K n) e T d h = rw (h.3, h.4) (CON e h.2)
   derived R (P ⨾ Q) e T d (inl h) = acted R P T d by-SEQ₁ (λ P'. Seq P' Q) (λ U n g P' m. SEQ₁ e m) h

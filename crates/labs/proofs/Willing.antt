@@ -13,7 +13,7 @@ use Rattle.state.specs.declared.Insertion.{Insertion}
 use Rattle.labs.specs.Agents.{⟨◌⸴◌⸴◌⸴◌⸴◌⟩, Agent, Interface, Stigmergy, System, ◌⟦◌≔◌⟧, ◌∪｛◌｝, Inserted}
 use Rattle.labs.specs.Expressions.{Expr, E⟦◌⟧◌⇓◌, K⟦◌⟧}
 use Rattle.labs.specs.Processes.{attribute, stigmergy, environment, Action, assign, action_of}
-use Rattle.labs.specs.Systems.{Settled, Will, ε, ◌▹◌, onward, Wills, SKIP, ATTR, LSTIG, ENV, alone, awaited, Acts, EPSILON, EVALI, EVALL, EVALE, Acted}
+use Rattle.labs.specs.Systems.{Settled, Will, ε, ◌▹◌, onward, Wills, SKIP, ATTR, LSTIG, ENV, alone, awaited, Acts, EPSILON, EVAL-I, EVAL-L, EVAL-E, Acted}
 use Rattle.labs.specs.Demand2.{Same}
 use Rattle.labs.proofs.Moves.{Derivable}
 use Rattle.labs.proofs.Expressions.{one_value}
@@ -79,9 +79,9 @@ module _ (t : Table) (E : Interface) (T n : ℕ) (a : Agent) (d : Derivation) wh
 
   acts_end : {E₁ : Interface} {T₁ : ℕ} {b : Agent} → Acts t E T n a d E₁ T₁ b → Ends E₁ T₁ b
   acts_end (EPSILON m g) = ends m _ _ _ (refl, refl, refl)
-  acts_end (EVALI v m g h) = ends m _ _ _ (v, h, refl, refl, refl)
-  acts_end (EVALL v m g h i) = ends m _ _ _ (v, _, _, h, i, refl, refl, refl)
-  acts_end (EVALE v m g h) = ends m _ _ _ (v, h, refl, refl, refl)
+  acts_end (EVAL-I v m g h) = ends m _ _ _ (v, h, refl, refl, refl)
+  acts_end (EVAL-L v m g h i) = ends m _ _ _ (v, _, _, h, i, refl, refl, refl)
+  acts_end (EVAL-E v m g h) = ends m _ _ _ (v, h, refl, refl, refl)
 
   after_unique : (w : Will) (a' : Agent) (E₁ E₂ : Interface) (T₁ T₂ : ℕ) (b c : Agent) → After w a' E₁ T₁ b → After w a' E₂ T₂ c → (E₁ ≡ E₂) × (T₁ ≡ T₂) × (b ≡ c)
   after_unique ε a' E₁ E₂ T₁ T₂ b c p q = (p.0 ∙ sym q.0, p.1 ∙ sym q.1, p.2 ∙ sym q.2)

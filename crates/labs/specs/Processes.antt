@@ -54,8 +54,8 @@ pub data Tree : Type 0 where
 pub data Moves (t : Table) : Tree → Term → Label → List ℕ → Term → Type 0 where
   TICK : {R : Term} → form t R ≡ √ → Moves t by-TICK R Ticking [] Idle
   ACT : {R : Term} {n : ℕ} → form t R ≡ α n → Moves t by-ACT R (Acting n) [] Tick
-  CHOICEL : {T : Tree} {P Q R P' : Term} {l : Label} {g : List ℕ} → form t R ≡ (P ⊹ Q) → Moves t T P l g P' → Moves t (by-CHOICE-L T) R l g P'
-  CHOICER : {T : Tree} {P Q R Q' : Term} {l : Label} {g : List ℕ} → form t R ≡ (P ⊹ Q) → Moves t T Q l g Q' → Moves t (by-CHOICE-R T) R l g Q'
+  CHOICE-L : {T : Tree} {P Q R P' : Term} {l : Label} {g : List ℕ} → form t R ≡ (P ⊹ Q) → Moves t T P l g P' → Moves t (by-CHOICE-L T) R l g P'
+  CHOICE-R : {T : Tree} {P Q R Q' : Term} {l : Label} {g : List ℕ} → form t R ≡ (P ⊹ Q) → Moves t T Q l g Q' → Moves t (by-CHOICE-R T) R l g Q'
   SEQ₁ : {T : Tree} {P Q R P' : Term} {n : ℕ} {g : List ℕ} → form t R ≡ (P ⨾ Q) → Moves t T P (Acting n) g P' → Moves t (by-SEQ₁ T) R (Acting n) g (Seq P' Q)
   SEQ₂ : {T U : Tree} {P Q R P' Q' : Term} {l : Label} {g h : List ℕ} → form t R ≡ (P ⨾ Q) → Moves t T P Ticking g P' → Moves t U Q l h Q' →
       Moves t (by-SEQ₂ T U) R l (g ++ h) Q'

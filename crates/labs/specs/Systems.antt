@@ -65,12 +65,12 @@ awaited t a g a' = ⟨ a'.I ⸴ a'.L ⸴ a'.P ⸴ a'.Zc ∪ known a (guard_keys 
 pub data Acts (t : Table) (E : Interface) (T n : ℕ) (a : Agent) (d : Derivation) : Interface → ℕ → Agent → Type 0 where
   -- SKIP's ε in an environment, for which Table 16 prints no rule
   EPSILON : {a' : Agent} → Wills t a d ε a' → Await t E a d.guards → Acts t E T n a d E T (awaited t a d.guards a')
-  EVALI : {e : Expr} {x : ℕ} {a' : Agent} (v : ℕ) → Wills t a d (e ▹ attribute x) a' → Await t E a d.guards → E⟦ e ⟧ alone E a ⇓ v →
+  EVAL-I : {e : Expr} {x : ℕ} {a' : Agent} (v : ℕ) → Wills t a d (e ▹ attribute x) a' → Await t E a d.guards → E⟦ e ⟧ alone E a ⇓ v →
       Acts t E T n a d E T (awaited t a d.guards ⟨ a'.I ⟦ x ≔ Present v ⟧ ⸴ a'.L ⸴ a'.P ⸴ a'.Zc ⸴ a'.Zp ⟩)
-  EVALL : {e : Expr} {x : ℕ} {a' : Agent} {rule : Insertion} {L' : Stigmergy} (v : ℕ) → Wills t a d (e ▹ stigmergy x) a' → Await t E a d.guards → E⟦ e ⟧ alone E a ⇓ v →
+  EVAL-L : {e : Expr} {x : ℕ} {a' : Agent} {rule : Insertion} {L' : Stigmergy} (v : ℕ) → Wills t a d (e ▹ stigmergy x) a' → Await t E a d.guards → E⟦ e ⟧ alone E a ⇓ v →
       Inserted a'.L x (record { value = v; time = suc T; writer = n }) rule L' →
       Acts t E T n a d E (suc T) (awaited t a d.guards ⟨ a'.I ⸴ L' ⸴ a'.P ⸴ a'.Zc ⸴ a'.Zp ∪｛ x ｝ ⟩)
-  EVALE : {e : Expr} {x : ℕ} {a' : Agent} (v : ℕ) → Wills t a d (e ▹ environment x) a' → Await t E a d.guards → E⟦ e ⟧ alone E a ⇓ v →
+  EVAL-E : {e : Expr} {x : ℕ} {a' : Agent} (v : ℕ) → Wills t a d (e ▹ environment x) a' → Await t E a d.guards → E⟦ e ⟧ alone E a ⇓ v →
       Acts t E T n a d (E ⟦ x ≔ Present v ⟧) T (awaited t a d.guards a')
 
 -- PAR-E: agent x acts, and the others stay. It is not applied to messages: as printed it would let any part of a system receive nothing,

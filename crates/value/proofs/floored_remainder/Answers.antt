@@ -62,9 +62,3 @@ returns-then-rest-lt0 c = result-is (goal.at.returns-then-rest-lt0 c).Start (abo
 
 pub returns-else-rest-lt0 : goal.returns-else-rest-lt0
 returns-else-rest-lt0 c = sym (above (goal.at.returns-else-rest-lt0 c).Start c.if-y-lt0.false c.if-rest-lt0.false)
-
-pub overflow_add-result : goal.overflow_add-result
-overflow_add-result c = result_fits (goal.at.overflow_add-result c).Start (below (goal.at.overflow_add-result c).Start c.if-y-lt0.true c.if-rest-gt0.true)
-
-pub overflow_add-result-then-rest-lt0 : goal.overflow_add-result-then-rest-lt0
-overflow_add-result-then-rest-lt0 c = result_fits (goal.at.overflow_add-result-then-rest-lt0 c).Start (above (goal.at.overflow_add-result-then-rest-lt0 c).Start c.if-y-lt0.false c.if-rest-lt0.true)
