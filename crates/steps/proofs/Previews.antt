@@ -36,14 +36,16 @@ module _ (bytes was : List ℕ) (scratch kind x number : ℕ) (next : List ℕ) 
   unfolding preview_of outcome
   preview_check = refl
 
+  shape : preview ≡ outcome whole next (tally_of t was kind x number) (after t was kind x number)
+  unfolding preview_of
+  shape = refl
+
   -- where 1 to 9 pass, a step's own checks decide; else it is refused
   pub preview_in : first_of (opening (is_whole next)) ≡ passes → preview ≡ outcome (first_of checks) next (tally_of t was kind x number) (after t was kind x number)
-  unfolding preview_of
-  preview_in e = ap (λ (c : Check). outcome c next (tally_of t was kind x number) (after t was kind x number)) (append_later (opening (is_whole next)) checks e)
+  preview_in e = shape ∙ ap (λ (c : Check). outcome c next (tally_of t was kind x number) (after t was kind x number)) (append_later (opening (is_whole next)) checks e)
 
   stays : (n place : ℕ) → preview.check ≡ refuses n place → preview ≡ refused n place next
-  unfolding preview_of
-  stays n place e = outcome_refused next (tally_of t was kind x number) (after t was kind x number) whole (sym preview_check ∙ e)
+  stays n place e = shape ∙ outcome_refused next (tally_of t was kind x number) (after t was kind x number) whole (sym preview_check ∙ e)
 
   pub preview_stopped : {n place : ℕ} → first_of (opening (is_whole next)) ≡ refuses n place → preview ≡ refused n place next
   preview_stopped {n} {place} e = stays n place (preview_check ∙ append_refuses (opening (is_whole next)) checks e)
@@ -60,12 +62,12 @@ module _ (bytes was : List ℕ) (scratch kind x number : ℕ) (next : List ℕ) 
       by (refuses n place) f = append_refuses (opening false) checks (append_refuses (table_checks bytes false scratch) _ f) ∙ sym f
 
   same : preview.check ≡ passes → preview ≡ step_of bytes was scratch kind x number
-  unfolding preview_of step_of
+  unfolding step_of
   same e =
       let f : whole ≡ passes = sym preview_check ∙ e in
       let a = ((checks_with (is_whole next) bytes was scratch).0 (append_passes (opening (is_whole next)) checks f).0).0 in
       let fits : is_whole next ≡ true = and_left (is_whole next) (is_whole was) a.fit in
-      outcome_done next (tally_of t was kind x number) (after t was kind x number) whole f
+      shape ∙ outcome_done next (tally_of t was kind x number) (after t was kind x number) whole f
       ∙ sym (outcome_done was (tally_of t was kind x number) (after t was kind x number) (first_of (opening true ++ checks))
       (sym (ap (λ (b : Bool). first_of (opening b ++ checks)) fits) ∙ f))
 
