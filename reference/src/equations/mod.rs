@@ -156,8 +156,7 @@ pub fn text(all: &[Equation]) -> Result<String, BTreeSet<Feature>> {
     let mut out = String::from(
         "-- Rehearsals that the second implementation made (`reference equations 1`): a table, words that replace those of the loaded state\n\
          -- (place and word of each), a schedule, and what it gives of them. Above each is what it shows and those before it do not.\n\
-         use Prim.Native.Nat.{ℕ}\n\
-         use mathlib.Core.List.{List, [], _∷_}\n\n\
+         use Rattle.std.specs.Prelude.{ℕ, List, [], ◌∷◌}\n\n\
          pub record Case : Type 0 where\n  pub table : List ℕ\n  pub patches : List ℕ\n  pub schedule : List ℕ\n  pub given : List ℕ\n\n\
          abbrev pub cases : List Case\ncases =\n",
     );
