@@ -4,6 +4,7 @@
 
 mod calls;
 mod nodes;
+mod prepared;
 mod sums;
 mod words;
 
@@ -17,6 +18,7 @@ ghost use Rattle.term.specs.Parts.{lent_check, term_checks, content_checks};
 ghost use Rattle.accept.specs.Answers.{Judged, Accepts};
 
 use calls::{lowest_bad_call, lowest_overfull};
+pub use prepared::Accepted;
 pub use sums::{NONE, TICK, parallel, sequence};
 use table::{Measured, Sizes, lowest_bad, lowest_wrong, measure};
 pub use words::pair;

@@ -6,10 +6,10 @@ use Rattle.term.specs.declared.Mode.{Mode}
 use Rattle.term.specs.declared.Mode.TheVariants.{Actions, Ticks}
 use Rattle.term.specs.Terms.{words, par_word}
 use Rattle.term.specs.Processes.{Process, idle, tick, act, choice, guarded, call, seq, par, Derivation, node_process}
-use Rattle.term.specs.Accepted.{Checked, GuardNode}
+use Rattle.term.specs.Accepted.{GuardNode}
 use Rattle.term.specs.Choices.{count_in}
 use Rattle.term.specs.Exposure.{can_tick}
-use Rattle.accept.specs.Scratch.{Counted}
+pub use Rattle.accept.specs.Prepared.{Prepared}
 use Rattle.choice.specs.declared.Pick.{Pick}
 use Rattle.choice.specs.declared.Pick.TheVariants.{LeftActs, RightActs, LeftTicks, RightTicks}
 use Rattle.choice.specs.declared.Goal.{Goal}
@@ -34,11 +34,6 @@ pick_turn w m p q (RightTicks j i) = On (goal_of p m i) (After (goal_of q Ticks 
 -- at a choice of nodes p and q, where p has so many derivations
 unfoldable pub choice_turn : Mode → ℕ → ℕ → ℕ → ℕ → Turn
 choice_turn m c p q k = cond (ltb c k) (On (goal_of p m c) Alone Nothing) (On (goal_of q m (c - k)) Alone Nothing)
-
--- the table has been checked, and the words hold the counts of its nodes
-pub record Prepared (t : Table) (s : List ℕ) : Type 0 where
-  pub checked : Checked t
-  pub counted : Counted t s
 
 -- the lowest level with each call that the process exposes below it
 unfoldable pub exposure : Process → ℕ

@@ -7,8 +7,8 @@ use mathlib.Core.List.{List}
 use native.Mathlib.Omega.{arith}
 use borrow.Author.Tests.{ne_eqb, lt-ltb, le-ltb}
 use Rattle.basis.proofs.Below.{below_out, below_at}
-use Rattle.value.specs.declared.Value.{Value}
-use Rattle.value.specs.declared.Value.TheVariants.{Absent}
+use Rattle.value.specs.Values.{Value}
+use Rattle.std.specs.Prelude.{None}
 use Rattle.value.specs.declared.Truth.{Truth}
 use Rattle.value.specs.Truths.{truth, undefined, compare_values, connect}
 use Rattle.table.specs.Tables.{Table, kind_at, p_at, q_at}
@@ -18,11 +18,11 @@ use Rattle.evaluation.specs.Sets.{comparison}
 
 module _ (t : Table) (s : List ℕ) (x y limit n : ℕ) where
   -- VALUES
-  pub value_out : limit ≤ n → value_below t s x y limit n ≡ Absent
-  value_out h = below_out (value_step t s x y) Absent limit n h
+  pub value_out : limit ≤ n → value_below t s x y limit n ≡ None
+  value_out h = below_out (value_step t s x y) None limit n h
 
   pub value_at_lem : n < limit → value_below t s x y limit n ≡ value_step t s x y (value_below t s x y n) n
-  value_at_lem h = below_at (value_step t s x y) Absent limit n h
+  value_at_lem h = below_at (value_step t s x y) None limit n h
 
   -- GUARDS
   pub truth_out : limit ≤ n → truth_below t s x y limit n ≡ undefined

@@ -32,14 +32,14 @@ pub fn value_below(
     ensures { InTables kinds.now operands.now (λ t. result ≡ value_below t state.now sender receiver limit node) }
 {
     if limit <= node {
-        return Value::Absent;
+        return None;
     }
     let kind = kinds[node];
     let p = table::p_at(operands, node);
     let q = table::q_at(operands, node);
     let agent = agent_of(q, sender, receiver);
     match kind {
-        basis::kinds::CONSTANT => Value::Present(table::constant_at(operands, node)),
+        basis::kinds::CONSTANT => Some(table::constant_at(operands, node)),
         basis::kinds::ATTRIBUTE => state::value_in(state, Store::Attributes(agent), p),
         basis::kinds::STIGMERGY => state::value_in(state, Store::Entries(agent), p),
         basis::kinds::ENVIRONMENT => state::value_in(state, Store::Environment, p),

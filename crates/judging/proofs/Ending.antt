@@ -7,7 +7,7 @@ use mathlib.Core.List.{List, [], ◌∷◌}
 use lib.Dec.{leb, ltb}
 use Rattle.term.specs.declared.Label.{Label}
 use Rattle.term.specs.declared.Label.TheVariants.{Ticking, Acting}
-use Rattle.value.specs.declared.Value.TheVariants.{Absent, Present}
+use Rattle.std.specs.Prelude.{None, Some}
 use Rattle.table.proofs.Checks.{first_refuses, first_later, none_passes}
 use Rattle.table.specs.Checks.{Refusal, refuse_if, first_of}
 use Rattle.table.specs.Tables.{Table}
@@ -56,11 +56,11 @@ module _ (t : Table) (was : List ℕ) (x : ℕ) where
 
   -- an action, by its value
   module _ (n keys size : ℕ) where
-    pub absent_ends : value_for t was x n ≡ Absent → Ended t was x (Acting n) keys size (Refused 15)
+    pub absent_ends : value_for t was x n ≡ None → Ended t was x (Acting n) keys size (Refused 15)
     absent_ends e = ends_absent t was x (Acting n) keys size (ap is_absent e)
 
     -- and by the clock, as it has been read
-    module _ (word : ℕ) (present : value_for t was x n ≡ Present word) (clock : ℕ) (is : clock ≡ clock_of was) where
+    module _ (word : ℕ) (present : value_for t was x n ≡ Some word) (clock : ℕ) (is : clock ≡ clock_of was) where
       pub full_ends : (writes_entry t (Acting n) && leb clock_limit clock) ≡ true → Ended t was x (Acting n) keys size (Refused 16)
       full_ends e = ends_full t was x (Acting n) keys size (ap is_absent present) (rw is at e)
 

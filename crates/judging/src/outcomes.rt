@@ -39,8 +39,8 @@ fn judge_action(
     let q = q_at(operands, n);
     let value = value_of(sizes, kinds, operands, state, agent, agent, q);
     match value {
-        Value::Absent => Judgement::Refused(15),
-        Value::Present(word) => {
+        None => Judgement::Refused(15),
+        Some(word) => {
             if (kinds[n] == basis::kinds::SET_STIGMERGY) & (state::CLOCK_LIMIT <= clock_of(state)) {
                 return Judgement::Refused(16);
             }

@@ -15,8 +15,8 @@ use Rattle.basis.specs.KeySets.{has, plus_all}
 use Rattle.basis.proofs.KeySets.{has_plus_all, has_nothing, nothing_zero}
 use Rattle.basis.proofs.Tests.{not_both, same_test, and_left, and_both, same_or_other}
 use Rattle.basis.proofs.Lists.{nth_in, nth_is}
-use Rattle.value.specs.declared.Value.{Value}
-use Rattle.value.specs.declared.Value.TheVariants.{Absent, Present}
+use Rattle.value.specs.Values.{Value}
+use Rattle.std.specs.Prelude.{None, Some}
 use Rattle.table.specs.Tables.{Table, kind_at, p_at, q_at}
 use Rattle.term.specs.declared.Label.{Label}
 use Rattle.term.specs.declared.Label.TheVariants.{Ticking, Acting}
@@ -69,13 +69,13 @@ here j k a =
     (λ e. and_both (eqb j k) (eqb a a) (eq-eqb j k (sym (eqb-true k j e))) (eq-eqb a a refl))
 
 module _ (k v : ℕ) (s : List ℕ) (key : k < key_limit) (room : HasBlocks s) where
-  put_environment : (system_of (put Environment k v 1 s)).E ≡ ((system_of s).E ⟦ k ≔ Present v ⟧)
-  put_environment = fun_ext λ j. put_value_in Environment k v 1 s key room (omega arith) (omega arith) Environment j ∙ ap (λ (b : Bool). cond b (Present v) ((system_of s).E j)) (here j k 0)
+  put_environment : (system_of (put Environment k v 1 s)).E ≡ ((system_of s).E ⟦ k ≔ Some v ⟧)
+  put_environment = fun_ext λ j. put_value_in Environment k v 1 s key room (omega arith) (omega arith) Environment j ∙ ap (λ (b : Bool). cond b (Some v) ((system_of s).E j)) (here j k 0)
 
   put_attribute : (x : ℕ) → x < 32
-      → agent_of (put (Attributes x) k v 1 s) x ≡ ⟨ (agent_of s x).I ⟦ k ≔ Present v ⟧ ⸴ (agent_of s x).L ⸴ (agent_of s x).P ⸴ (agent_of s x).Zc ⸴ (agent_of s x).Zp ⟩
+      → agent_of (put (Attributes x) k v 1 s) x ≡ ⟨ (agent_of s x).I ⟦ k ≔ Some v ⟧ ⸴ (agent_of s x).L ⸴ (agent_of s x).P ⸴ (agent_of s x).Zc ⸴ (agent_of s x).Zp ⟩
   put_attribute x there = tuple
-      (fun_ext λ j. put_value_in (Attributes x) k v 1 s key room there (omega arith) (Attributes x) j ∙ ap (λ (b : Bool). cond b (Present v) ((agent_of s x).I j)) (here j k x))
+      (fun_ext λ j. put_value_in (Attributes x) k v 1 s key room there (omega arith) (Attributes x) j ∙ ap (λ (b : Bool). cond b (Some v) ((agent_of s x).I j)) (here j k x))
       (LSame after s x (λ j l. other (Mark (Entries x) j) l (rw and-false) refl) (λ j l. other (Word (Entries x) j) l refl (rw and-false)) (λ j l. other (Writer x j) l refl refl))
       (term_same after s x (put_length (Attributes x) k v 1 s) (other (Length x) tt refl refl) (λ i l. other (Residual x i) l refl refl))
       (ZcSame after s x (other (Waits Zc x) tt refl refl))
@@ -179,9 +179,9 @@ pub record Enabled (t : Table) (s : List ℕ) (x : ℕ) (d : Derivation) : Type 
   pub guards : all_hold t s x d.guards ≡ true
   pub present : lacks_value t s x d.label ≡ false
 
-present_value : (o : Value) → is_absent o ≡ false → o ≡ Present (word_in o)
-present_value Absent e = absurd (not_both refl e)
-present_value (Present v) e = refl
+present_value : (o : Value) → is_absent o ≡ false → o ≡ Some (word_in o)
+present_value None e = absurd (not_both refl e)
+present_value (Some v) e = refl
 
 clock_agents : (s : List ℕ) (m y : ℕ) → agent_of (set s clock_at m) y ≡ agent_of s y
 clock_agents s m y = agent_same (set s clock_at m) s y (length-set s clock_at m) (λ p h k o. set_other s Clock m tt p h (apart p Clock y k o (λ l f. omega arith)))
@@ -239,7 +239,7 @@ module _ (t : Table) (ok : Checked t) (s : List ℕ) (narrow : Narrow t s) (room
     done_attribute : kind_at t n ≡ 2 → Done
     done_attribute k =
         finish (put (Attributes x) p v 1 s) (set_value t s x n (λ h. omega arith) ∙ ap (λ (store : Store). put store p v 1 s) (store_attribute t x n k))
-        (system_of s).E (clock_of s) ⟨ me.I ⟦ p ≔ Present v ⟧ ⸴ me.L ⸴ me.P ⸴ me.Zc ⸴ me.Zp ⟩
+        (system_of s).E (clock_of s) ⟨ me.I ⟦ p ≔ Some v ⟧ ⸴ me.L ⸴ me.P ⸴ me.Zc ⸴ me.Zp ⟩
         (put_attribute p v s key room x there)
         (λ y o. put_agents (Attributes x) p v 1 s key y (λ l f. o (sym f)))
         (fun_ext λ j. put_value_in (Attributes x) p v 1 s key room there (omega arith) Environment j ∙ rw and-false)
@@ -249,7 +249,7 @@ module _ (t : Table) (ok : Checked t) (s : List ℕ) (narrow : Narrow t s) (room
     done_environment : kind_at t n ≡ 4 → Done
     done_environment k =
         finish (put Environment p v 1 s) (set_value t s x n (λ h. omega arith) ∙ ap (λ (store : Store). put store p v 1 s) (store_environment t x n k))
-        ((system_of s).E ⟦ p ≔ Present v ⟧) (clock_of s) me
+        ((system_of s).E ⟦ p ≔ Some v ⟧) (clock_of s) me
         (put_agents Environment p v 1 s key x (λ l f. omega arith))
         (λ y o. put_agents Environment p v 1 s key y (λ l f. omega arith))
         (put_environment p v s key room)

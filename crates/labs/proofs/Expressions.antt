@@ -11,8 +11,8 @@ use native.Mathlib.Omega.{arith}
 use lib.Dec.{eqb, ltb}
 use Rattle.basis.proofs.Below.{below_both}
 use Rattle.basis.proofs.Tests.{not_both, and_left, and_right, and_both, or_either, or_left, or_right, cond_both}
-use Rattle.value.specs.declared.Value.{Value}
-use Rattle.value.specs.declared.Value.TheVariants.{Absent, Present}
+use Rattle.value.specs.Values.{Value}
+use Rattle.std.specs.Prelude.{None, Some}
 use Rattle.value.specs.declared.Truth.{Truth}
 use Rattle.value.specs.Values.{signed_of, operate}
 use Rattle.value.specs.Truths.{truth, undefined, compare_values}
@@ -41,7 +41,7 @@ entry_value s a k = by (ltb k key_limit) (eqb (stamp_of s a k) 0)
   where
     by : (b c : Bool)
         → value_of_entry (cond b (cond {A = Option Entry} c none (some (record { value = word_of s (Entries a) k; time = stamp_of s a k; writer = writer_of s a k }))) none)
-        ≡ cond b (cond c Absent (Present (word_of s (Entries a) k))) Absent
+        ≡ cond b (cond c None (Some (word_of s (Entries a) k))) None
     by true true = refl
     by true false = refl
     by false c = refl
@@ -57,7 +57,7 @@ not_says : {A : Type 0} (a : Bool) → ((a ≡ true) ↔ A) → (not a ≡ true)
 not_says true p = (λ e. absurd (not_both e refl), λ f. absurd (f (p.0 refl)))
 not_says false p = (λ e h. not_both (p.1 h) refl, λ f. refl)
 
-one_word : {v w : ℕ} → Present v ≡ Present w → v ≡ w
+one_word : {v w : ℕ} → Some v ≡ Some w → v ≡ w
 one_word p = cc
 
 -- TABLE 4: an expression has one value
@@ -74,21 +74,21 @@ one_value know (operation o e f) v w p q =
 
 -- a value on words, and an expression of the document: it has the value's word, of 32 bits, and no other
 record Evaluates (know : Knowledge) (a : Value) (e : Expr) : Type 0 where
-  small : (w : ℕ) → a ≡ Present w → w < 2 ^ 32
-  is : (w : ℕ) → (a ≡ Present w) ↔ (E⟦ e ⟧ know ⇓ w)
+  small : (w : ℕ) → a ≡ Some w → w < 2 ^ 32
+  is : (w : ℕ) → (a ≡ Some w) ↔ (E⟦ e ⟧ know ⇓ w)
 
 -- an operation has no value where a part has none, and else what the operation on numbers gives
 module _ (know : Knowledge) (kind : ℕ) (e f : Expr) where
   abbrev whole : Expr
   whole = operation kind e f
 
-  evaluates_nothing : ((w : ℕ) → E⟦ whole ⟧ know ⇓ w → ⊥) → Evaluates know Absent whole
+  evaluates_nothing : ((w : ℕ) → E⟦ whole ⟧ know ⇓ w → ⊥) → Evaluates know None whole
   evaluates_nothing h = record { small = λ w p. absurd (no_value p); is = λ w. (λ p. absurd (no_value p), λ g. absurd (h w g)) }
 
   evaluates_operation : (a b : Value) → Evaluates know a e → Evaluates know b f → Evaluates know (operate kind a b) whole
-  evaluates_operation Absent b p q = evaluates_nothing (λ w h. no_value ((p.is h.0).1 h.2))
-  evaluates_operation (Present u) Absent p q = evaluates_nothing (λ w h. no_value ((q.is h.1).1 h.3))
-  evaluates_operation (Present u) (Present v) p q = record { small = λ w h. (given w h).4; is = λ w. (given w, back w) }
+  evaluates_operation None b p q = evaluates_nothing (λ w h. no_value ((p.is h.0).1 h.2))
+  evaluates_operation (Some u) None p q = evaluates_nothing (λ w h. no_value ((q.is h.1).1 h.3))
+  evaluates_operation (Some u) (Some v) p q = record { small = λ w h. (given w h).4; is = λ w. (given w, back w) }
     where
       x : number u ≡ signed_of u
       x = number_is u (p.small u refl)
@@ -96,12 +96,12 @@ module _ (know : Knowledge) (kind : ℕ) (e f : Expr) where
       y : number v ≡ signed_of v
       y = number_is v (q.small v refl)
 
-      given : (w : ℕ) → operate kind (Present u) (Present v) ≡ Present w → E⟦ whole ⟧ know ⇓ w
+      given : (w : ℕ) → operate kind (Some u) (Some v) ≡ Some w → E⟦ whole ⟧ know ⇓ w
       given w h =
           let g = (operates_is (signed_of u) (signed_of v) w kind).0 h in
           (u, v, (p.is u).0 refl, (q.is v).0 refl, g.0, rw (x, y) g.1)
 
-      back : (w : ℕ) → E⟦ whole ⟧ know ⇓ w → operate kind (Present u) (Present v) ≡ Present w
+      back : (w : ℕ) → E⟦ whole ⟧ know ⇓ w → operate kind (Some u) (Some v) ≡ Some w
       back w h =
           let i : u ≡ h.0 = one_word ((p.is h.0).1 h.2) in
           let j : v ≡ h.1 = one_word ((q.is h.1).1 h.3) in
@@ -122,9 +122,9 @@ module _ (know : Knowledge) where
   never b f g = ((λ e. absurd (not_both e refl), λ h. absurd (f h)), (λ e. absurd (not_both e refl), λ h. absurd (g h)))
 
   agrees_comparison : (kind : ℕ) (a b : Value) (e f : Expr) → Evaluates know a e → Evaluates know b f → Agrees know (compare_values kind a b) (comparison kind e f)
-  agrees_comparison kind Absent b e f p q = never (comparison kind e f) (λ h. no_value ((p.is h.0).1 h.2)) (λ h. no_value ((p.is h.0).1 h.2))
-  agrees_comparison kind (Present v) Absent e f p q = never (comparison kind e f) (λ h. no_value ((q.is h.1).1 h.3)) (λ h. no_value ((q.is h.1).1 h.3))
-  agrees_comparison kind (Present v) (Present w) e f p q =
+  agrees_comparison kind None b e f p q = never (comparison kind e f) (λ h. no_value ((p.is h.0).1 h.2)) (λ h. no_value ((p.is h.0).1 h.2))
+  agrees_comparison kind (Some v) None e f p q = never (comparison kind e f) (λ h. no_value ((q.is h.1).1 h.3)) (λ h. no_value ((q.is h.1).1 h.3))
+  agrees_comparison kind (Some v) (Some w) e f p q =
       let c = compares_is kind v w (p.small v refl) (q.small w refl) in (
         (λ z. (v, w, (p.is v).0 refl, (q.is w).0 refl), λ h. refl),
         (
@@ -146,14 +146,14 @@ module _ (know : Knowledge) where
       agrees_disjunction : Agrees know (truth (a.defined && c.defined) (a.holds || c.holds)) (disjunction b d)
       agrees_disjunction = (and_says a.defined c.defined p.0 q.0, or_says a.holds c.holds p.1 q.1)
 
-evaluates_constant : (know : Knowledge) (v : ℕ) → v < 2 ^ 32 → Evaluates know (Present v) (value v)
-evaluates_constant know v l = record { small = λ w p. subst (λ (o : ℕ). o < 2 ^ 32) (one_word p) l; is = λ w. (one_word, λ p. ap Present p) }
+evaluates_constant : (know : Knowledge) (v : ℕ) → v < 2 ^ 32 → Evaluates know (Some v) (value v)
+evaluates_constant know v l = record { small = λ w p. subst (λ (o : ℕ). o < 2 ^ 32) (one_word p) l; is = λ w. (one_word, λ p. ap Some p) }
 
 -- a node that is no expression
-evaluates_none : (know : Knowledge) → Evaluates know Absent no_expr
+evaluates_none : (know : Knowledge) → Evaluates know None no_expr
 evaluates_none know =
     let zeros = evaluates_constant know 0 (omega arith) in
-    evaluates_operation know 0 (value 0) (value 0) (Present 0) (Present 0) zeros zeros
+    evaluates_operation know 0 (value 0) (value 0) (Some 0) (Some 0) zeros zeros
 
 -- constants and words of 32 bits
 pub record Narrow (t : Table) (s : List ℕ) : Type 0 where
@@ -181,7 +181,7 @@ module _ (t : Table) (s : List ℕ) (narrow : Narrow t s) (x y : ℕ) where
       R v e = Evaluates know v e
 
       -- a key's value, where the expression is defined by it
-      stored : (store : Store) (p : ℕ) (e : Expr) → ((w : ℕ) → (E⟦ e ⟧ know ⇓ w) ≡ (value_in s store p ≡ Present w)) → Evaluates know (value_in s store p) e
+      stored : (store : Store) (p : ℕ) (e : Expr) → ((w : ℕ) → (E⟦ e ⟧ know ⇓ w) ≡ (value_in s store p ≡ Some w)) → Evaluates know (value_in s store p) e
       stored store p e h = record {
         small = λ w i. subst SmallValue i (value_in_small s narrow.words store p);
         is = λ w. (λ i. subst (λ (T : Type 0). T) (sym (h w)) i, λ i. subst (λ (T : Type 0). T) (h w) i);
@@ -195,7 +195,7 @@ module _ (t : Table) (s : List ℕ) (narrow : Narrow t s) (x y : ℕ) where
       entries p q true e = stored (Entries y) p (stigmergy p q) (λ w. rw (e, entry_value s y p))
       entries p q false e = stored (Entries x) p (stigmergy p q) (λ w. rw (e, entry_value s x p))
 
-  pub expression_value : (n v : ℕ) → (value_of t s x y n ≡ Present v) ↔ (E⟦ expr_of t n ⟧ know ⇓ v)
+  pub expression_value : (n v : ℕ) → (value_of t s x y n ≡ Some v) ↔ (E⟦ expr_of t n ⟧ know ⇓ v)
   expression_value n v = (expression_evaluates n).is v
 
   -- TABLES 5 AND 6
@@ -207,7 +207,7 @@ module _ (t : Table) (s : List ℕ) (narrow : Narrow t s) (x y : ℕ) where
       R a b = Agrees know a b
 
       none : R undefined (comparison 0 no_expr no_expr)
-      none = agrees_comparison know 0 Absent Absent no_expr no_expr (evaluates_none know) (evaluates_none know)
+      none = agrees_comparison know 0 None None no_expr no_expr (evaluates_none know) (evaluates_none know)
 
       step : (l : ℕ → Truth) (m : ℕ → Guard) → ((k : ℕ) → R (l k) (m k)) → (k : ℕ) → R (truth_step t s x y l k) (guard_step t m k)
       step l m h k =

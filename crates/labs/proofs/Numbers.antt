@@ -14,8 +14,8 @@ use mir.Val.{Fits, of_z}
 use mir.Facts.{Fits-of_lt, to_z-of_z, of_z-to_z, to_z_inj}
 use borrow.Author.Tests.{lt-ltb, le-ltb, ltb-true, eqb-true, eq-eqb}
 use Rattle.basis.proofs.Tests.{not_both, cond_cases}
-use Rattle.value.specs.declared.Value.{Value}
-use Rattle.value.specs.declared.Value.TheVariants.{Absent, Present}
+use Rattle.value.specs.Values.{Value}
+use Rattle.std.specs.Prelude.{None, Some}
 use Rattle.value.specs.Values.{signed_of, in_range, fit, is_zero, floor_z, floor_rem, arithmetic}
 use Rattle.value.specs.Truths.{test_of}
 use Rattle.value.proofs.Words.{in_range_lem, word_small}
@@ -23,7 +23,7 @@ use Rattle.value.proofs.Bounds.{word_in_range}
 use Rattle.value.proofs.Floored.{times_neg, neg_times, rest_of, of_pos, above_is, exchanged}
 use Rattle.labs.specs.Numbers.{number, Divided, Operates, plus, minus, times, divide, remainder, ◌≺◌, Compares, equal, less, greater}
 
-pub no_value : {v : ℕ} → Absent ≡ Present v → ⊥
+pub no_value : {v : ℕ} → None ≡ Some v → ⊥
 no_value p = let z : ◌≡◌ {A = ℕ} 0 1 = cc in omega arith
 
 -- the number of a word
@@ -35,21 +35,21 @@ number_is w l = by (ltb w (2 ^ 31))
     by false = rw (lt-ltb w (2 ^ 32) l)
 
 -- a number is a value where a word holds it
-fit_is : (z : ℤ) (w : ℕ) → (fit z ≡ Present w) ↔ ((w < 2 ^ 32) × (number w ≡ z))
+fit_is : (z : ℤ) (w : ℕ) → (fit z ≡ Some w) ↔ ((w < 2 ^ 32) × (number w ≡ z))
 fit_is z w = (by (in_range z) refl, back)
   where
-    by : (b : Bool) → in_range z ≡ b → cond b (Present (of_z w32 z)) Absent ≡ Present w → (w < 2 ^ 32) × (number w ≡ z)
+    by : (b : Bool) → in_range z ≡ b → cond b (Some (of_z w32 z)) None ≡ Some w → (w < 2 ^ 32) × (number w ≡ z)
     by true e p =
         let i : of_z w32 z ≡ w = cc in
         let l = word_small z e in
         subst (λ (o : ℕ). (o < 2 ^ 32) × (number o ≡ z)) i (l, number_is (of_z w32 z) l ∙ to_z-of_z {w = w32} (record { sfits = (in_range_lem z).0 e }))
     by false e p = absurd (no_value p)
 
-    back : (w < 2 ^ 32) × (number w ≡ z) → fit z ≡ Present w
+    back : (w < 2 ^ 32) × (number w ≡ z) → fit z ≡ Some w
     back h =
         let e : signed_of w ≡ z = sym (number_is w h.0) ∙ h.1 in
         let f : Fits w32 w = Fits-of_lt h.0 in
-        subst (λ (o : ℤ). fit o ≡ Present w) e (rw (word_in_range f, of_z-to_z f))
+        subst (λ (o : ℤ). fit o ≡ Some w) e (rw (word_in_range f, of_z-to_z f))
 
 -- DIVISION: signs are taken off, and what is left is division by a number above 0
 abs_neg : (z : ℤ) → nat_abs (neg_ℤ z) ≡ nat_abs z
@@ -190,12 +190,12 @@ module _ (x y : ℤ) (w : ℕ) where
 
   -- a value that is given by this kind
   abbrev Gives : ℕ → Value → Type 0
-  Gives kind v = v ≡ Present w → Given kind
+  Gives kind v = v ≡ Some w → Given kind
 
   gives_fit : (kind : ℕ) (z : ℤ) → (number w ≡ z → Operates kind x y (number w)) → Gives kind (fit z)
   gives_fit kind z f e = let h = (fit_is z w).0 e in (h.0, f h.1)
 
-  gives_divided : (kind : ℕ) (z : ℤ) → ((y ≡ pos 0 → ⊥) → number w ≡ z → Operates kind x y (number w)) → Gives kind (cond (is_zero y) Absent (fit z))
+  gives_divided : (kind : ℕ) (z : ℤ) → ((y ≡ pos 0 → ⊥) → number w ≡ z → Operates kind x y (number w)) → Gives kind (cond (is_zero y) None (fit z))
   gives_divided kind z f = cond_cases (Gives kind) (is_zero y) (λ e p. absurd (no_value p)) (λ e. gives_fit kind z (f (not_zero y e)))
 
   arithmetic_gives : (kind : ℕ) → Gives kind (arithmetic kind x y)
@@ -210,14 +210,14 @@ module _ (x y : ℤ) (w : ℕ) where
       at : (k : ℕ) → eqb kind k ≡ true → (v : Value) → Gives k v → Gives kind v
       at k e v g p = subst (λ (j : ℕ). Given j) (sym (eqb-true kind k e)) (g p)
 
-  given_arithmetic : {kind : ℕ} → w < 2 ^ 32 → Operates kind x y (number w) → arithmetic kind x y ≡ Present w
+  given_arithmetic : {kind : ℕ} → w < 2 ^ 32 → Operates kind x y (number w) → arithmetic kind x y ≡ Some w
   given_arithmetic l (plus e) = (fit_is (x +ℤ y) w).1 (l, e)
   given_arithmetic l (minus e) = (fit_is (x -ℤ y) w).1 (l, sym (+ℤ-neg_ℤ_cancel (number w) y) ∙ ap (λ z. z -ℤ y) e)
   given_arithmetic l (times e) = (fit_is (x *ℤ y) w).1 (l, e)
   given_arithmetic l (divide {r = r} t) = rw (nonzero x x y (number w) r t) ((fit_is (quot_z x y) w).1 (l, truncated_one x y (number w) r t))
   given_arithmetic l (remainder {q = q} t) = rw (nonzero y x y q (number w) t) ((fit_is (floor_rem x y) w).1 (l, floored_one x y q (number w) t))
 
-  pub operates_is : (kind : ℕ) → (arithmetic kind x y ≡ Present w) ↔ ((w < 2 ^ 32) × Operates kind x y (number w))
+  pub operates_is : (kind : ℕ) → (arithmetic kind x y ≡ Some w) ↔ ((w < 2 ^ 32) × Operates kind x y (number w))
   operates_is kind = (arithmetic_gives kind, λ h. given_arithmetic h.0 h.1)
 
 -- THE COMPARISONS

@@ -4,7 +4,7 @@ use Prim.Native.Nat.{ℕ, suc}
 use mathlib.Core.Path.{◌≡◌, refl, sym, ap, subst, ◌∙◌}
 use mathlib.Core.Logic.{⊎_elim}
 use Rattle.basis.proofs.Tests.{same_or_other}
-use Rattle.value.specs.declared.Value.TheVariants.{Present}
+use Rattle.std.specs.Prelude.{Some}
 use Rattle.table.specs.Tables.{Table}
 use Rattle.term.specs.declared.Label.{Label}
 use Rattle.term.specs.declared.Label.TheVariants.{Ticking, Acting}
@@ -62,12 +62,12 @@ module _ (t : Table) (E : Interface) (T n : ℕ) (a : Agent) (d : Derivation) wh
   abbrev After : Will → Agent → Interface → ℕ → Agent → Type 0
   After ε a' E₁ T₁ b = (E₁ ≡ E) × (T₁ ≡ T) × (b ≡ awaited t a d.guards a')
   After (e ▹ attribute x) a' E₁ T₁ b =
-      (v : ℕ) × (E⟦ e ⟧ alone E a ⇓ v) × (E₁ ≡ E) × (T₁ ≡ T) × (b ≡ awaited t a d.guards ⟨ a'.I ⟦ x ≔ Present v ⟧ ⸴ a'.L ⸴ a'.P ⸴ a'.Zc ⸴ a'.Zp ⟩)
+      (v : ℕ) × (E⟦ e ⟧ alone E a ⇓ v) × (E₁ ≡ E) × (T₁ ≡ T) × (b ≡ awaited t a d.guards ⟨ a'.I ⟦ x ≔ Some v ⟧ ⸴ a'.L ⸴ a'.P ⸴ a'.Zc ⸴ a'.Zp ⟩)
   After (e ▹ stigmergy x) a' E₁ T₁ b =
       (v : ℕ) × (rule : Insertion) × (L' : Stigmergy) × (E⟦ e ⟧ alone E a ⇓ v) × Inserted a'.L x (record { value = v; time = suc T; writer = n }) rule L' × (E₁ ≡ E) × (T₁ ≡ suc T)
       × (b ≡ awaited t a d.guards ⟨ a'.I ⸴ L' ⸴ a'.P ⸴ a'.Zc ⸴ a'.Zp ∪｛ x ｝ ⟩)
   After (e ▹ environment x) a' E₁ T₁ b =
-      (v : ℕ) × (E⟦ e ⟧ alone E a ⇓ v) × (E₁ ≡ (E ⟦ x ≔ Present v ⟧)) × (T₁ ≡ T) × (b ≡ awaited t a d.guards a')
+      (v : ℕ) × (E⟦ e ⟧ alone E a ⇓ v) × (E₁ ≡ (E ⟦ x ≔ Some v ⟧)) × (T₁ ≡ T) × (b ≡ awaited t a d.guards a')
 
   abbrev Ends : Interface → ℕ → Agent → Type 0
   Ends E₁ T₁ b = After (will_of t d.label) (onward a d.leaving (label_keys t d.label)) E₁ T₁ b
@@ -89,7 +89,7 @@ module _ (t : Table) (E : Interface) (T n : ℕ) (a : Agent) (d : Derivation) wh
       let i : p.0 ≡ q.0 = one_value (alone E a) e p.0 q.0 p.1 q.1 in (
         p.2 ∙ sym q.2,
         p.3 ∙ sym q.3,
-        p.4 ∙ ap (λ (v : ℕ). awaited t a d.guards ⟨ a'.I ⟦ x ≔ Present v ⟧ ⸴ a'.L ⸴ a'.P ⸴ a'.Zc ⸴ a'.Zp ⟩) i ∙ sym q.4,
+        p.4 ∙ ap (λ (v : ℕ). awaited t a d.guards ⟨ a'.I ⟦ x ≔ Some v ⟧ ⸴ a'.L ⸴ a'.P ⸴ a'.Zc ⸴ a'.Zp ⟩) i ∙ sym q.4,
       )
   after_unique (e ▹ stigmergy x) a' E₁ E₂ T₁ T₂ b c p q =
       let i : p.0 ≡ q.0 = one_value (alone E a) e p.0 q.0 p.3 q.3 in
@@ -100,7 +100,7 @@ module _ (t : Table) (E : Interface) (T n : ℕ) (a : Agent) (d : Derivation) wh
       )
   after_unique (e ▹ environment x) a' E₁ E₂ T₁ T₂ b c p q =
       let i : p.0 ≡ q.0 = one_value (alone E a) e p.0 q.0 p.1 q.1 in (
-        p.2 ∙ ap (λ (v : ℕ). E ⟦ x ≔ Present v ⟧) i ∙ sym q.2,
+        p.2 ∙ ap (λ (v : ℕ). E ⟦ x ≔ Some v ⟧) i ∙ sym q.2,
         p.3 ∙ sym q.3,
         p.4 ∙ sym q.4,
       )

@@ -1,7 +1,7 @@
 -- Agents ⟨I, L, P, Zc, Zp⟩ and situated systems (E, S): sections 2 and 4.1 of document 000.
 use Rattle.std.specs.Prelude.{ℕ, ◌<◌, ◌≤◌, ◌≡◌, Bool, cond, not, ◌&&◌, ◌||◌, eqb}
 use Rattle.std.proofs.Math.Option.{Option, none, some}
-use Rattle.value.specs.declared.Value.{Value}
+use Rattle.value.specs.Values.{Value}
 use Rattle.state.specs.declared.Insertion.{Insertion}
 use Rattle.state.specs.declared.Insertion.TheVariants.{Add, Update, Discard}
 use Rattle.term.specs.Terms.{Term}

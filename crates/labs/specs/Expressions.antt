@@ -2,8 +2,8 @@
 use Rattle.std.specs.Prelude.{ℕ, ◌^◌, ◌<◌, ◌≡◌, false, cond, ◌⊎◌, ltb, eqb}
 use Rattle.std.proofs.Math.Option.{Option, none, some}
 use Rattle.basis.specs.Below.{below}
-use Rattle.value.specs.declared.Value.{Value}
-use Rattle.value.specs.declared.Value.TheVariants.{Absent, Present}
+use Rattle.value.specs.Values.{Value}
+use Rattle.std.specs.Prelude.{None, Some}
 use Rattle.table.specs.Tables.{Table, kind_at, p_at, q_at, constant_at}
 use Rattle.labs.specs.Numbers.{number, Operates, Compares}
 use Rattle.labs.specs.Agents.{Entry, Interface, Keys, Agent, ◌∪◌}
@@ -32,8 +32,8 @@ pub record Knowledge : Type 0 where
 
 -- value(L, x)
 abbrev pub value_in : Option Entry → Value
-value_in none = Absent
-value_in (some e) = Present e.value
+value_in none = None
+value_in (some e) = Some e.value
 
 abbrev pub party : Knowledge → ℕ → Agent
 party k q = cond (eqb q 2) k.receiver k.sender
@@ -43,9 +43,9 @@ infix 15 E⟦◌⟧◌⇓◌
 -- H⟦·⟧ of links is the same with two agents
 abbrev pub E⟦◌⟧◌⇓◌ : Expr → Knowledge → ℕ → Type 0
 E⟦ value w ⟧ k ⇓ v = w ≡ v
-E⟦ attribute x q ⟧ k ⇓ v = (party k q).I x ≡ Present v
-E⟦ stigmergy x q ⟧ k ⇓ v = value_in ((party k q).L x) ≡ Present v
-E⟦ environment x ⟧ k ⇓ v = k.E x ≡ Present v
+E⟦ attribute x q ⟧ k ⇓ v = (party k q).I x ≡ Some v
+E⟦ stigmergy x q ⟧ k ⇓ v = value_in ((party k q).L x) ≡ Some v
+E⟦ environment x ⟧ k ⇓ v = k.E x ≡ Some v
 E⟦ operation o e f ⟧ k ⇓ v = (u w : ℕ) × (E⟦ e ⟧ k ⇓ u) × (E⟦ f ⟧ k ⇓ w) × (v < 2 ^ 32) × Operates o (number u) (number w) (number v)
 
 abbrev pub K⟦◌⟧ : Expr → Keys

@@ -2,7 +2,7 @@
 use Rattle.std.specs.Prelude.{ℕ, false, cond, List, ltb, eqb}
 use Rattle.std.proofs.Math.Option.{Option, none, some}
 use Rattle.basis.specs.KeySets.{has}
-use Rattle.value.specs.declared.Value.TheVariants.{Absent}
+use Rattle.std.specs.Prelude.{None}
 use Rattle.table.specs.Tables.{Table}
 use Rattle.term.specs.Terms.{Node}
 use Rattle.state.specs.declared.Store.TheVariants.{Environment, Attributes, Entries}
@@ -27,7 +27,7 @@ system_of s = record { E = λ x. value_in s Environment x; clock = clock_of s; a
 -- at the start: clock 0, no value, no entry, no pending key, and each agent's process the node that its root names
 abbrev pub initial : Table → System
 initial t = record {
-  E = λ x. Absent;
+  E = λ x. None;
   clock = 0;
-  agent = λ a. ⟨ (λ x. Absent) ⸴ (λ x. none) ⸴ Node (start_of t a) ⸴ (λ x. false) ⸴ (λ x. false) ⟩;
+  agent = λ a. ⟨ (λ x. None) ⸴ (λ x. none) ⸴ Node (start_of t a) ⸴ (λ x. false) ⸴ (λ x. false) ⟩;
 }

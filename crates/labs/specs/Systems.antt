@@ -2,7 +2,7 @@
 -- PAR, COMM and ASSOC of Table 8 are not needed: the agents of a system are numbered, and a rule names the one that goes on.
 use Rattle.std.specs.Prelude.{ℕ, suc, ◌<◌, Bool, true, false, ◌&&◌, ◌≡◌, List, [], ◌∷◌}
 use Rattle.std.proofs.Math.Option.{Option, none, some}
-use Rattle.value.specs.declared.Value.TheVariants.{Present}
+use Rattle.std.specs.Prelude.{Some}
 use Rattle.table.specs.Tables.{Table}
 use Rattle.state.specs.declared.Insertion.{Insertion}
 use Rattle.state.specs.declared.Insertion.TheVariants.{Discard}
@@ -66,12 +66,12 @@ pub data Acts (t : Table) (E : Interface) (T n : ℕ) (a : Agent) (d : Derivatio
   -- SKIP's ε in an environment, for which Table 16 prints no rule
   EPSILON : {a' : Agent} → Wills t a d ε a' → Await t E a d.guards → Acts t E T n a d E T (awaited t a d.guards a')
   EVAL-I : {e : Expr} {x : ℕ} {a' : Agent} (v : ℕ) → Wills t a d (e ▹ attribute x) a' → Await t E a d.guards → E⟦ e ⟧ alone E a ⇓ v →
-      Acts t E T n a d E T (awaited t a d.guards ⟨ a'.I ⟦ x ≔ Present v ⟧ ⸴ a'.L ⸴ a'.P ⸴ a'.Zc ⸴ a'.Zp ⟩)
+      Acts t E T n a d E T (awaited t a d.guards ⟨ a'.I ⟦ x ≔ Some v ⟧ ⸴ a'.L ⸴ a'.P ⸴ a'.Zc ⸴ a'.Zp ⟩)
   EVAL-L : {e : Expr} {x : ℕ} {a' : Agent} {rule : Insertion} {L' : Stigmergy} (v : ℕ) → Wills t a d (e ▹ stigmergy x) a' → Await t E a d.guards → E⟦ e ⟧ alone E a ⇓ v →
       Inserted a'.L x (record { value = v; time = suc T; writer = n }) rule L' →
       Acts t E T n a d E (suc T) (awaited t a d.guards ⟨ a'.I ⸴ L' ⸴ a'.P ⸴ a'.Zc ⸴ a'.Zp ∪｛ x ｝ ⟩)
   EVAL-E : {e : Expr} {x : ℕ} {a' : Agent} (v : ℕ) → Wills t a d (e ▹ environment x) a' → Await t E a d.guards → E⟦ e ⟧ alone E a ⇓ v →
-      Acts t E T n a d (E ⟦ x ≔ Present v ⟧) T (awaited t a d.guards a')
+      Acts t E T n a d (E ⟦ x ≔ Some v ⟧) T (awaited t a d.guards a')
 
 -- PAR-E: agent x acts, and the others stay. It is not applied to messages: as printed it would let any part of a system receive nothing,
 -- and so a propagate reach nobody. By 2.3 (PUT is applied until all neighbours have it) and by the paper every other agent receives

@@ -10,8 +10,8 @@ use lib.Dec.{eqb, ltb}
 use lib.ListN.{length, get_or, length-append}
 use Rattle.basis.specs.KeySets.{has}
 use Rattle.basis.proofs.Tests.{lt_or_le, cond_cases}
-use Rattle.value.specs.declared.Value.{Value}
-use Rattle.value.specs.declared.Value.TheVariants.{Absent, Present}
+use Rattle.value.specs.Values.{Value}
+use Rattle.std.specs.Prelude.{None, Some}
 use Rattle.table.specs.Checks.{Check, passes, refuses}
 use Rattle.state.specs.declared.Store.{Store}
 use Rattle.state.specs.declared.Store.TheVariants.{Environment, Attributes, Entries}
@@ -113,7 +113,7 @@ module _ (s : List ℕ) (words : (i : ℕ) → get_or s i 0 < 2 ^ 32) where
       ))
 
   abbrev line_of : Store → ℕ → Value → List ℕ
-  line_of store key v = elim v [ Absent ↦ [] | Present w ↦ value_line s store key w ]
+  line_of store key v = elim v [ None ↦ [] | Some w ↦ value_line s store key w ]
 
   key_fits : (store : Store) (key : ℕ) → store_agent store < agent_limit → key < key_limit → length (key_line s store key) ≤ line_bytes store
   unfolding key_line value_in

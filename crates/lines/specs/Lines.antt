@@ -1,7 +1,7 @@
 -- What labs_show prints: the paper's lines, in its order.
 use Rattle.std.specs.Prelude.{ℕ, cond, List, [], ◌∷◌, ◌++◌, get_or}
 use Rattle.basis.specs.KeySets.{has}
-use Rattle.value.specs.declared.Value.TheVariants.{Absent, Present}
+use Rattle.std.specs.Prelude.{None, Some}
 use Rattle.value.specs.Values.{signed_of}
 use Rattle.table.specs.Checks.{passes, refuses}
 use Rattle.state.specs.declared.Store.{Store}
@@ -59,7 +59,7 @@ value_line s (Attributes a) key word = attribute_line a key word
 value_line s (Entries a) key word = entry_line a key (entry_of s a key)
 
 unfoldable pub key_line : List ℕ → Store → ℕ → List ℕ
-key_line s store key = elim (value_in s store key) [ Absent ↦ [] | Present word ↦ value_line s store key word ]
+key_line s store key = elim (value_in s store key) [ None ↦ [] | Some word ↦ value_line s store key word ]
 
 abbrev pub store_lines : List ℕ → Store → List ℕ
 store_lines s store = each_below (key_line s store) key_limit

@@ -39,8 +39,8 @@ fn key_line(state: &[u32], store: Store, key: usize, out: &mut [u8], at: usize) 
 {
     let value = value_in(state, store, key);
     match value {
-        Value::Present(word) => value_line(state, store, key, word, out, at),
-        Value::Absent => at,
+        Some(word) => value_line(state, store, key, word, out, at),
+        None => at,
     }
 }
 

@@ -10,8 +10,8 @@ use lib.ListN.{get_or}
 use lib.Signed.{quot_z}
 use Rattle.basis.proofs.Below.{below_induct}
 use Rattle.basis.proofs.Tests.{cond_cases}
-use Rattle.value.specs.declared.Value.{Value}
-use Rattle.value.specs.declared.Value.TheVariants.{Absent, Present}
+use Rattle.value.specs.Values.{Value}
+use Rattle.std.specs.Prelude.{None, Some}
 use Rattle.value.specs.Values.{signed_of, in_range, fit, is_zero, floor_rem, arithmetic, operate}
 use Rattle.value.proofs.Words.{word_small}
 use Rattle.table.specs.Tables.{Table, kind_at, p_at, q_at, constant_at}
@@ -23,8 +23,8 @@ use Rattle.state.specs.Walks.{value_below}
 use Rattle.state.specs.WellFormed.{Words}
 
 abbrev pub SmallValue : Value → Type 0
-SmallValue Absent = Unit {0}
-SmallValue (Present v) = v < 2 ^ 32
+SmallValue None = Unit {0}
+SmallValue (Some v) = v < 2 ^ 32
 
 fit_small : (z : ℤ) → SmallValue (fit z)
 fit_small z = cond_cases SmallValue (in_range z) (word_small z) (λ e. tt)
@@ -37,13 +37,13 @@ arithmetic_small kind x y =
     (λ g. cond_cases SmallValue (eqb kind 39) (λ h. divided (quot_z x y))
     (λ h. cond_cases SmallValue (eqb kind 40) (λ i. divided (floor_rem x y)) (λ i. tt)))))
   where
-    divided : (z : ℤ) → SmallValue (cond (is_zero y) Absent (fit z))
+    divided : (z : ℤ) → SmallValue (cond (is_zero y) None (fit z))
     divided z = cond_cases SmallValue (is_zero y) (λ e. tt) (λ e. fit_small z)
 
 operate_small : (kind : ℕ) (a b : Value) → SmallValue (operate kind a b)
-operate_small kind Absent b = tt
-operate_small kind (Present x) Absent = tt
-operate_small kind (Present x) (Present y) = arithmetic_small kind (signed_of x) (signed_of y)
+operate_small kind None b = tt
+operate_small kind (Some x) None = tt
+operate_small kind (Some x) (Some y) = arithmetic_small kind (signed_of x) (signed_of y)
 
 pub value_in_small : (s : List ℕ) → Words s → (store : Store) (k : ℕ) → SmallValue (value_in s store k)
 unfolding value_in
@@ -64,4 +64,4 @@ module _ (t : Table) (bytes : (i : ℕ) → get_or t.operands i 0 < 256) (s : Li
       (λ h. operate_small (kind_at t n) (lower (p_at t n)) (lower (q_at t n))))))
 
   pub value_of_small : (n : ℕ) → SmallValue (value_of t s x y n)
-  value_of_small n = below_induct (value_step t s x y) Absent (λ k v. SmallValue v) t.sizes.nodes (λ k. tt) (λ k l r. step_small (value_below t s x y k) k) n
+  value_of_small n = below_induct (value_step t s x y) None (λ k v. SmallValue v) t.sizes.nodes (λ k. tt) (λ k l r. step_small (value_below t s x y k) k) n

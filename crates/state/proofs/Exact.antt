@@ -13,7 +13,7 @@ use borrow.Author.Tests.{eqb-true, eqb-false, lt-ltb}
 use Rattle.basis.specs.KeySets.{has}
 use Rattle.basis.proofs.KeySets.{same_keys}
 use Rattle.basis.proofs.Tests.{lt_or_le}
-use Rattle.value.specs.declared.Value.TheVariants.{Absent, Present}
+use Rattle.std.specs.Prelude.{None, Some}
 use Rattle.table.specs.Tables.{Table}
 use Rattle.term.specs.Terms.{Term, words}
 use Rattle.state.specs.declared.Store.{Store}
@@ -35,11 +35,11 @@ pub record ShowSame (t : Table) (s u : List ℕ) : Type 0 where
   pub terms : (a : ℕ) → a < t.sizes.agents → term_in s a ≡ term_in u a
 
 -- the same value of two pairs whose absent values are 0
-same_value : (m v n w : ℕ) → (m ≡ 0 → v ≡ 0) → (n ≡ 0 → w ≡ 0) → cond (eqb m 0) Absent (Present v) ≡ cond (eqb n 0) Absent (Present w)
+same_value : (m v n w : ℕ) → (m ≡ 0 → v ≡ 0) → (n ≡ 0 → w ≡ 0) → cond (eqb m 0) None (Some v) ≡ cond (eqb n 0) None (Some w)
     → (v ≡ w) × (m ≡ 0 → n ≡ 0) × (n ≡ 0 → m ≡ 0)
 same_value m v n w zm zn e = by (eqb m 0) refl (eqb n 0) refl e
   where
-    by : (b : Bool) → eqb m 0 ≡ b → (c : Bool) → eqb n 0 ≡ c → cond b Absent (Present v) ≡ cond c Absent (Present w)
+    by : (b : Bool) → eqb m 0 ≡ b → (c : Bool) → eqb n 0 ≡ c → cond b None (Some v) ≡ cond c None (Some w)
         → (v ≡ w) × (m ≡ 0 → n ≡ 0) × (n ≡ 0 → m ≡ 0)
     by true p true q h = let i = eqb-true m 0 p in let j = eqb-true n 0 q in (zm i ∙ sym (zn j), λ x. j, λ x. i)
     by true p false q h = let z : ◌≡◌ {A = ℕ} 0 1 = cc in absurd (omega arith)

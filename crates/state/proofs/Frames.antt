@@ -14,7 +14,7 @@ use Rattle.basis.specs.KeySets.{has, plus, minus}
 use Rattle.basis.proofs.KeySets.{has_plus, has_minus}
 use Rattle.basis.proofs.Lists.{get_d_set, get_d_part}
 use Rattle.basis.proofs.Tests.{not_both, lt_or_le, same_or_other}
-use Rattle.value.specs.declared.Value.TheVariants.{Absent, Present}
+use Rattle.std.specs.Prelude.{None, Some}
 use Rattle.term.specs.Terms.{term_of}
 use Rattle.state.specs.declared.Store.{Store}
 use Rattle.state.specs.declared.Store.TheVariants.{Entries}
@@ -85,19 +85,19 @@ module _ (store : Store) (k v m : ℕ) (s : List ℕ) where
       put_mark = put_word (Mark store k) key ∙ rw (same_self (Mark store k))
 
       -- the value that it then has, and those of all other keys
-      pub put_value_in : 0 < m → (other : Store) (j : ℕ) → value_in (put store k v m s) other j ≡ cond (eqb j k && same_store other store) (Present v) (value_in s other j)
+      pub put_value_in : 0 < m → (other : Store) (j : ℕ) → value_in (put store k v m s) other j ≡ cond (eqb j k && same_store other store) (Some v) (value_in s other j)
       unfolding value_in
       put_value_in pos other j = by (ltb j key_limit) refl
         where
           pick : (b : Bool)
-              → cond (eqb (cond b m (mark_of s other j)) 0) Absent (Present (cond b v (word_of s other j)))
-              ≡ cond b (Present v) (cond (eqb (mark_of s other j) 0) Absent (Present (word_of s other j)))
+              → cond (eqb (cond b m (mark_of s other j)) 0) None (Some (cond b v (word_of s other j)))
+              ≡ cond b (Some v) (cond (eqb (mark_of s other j) 0) None (Some (word_of s other j)))
           pick true = rw (ne_eqb m 0 (omega arith))
           pick false = refl
 
           by : (b : Bool) → ltb j key_limit ≡ b
-              → cond b (cond (eqb (mark_of (put store k v m s) other j) 0) Absent (Present (word_of (put store k v m s) other j))) Absent
-              ≡ cond (eqb j k && same_store other store) (Present v) (cond b (cond (eqb (mark_of s other j) 0) Absent (Present (word_of s other j))) Absent)
+              → cond b (cond (eqb (mark_of (put store k v m s) other j) 0) None (Some (word_of (put store k v m s) other j))) None
+              ≡ cond (eqb j k && same_store other store) (Some v) (cond b (cond (eqb (mark_of s other j) 0) None (Some (word_of s other j))) None)
           by true e =
               let l = ltb-true j key_limit e in
               rw (put_word (Mark other j) l, put_word (Word other j) l) (pick (eqb j k && same_store other store))
@@ -176,8 +176,8 @@ module _ (s u : List ℕ) where
   value_same store k f g = by (ltb k key_limit) refl
     where
       by : (b : Bool) → ltb k key_limit ≡ b
-          → cond b (cond (eqb (mark_of s store k) 0) Absent (Present (word_of s store k))) Absent
-          ≡ cond b (cond (eqb (mark_of u store k) 0) Absent (Present (word_of u store k))) Absent
+          → cond b (cond (eqb (mark_of s store k) 0) None (Some (word_of s store k))) None
+          ≡ cond b (cond (eqb (mark_of u store k) 0) None (Some (word_of u store k))) None
       by true e = rw (f (ltb-true k key_limit e), g (ltb-true k key_limit e))
       by false e = refl
 

@@ -14,8 +14,8 @@ use Rattle.basis.proofs.KeySets.{has_nothing}
 use Rattle.basis.proofs.Numbers.{for_each_same, for_each_at, for_each_keeps}
 use Rattle.basis.proofs.Lists.{get_d_row}
 use Rattle.basis.proofs.Tests.{not_both, cond_cases}
-use Rattle.value.specs.declared.Value.{Value}
-use Rattle.value.specs.declared.Value.TheVariants.{Absent}
+use Rattle.value.specs.Values.{Value}
+use Rattle.std.specs.Prelude.{None}
 use Rattle.table.specs.Tables.{Table, start_at}
 use Rattle.table.specs.Sound.{Limits}
 use Rattle.term.specs.Terms.{Node, words}
@@ -87,10 +87,10 @@ module _ (t : Table) where
   pub loaded_writer : (a k : ℕ) → k < key_limit → writer_of (loaded t) a k ≡ 0
   loaded_writer a k l = loaded_zero (Writer a k) l refl (λ b i. refl) (λ b i. refl)
 
-  pub loaded_value : (store : Store) (k : ℕ) → value_in (loaded t) store k ≡ Absent
+  pub loaded_value : (store : Store) (k : ℕ) → value_in (loaded t) store k ≡ None
   unfolding value_in
   loaded_value store k =
-      cond_cases (λ (v : Value). v ≡ Absent) (ltb k key_limit) (λ e. rw (loaded_mark store k (ltb-true k key_limit e))) (λ e. refl)
+      cond_cases (λ (v : Value). v ≡ None) (ltb k key_limit) (λ e. rw (loaded_mark store k (ltb-true k key_limit e))) (λ e. refl)
 
   pub loaded_set : (z : KeySet) (a : ℕ) → word_at (loaded t) (Waits z a) ≡ 0
   loaded_set z a = loaded_zero (Waits z a) tt refl (λ b i. refl) (λ b i. refl)

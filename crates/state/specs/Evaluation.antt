@@ -2,8 +2,8 @@
 use Rattle.std.specs.Prelude.{ℕ, Bool, true, false, cond, ◌&&◌, ◌||◌, List, ltb, eqb}
 use Rattle.basis.specs.Below.{below}
 use Rattle.basis.specs.Kinds as kind
-use Rattle.value.specs.declared.Value.{Value}
-use Rattle.value.specs.declared.Value.TheVariants.{Absent, Present}
+use Rattle.value.specs.Values.{Value}
+use Rattle.std.specs.Prelude.{None, Some}
 use Rattle.value.specs.declared.Truth.{Truth}
 use Rattle.value.specs.Values.{operate}
 use Rattle.value.specs.Truths.{truth, undefined, compare_values, connect}
@@ -20,7 +20,7 @@ module _ (t : Table) (s : List ℕ) (sender receiver : ℕ) where
   -- node n's value, from the values of the nodes below it
   unfoldable pub value_step : (ℕ → Value) → ℕ → Value
   value_step value n =
-      cond (eqb (kind_at t n) kind.constant) (Present (constant_at t n))
+      cond (eqb (kind_at t n) kind.constant) (Some (constant_at t n))
       (cond (eqb (kind_at t n) kind.attribute) (value_in s (Attributes (party_of sender receiver (q_at t n))) (p_at t n))
       (cond (eqb (kind_at t n) kind.stigmergy) (value_in s (Entries (party_of sender receiver (q_at t n))) (p_at t n))
       (cond (eqb (kind_at t n) kind.environment) (value_in s Environment (p_at t n))
@@ -28,7 +28,7 @@ module _ (t : Table) (s : List ℕ) (sender receiver : ℕ) where
 
   -- the value of expression n
   abbrev pub value_of : ℕ → Value
-  value_of n = below value_step Absent t.sizes.nodes n
+  value_of n = below value_step None t.sizes.nodes n
 
   -- what guard n comes to, from what the guards below it come to
   unfoldable pub truth_step : (ℕ → Truth) → ℕ → Truth

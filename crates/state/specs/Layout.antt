@@ -1,8 +1,8 @@
 -- The state's words: where things stand, what stands there, and how one of them is changed.
 use Rattle.std.specs.Prelude.{ℕ, ◌+◌, ◌*◌, Bool, cond, List, eqb, ltb, length, get_or, set, take, drop}
 use Rattle.basis.specs.KeySets.{plus, minus}
-use Rattle.value.specs.declared.Value.{Value}
-use Rattle.value.specs.declared.Value.TheVariants.{Absent, Present}
+use Rattle.value.specs.Values.{Value}
+use Rattle.std.specs.Prelude.{None, Some}
 pub use Rattle.table.specs.Tables.{agent_limit, key_limit}
 use Rattle.term.specs.Terms.{Term, term_of}
 use Rattle.state.specs.declared.Store.{Store}
@@ -114,8 +114,8 @@ term_in s a = term_of (take (length_of s a) (residual_of s a))
 unfoldable pub value_in : List ℕ → Store → ℕ → Value
 value_in s store k =
     cond (ltb k key_limit)
-    (cond (eqb (mark_of s store k) 0) Absent (Present (word_of s store k)))
-    Absent
+    (cond (eqb (mark_of s store k) 0) None (Some (word_of s store k)))
+    None
 
 -- CHANGES. A key of a store gets a value and a mark; the set of keys at place i gets key k, or loses it
 unfoldable pub put : Store → ℕ → ℕ → ℕ → List ℕ → List ℕ

@@ -15,14 +15,14 @@ pub fn value_in(state: &[u32], store: Store, key: usize) -> Value
     ensures { result ≡ value_in state.now store key }
 {
     if KEYS <= key {
-        return Value::Absent;
+        return None;
     }
     let mark = mark_at(store, key);
     let at = value_at(store, key);
     if state[mark] == 0 {
-        Value::Absent
+        None
     } else {
-        Value::Present(state[at])
+        Some(state[at])
     }
 }
 

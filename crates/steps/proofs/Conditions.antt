@@ -11,8 +11,8 @@ use lib.ListN.{length}
 use borrow.Author.Tests.{eqb-true, eqb-false, eq-eqb, ne_eqb, ltb-true, lt-ltb, leb-true, le-leb, not-true, not-false}
 use Rattle.basis.specs.KeySets.{has}
 use Rattle.basis.proofs.Tests.{not_both, and_left, and_right, and_both, and_fails, or_either, or_left, or_right}
-use Rattle.value.specs.declared.Value.{Value}
-use Rattle.value.specs.declared.Value.TheVariants.{Absent, Present}
+use Rattle.value.specs.Values.{Value}
+use Rattle.std.specs.Prelude.{None, Some}
 use Rattle.table.specs.Checks.{refuse_if}
 use Rattle.table.specs.Conditions.{◌when◌}
 use Rattle.table.specs.Tables.{Table, kind_at}
@@ -96,9 +96,9 @@ module _ (t : Table) (was : List ℕ) (x : ℕ) where
   each_holds (b ∷ g) (Memᴰ.head i) e = ap (λ (c : ℕ). holds t was x x c) i ∙ and_left (holds t was x x b) (all_hold t was x g) e
   each_holds (b ∷ g) (Memᴰ.tail m) e = each_holds g m (and_right (holds t was x x b) (all_hold t was x g) e)
 
-  absent : (v : Value) → is_absent v ≡ true → v ≡ Absent
-  absent Absent e = refl
-  absent (Present v) e = absurd (not_both e refl)
+  absent : (v : Value) → is_absent v ≡ true → v ≡ None
+  absent None e = refl
+  absent (Some v) e = absurd (not_both e refl)
 
   no_value : (label : Label) → (lacks_value t was x label ≡ true) ↔ NoValue t was x label
   no_value label = (there label, λ w. ap (lacks_value t was x) w.action ∙ ap is_absent w.absent)

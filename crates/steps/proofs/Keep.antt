@@ -12,8 +12,8 @@ use borrow.Author.Tests.{ltb-true, eq-eqb}
 use Rattle.basis.specs.KeySets.{plus_all}
 use Rattle.basis.proofs.Numbers.{for_each_keeps}
 use Rattle.basis.proofs.Tests.{and_right, same_or_other, lt_or_le}
-use Rattle.value.specs.declared.Value.{Value}
-use Rattle.value.specs.declared.Value.TheVariants.{Absent, Present}
+use Rattle.value.specs.Values.{Value}
+use Rattle.std.specs.Prelude.{None, Some}
 use Rattle.table.specs.Tables.{Table, kind_at, p_at, q_at}
 use Rattle.table.specs.Sound.{Limits, Sound}
 use Rattle.table.proofs.Promises.{attribute_set_operands, stigmergy_set_operands, environment_set_operands}
@@ -143,8 +143,8 @@ module _ (t : Table) (limits : Limits t.sizes) (was : List ℕ) where
 
 -- ACTS
 word_small : (v : Value) → SmallValue v → word_in v < 2 ^ 32
-word_small Absent h = omega arith
-word_small (Present v) h = h
+word_small None h = omega arith
+word_small (Some v) h = h
 
 module _ (t : Table) (sound : Sound t) (bytes : (i : ℕ) → get_or t.operands i 0 < 256) (was : List ℕ) (proper : ProperFacts t was) (x : ℕ) (there : x < t.sizes.agents) where
   limits : Limits t.sizes

@@ -3,8 +3,8 @@ use Rattle.std.specs.Prelude.{ℕ, ◌+◌, ◌-◌, Bool, true, false, cond, no
 use Rattle.basis.specs.Numbers.{for_each}
 use Rattle.basis.specs.KeySets.{plus_all}
 use Rattle.basis.specs.Kinds as kind
-use Rattle.value.specs.declared.Value.{Value}
-use Rattle.value.specs.declared.Value.TheVariants.{Absent, Present}
+use Rattle.value.specs.Values.{Value}
+use Rattle.std.specs.Prelude.{None, Some}
 use Rattle.table.specs.Checks.{Refusal, refuse_if}
 use Rattle.table.specs.Tables.{Table, kind_at, p_at, q_at}
 use Rattle.term.specs.declared.Label.{Label}
@@ -19,12 +19,12 @@ use Rattle.state.specs.Evaluation.{value_of, holds, reads}
 
 -- absent, and the word of a value that is not
 abbrev pub is_absent : Value → Bool
-is_absent Absent = true
-is_absent (Present v) = false
+is_absent None = true
+is_absent (Some v) = false
 
 abbrev pub word_in : Value → ℕ
-word_in Absent = 0
-word_in (Present v) = v
+word_in None = 0
+word_in (Some v) = v
 
 -- agent x writes v to stigmergy key k: the entry takes the next stamp, which becomes the clock; its writer is x; and the key waits to be
 -- propagated

@@ -1,7 +1,7 @@
 -- The rehearsed examples (a) to (j), over one table of bytes.
 use Rattle.std.specs.Prelude.{ℕ, Bool, cond, ◌≡◌, List, [], ◌∷◌, ◌++◌, length, replicate}
-use Rattle.value.specs.declared.Value.{Value}
-use Rattle.value.specs.declared.Value.TheVariants.{Absent, Present}
+use Rattle.value.specs.Values.{Value}
+use Rattle.std.specs.Prelude.{None, Some}
 use Rattle.table.specs.Checks.{number_of}
 use Rattle.table.specs.Tables.{Table, table_of}
 use Rattle.term.specs.Terms.{Node, par_word, tick_word, words}
@@ -69,8 +69,8 @@ abbrev pub guard_bit : ℕ → ℕ
 guard_bit n = bit (holds t (loaded t) 0 0 n)
 
 abbrev pub value_words : Value → List ℕ
-value_words Absent = 0 ∷ 0 ∷ []
-value_words (Present v) = 1 ∷ v ∷ []
+value_words None = 0 ∷ 0 ∷ []
+value_words (Some v) = 1 ∷ v ∷ []
 
 abbrev pub value : ℕ → List ℕ
 value n = value_words (value_of t (loaded t) 0 0 n)

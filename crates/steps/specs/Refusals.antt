@@ -2,7 +2,7 @@
 use Rattle.std.specs.Prelude.{ℕ, zero, suc, ◌+◌, ◌*◌, ◌<◌, ◌≤◌, false, ◌⊎◌, ◌≡◌, length, get_or}
 use mathlib.Core.List.{List, [], ◌∷◌, ◌++◌, Memᴰ}
 use Rattle.basis.specs.KeySets.{has}
-use Rattle.value.specs.declared.Value.TheVariants.{Absent}
+use Rattle.std.specs.Prelude.{None}
 use Rattle.table.specs.Conditions.{Condition, ◌when◌, Comes}
 use Rattle.table.specs.Tables.{Table, table_of, kind_at, q_at}
 use Rattle.term.specs.declared.Label.{Label}
@@ -54,7 +54,7 @@ module _ (t : Table) (was : List ℕ) (x : ℕ) where
   pub record NoValue (label : Label) : Type 0 where
     pub node : ℕ
     pub action : label ≡ Acting node
-    pub absent : value_of t was x x (q_at t node) ≡ Absent
+    pub absent : value_of t was x x (q_at t node) ≡ None
 
   -- a stigmergy key is set, and the clock is at its highest
   pub record NoStamp (label : Label) : Type 0 where

@@ -1,10 +1,12 @@
 pub mod Checks
 pub mod Conditions
+pub mod Refusals
 pub mod Tables
 pub mod Nodes
 pub mod Reach
 pub mod Rules
 pub mod Sound
+pub mod Fleets
 pub mod Measuring
 pub mod Marks
 pub mod Examples

@@ -2,18 +2,22 @@
 #![tactic(auto)]
 
 mod bad;
+mod fleets;
 mod header;
 mod kinds;
 mod marks;
 mod nodes;
 mod reading;
+mod refusals;
 mod wrong;
 
 pub use bad::lowest_bad;
+pub use fleets::Fleet;
 pub use header::{AGENTS, HEADER_BYTES, KEYS, measure};
 pub use kinds::{fields_here, first_root, is_guard, is_process};
 pub use nodes::is_node;
 pub use reading::{constant_at, p_at, q_at};
+pub use refusals::Refused;
 pub use wrong::lowest_wrong;
 
 // The six sizes of a table.

@@ -11,8 +11,8 @@ use Rattle.basis.specs.Below.{below}
 use Rattle.basis.specs.Kinds as kind
 use Rattle.basis.proofs.Below.{below_both}
 use Rattle.basis.proofs.Tests.{not_both, and_left, and_right, and_both, or_either, or_left, or_right}
-use Rattle.value.specs.declared.Value.{Value}
-use Rattle.value.specs.declared.Value.TheVariants.{Absent, Present}
+use Rattle.value.specs.Values.{Value}
+use Rattle.std.specs.Prelude.{None, Some}
 use Rattle.value.specs.declared.Truth.{Truth}
 use Rattle.value.specs.Values.{operate}
 use Rattle.value.specs.Truths.{truth, undefined, compare_values, connect}
@@ -25,7 +25,7 @@ use Rattle.state.specs.WellFormed.{loaded}
 use Rattle.state.proofs.Load.{loaded_value}
 use Rattle.theorems.specs.Contact.{SteadyLinks}
 
-absent_not : {x : ℕ} → Absent ≡ Present x → ⊥
+absent_not : {x : ℕ} → None ≡ Some x → ⊥
 absent_not e = let z : ◌≡◌ {A = ℕ} 0 1 = cc in omega arith
 
 -- what a test chooses is related where both cases are
@@ -35,12 +35,12 @@ pick R false p q = q
 
 -- a value that is present stays
 abbrev Stays : Value → Value → Type 0
-Stays v w = (x : ℕ) → v ≡ Present x → w ≡ Present x
+Stays v w = (x : ℕ) → v ≡ Some x → w ≡ Some x
 
 operate_stays : (k : ℕ) (v w v' w' : Value) → Stays v v' → Stays w w' → Stays (operate k v w) (operate k v' w')
-operate_stays k Absent w v' w' p q x e = absurd (absent_not e)
-operate_stays k (Present a) Absent v' w' p q x e = absurd (absent_not e)
-operate_stays k (Present a) (Present b) v' w' p q x e = rw (p a refl, q b refl) e
+operate_stays k None w v' w' p q x e = absurd (absent_not e)
+operate_stays k (Some a) None v' w' p q x e = absurd (absent_not e)
+operate_stays k (Some a) (Some b) v' w' p q x e = rw (p a refl, q b refl) e
 
 -- what holds stays so, and what is well defined stays the same
 abbrev Remains : Truth → Truth → Type 0
@@ -53,9 +53,9 @@ undefined_remains : (g : Truth) → Remains undefined g
 undefined_remains g = (λ e. absurd (not_both e refl), λ e. absurd (not_both e refl))
 
 compare_remains : (k : ℕ) (v w v' w' : Value) → Stays v v' → Stays w w' → Remains (compare_values k v w) (compare_values k v' w')
-compare_remains k Absent w v' w' p q = undefined_remains _
-compare_remains k (Present a) Absent v' w' p q = undefined_remains _
-compare_remains k (Present a) (Present b) v' w' p q = rw (p a refl, q b refl) (same_remains _)
+compare_remains k None w v' w' p q = undefined_remains _
+compare_remains k (Some a) None v' w' p q = undefined_remains _
+compare_remains k (Some a) (Some b) v' w' p q = rw (p a refl, q b refl) (same_remains _)
 
 connect_remains : (k : ℕ) (g h g' h' : Truth) → Remains g g' → Remains h h' → Remains (connect k g h) (connect k g' h')
 connect_remains k g h g' h' p q =

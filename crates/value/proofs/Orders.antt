@@ -12,7 +12,7 @@ use mir.Syntax.{w32}
 use mir.Facts.{Fits-of_lt, to_z_inj}
 use borrow.Author.Tests.{lt-ltb, le-ltb, eqb-true, eq-eqb}
 use Rattle.basis.proofs.Tests.{is_false, lt_or_le, same_or_other}
-use Rattle.value.specs.declared.Value.TheVariants.{Present}
+use Rattle.std.specs.Prelude.{Some}
 use Rattle.value.specs.Values.{signed_of}
 use Rattle.value.specs.Truths.{compare_values}
 
@@ -41,7 +41,7 @@ of_numbers (negsuc a) (negsuc b) e h = turned (of_naturals a b e (λ p. ap mag (
     turned third = second
 
 pub exactly_one : (x y : ℕ) → x < 2 ^ 32 → y < 2 ^ 32
-    → ExactlyOne (compare_values 17 (Present x) (Present y)).holds (compare_values 18 (Present x) (Present y)).holds (compare_values 19 (Present x) (Present y)).holds
+    → ExactlyOne (compare_values 17 (Some x) (Some y)).holds (compare_values 18 (Some x) (Some y)).holds (compare_values 19 (Some x) (Some y)).holds
 exactly_one x y l m =
     of_numbers (signed_of x) (signed_of y) (eqb x y)
     (λ p. ap signed_of (eqb-true x y p), λ i. eq-eqb x y (to_z_inj {w = w32} (Fits-of_lt l) (Fits-of_lt m) i))

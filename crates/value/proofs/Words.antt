@@ -13,7 +13,7 @@ use mir.Val.{SFits, to_z, of_z}
 use mir.Facts.{Fits-lt-pow, Fits-of_z}
 use borrow.Author.Tests.{lt-ltb, le-ltb, ltb-true, ltb-false, le-leb, lt-leb, leb-true}
 use Rattle.basis.proofs.Tests.{not_both}
-use Rattle.value.specs.declared.Value.TheVariants.{Absent, Present}
+use Rattle.std.specs.Prelude.{None, Some}
 use Rattle.value.specs.Values.{signed_of, in_range, fit, is_zero}
 
 pub low_word : (w : ℕ) → w < 2 ^ 31 → to_z w64 w ≡ signed_of w
@@ -37,18 +37,18 @@ in_range_lem z = (
 pub word_small : (z : ℤ) → in_range z ≡ true → of_z w32 z < 2 ^ 32
 word_small z e = Fits-lt-pow (Fits-of_z {w = w32} {z = z} (record { sfits = (in_range_lem z).0 e }))
 
-inside : (z : ℤ) → mag z ≤ 2147483647 → Present (of_z w32 z) ≡ fit z
+inside : (z : ℤ) → mag z ≤ 2147483647 → Some (of_z w32 z) ≡ fit z
 inside z h = rw (range z, le-leb (mag z) 2147483647 h)
 
-outside : (z : ℤ) → 2147483647 < mag z → Absent ≡ fit z
+outside : (z : ℤ) → 2147483647 < mag z → None ≡ fit z
 outside z h = rw (range z, lt-leb (mag z) 2147483647 h)
 
 -- a number below or above the range
-pub under : (z : ℤ) → lt_z z (negsuc 2147483647) ≡ true → Absent ≡ fit z
+pub under : (z : ℤ) → lt_z z (negsuc 2147483647) ≡ true → None ≡ fit z
 under (pos n) h = cc
 under (negsuc n) h = outside (negsuc n) (ltb-true 2147483647 n h)
 
-pub over : (z : ℤ) → lt_z (pos 2147483647) z ≡ true → Absent ≡ fit z
+pub over : (z : ℤ) → lt_z (pos 2147483647) z ≡ true → None ≡ fit z
 over (pos n) h = outside (pos n) (ltb-true 2147483647 n h)
 over (negsuc n) h = cc
 
@@ -56,7 +56,7 @@ over (negsuc n) h = cc
 pub record Word (z s : ℤ) : Type 0 where
   pub is : s ≡ pos (of_z w32 z)
   pub small : of_z w32 z < 2 ^ 32
-  pub fits : Present (of_z w32 z) ≡ fit z
+  pub fits : Some (of_z w32 z) ≡ fit z
 
 pub negative : (z : ℤ) → lt_z z (negsuc 2147483647) ≡ false → lt_z z (pos 0) ≡ true → Word z (z +ℤ pos 4294967296)
 negative (pos n) h k = let f : n < 0 = ltb-true n 0 k in absurd (omega arith)

@@ -3,8 +3,8 @@ use Rattle.std.specs.Prelude.{ℕ, Bool, true, false, cond, not, ◌&&◌, ◌||
 use Rattle.std.specs.Int.Signed.{lt_z}
 use Rattle.basis.specs.Kinds as kind
 use Rattle.value.specs.declared.Truth.{Truth}
-use Rattle.value.specs.declared.Value.{Value}
-use Rattle.value.specs.declared.Value.TheVariants.{Absent, Present}
+use Rattle.value.specs.Values.{Value}
+use Rattle.std.specs.Prelude.{None, Some}
 use Rattle.value.specs.Values.{signed_of}
 
 abbrev pub truth : Bool → Bool → Truth
@@ -24,9 +24,9 @@ test_of k x y =
 
 -- a comparison is well defined, and may hold, only of two present values
 abbrev pub compare_values : ℕ → Value → Value → Truth
-compare_values k Absent b = undefined
-compare_values k (Present x) Absent = undefined
-compare_values k (Present x) (Present y) = truth true (test_of k x y)
+compare_values k None b = undefined
+compare_values k (Some x) None = undefined
+compare_values k (Some x) (Some y) = truth true (test_of k x y)
 
 -- not, and, or: each is well defined where all its parts are.
 -- Not holds where its part is well defined and doesn't hold; and needs both; or needs one.

@@ -4,8 +4,11 @@ use Rattle.std.specs.Int.Signed.{le_z, quot_z, shr_z}
 use Rattle.std.specs.Int.{w32}
 use Rattle.std.proofs.Common.{to_z, of_z}
 use Rattle.basis.specs.Kinds as kind
-use Rattle.value.specs.declared.Value.{Value}
-use Rattle.value.specs.declared.Value.TheVariants.{Absent, Present}
+use Rattle.std.specs.Prelude.{Option, None, Some}
+
+-- a value: none where it is absent
+abbrev pub Value : Type 0
+Value = Option ℕ
 
 -- the number that a word holds in two's complement
 abbrev pub signed_of : ℕ → ℤ
@@ -17,7 +20,7 @@ in_range z = le_z (negsuc 2147483647) z && le_z z (pos 2147483647)
 
 -- a number as a value: absent where it does not fit
 abbrev pub fit : ℤ → Value
-fit z = cond (in_range z) (Present (of_z w32 z)) Absent
+fit z = cond (in_range z) (Some (of_z w32 z)) None
 
 abbrev pub is_zero : ℤ → Bool
 is_zero (pos zero) = true
@@ -40,12 +43,12 @@ arithmetic k x y =
     cond (eqb k kind.plus) (fit (x +ℤ y))
     (cond (eqb k kind.minus) (fit (x -ℤ y))
     (cond (eqb k kind.times) (fit (x *ℤ y))
-    (cond (eqb k kind.divide) (cond (is_zero y) Absent (fit (quot_z x y)))
-    (cond (eqb k kind.remainder) (cond (is_zero y) Absent (fit (floor_rem x y)))
-    Absent))))
+    (cond (eqb k kind.divide) (cond (is_zero y) None (fit (quot_z x y)))
+    (cond (eqb k kind.remainder) (cond (is_zero y) None (fit (floor_rem x y)))
+    None))))
 
 -- the same on two values: an absent operand gives absent
 abbrev pub operate : ℕ → Value → Value → Value
-operate k Absent b = Absent
-operate k (Present x) Absent = Absent
-operate k (Present x) (Present y) = arithmetic k (signed_of x) (signed_of y)
+operate k None b = None
+operate k (Some x) None = None
+operate k (Some x) (Some y) = arithmetic k (signed_of x) (signed_of y)

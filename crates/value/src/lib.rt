@@ -7,12 +7,8 @@ ghost use Rattle.value.specs.Truths.{test_of, compare_values as compare_of};
 
 use basis::kinds;
 
-// A value: absent, or a signed 32-bit number as its two's complement word.
-#[derive(Clone, Copy)]
-pub enum Value {
-    Absent,
-    Present(u32),
-}
+// A value: none where it is absent, or a signed 32-bit number as its two's complement word.
+pub type Value = Option<u32>;
 
 // What a guard comes to: whether it is well defined, and whether it holds.
 #[derive(Clone, Copy)]
@@ -37,15 +33,15 @@ fn fitted(z: i64) -> Value
     ensures { result ≡ fit z }
 {
     if z < -2147483648 {
-        return Value::Absent;
+        return None;
     }
     if 2147483647 < z {
-        return Value::Absent;
+        return None;
     }
     if z < 0 {
-        Value::Present((z + 4294967296) as u32)
+        Some((z + 4294967296) as u32)
     } else {
-        Value::Present(z as u32)
+        Some(z as u32)
     }
 }
 
@@ -72,15 +68,15 @@ fn compute(kind: u8, a: u32, b: u32) -> Value
         kinds::PLUS => fitted(x + y),
         kinds::MINUS => fitted(x - y),
         kinds::TIMES => fitted(x * y),
-        kinds::DIVIDE => { if y == 0 { Value::Absent } else { fitted(x / y) } }
+        kinds::DIVIDE => { if y == 0 { None } else { fitted(x / y) } }
         kinds::REMAINDER => {
             if y == 0 {
-                Value::Absent
+                None
             } else {
                 fitted(floored_remainder(x, y))
             }
         }
-        _ => Value::Absent,
+        _ => None,
     }
 }
 
@@ -88,11 +84,11 @@ fn compute(kind: u8, a: u32, b: u32) -> Value
 pub fn operate(kind: u8, a: Value, b: Value) -> Value
     ensures { result ≡ operate_of kind a b }
 {
-    let Value::Present(x) = a else {
-        return Value::Absent;
+    let Some(x) = a else {
+        return None;
     };
-    let Value::Present(y) = b else {
-        return Value::Absent;
+    let Some(y) = b else {
+        return None;
     };
     compute(kind, x, y)
 }
@@ -113,13 +109,13 @@ fn test(kind: u8, a: u32, b: u32) -> bool
 pub fn compare_values(kind: u8, a: Value, b: Value) -> Truth
     ensures { result ≡ compare_of kind a b }
 {
-    let Value::Present(x) = a else {
+    let Some(x) = a else {
         return Truth {
             defined: false,
             holds: false,
         };
     };
-    let Value::Present(y) = b else {
+    let Some(y) = b else {
         return Truth {
             defined: false,
             holds: false,

@@ -6,7 +6,7 @@ pub returns-in_default : goal.returns-in_default
 returns-in_default c = rw c.in_default.is
 
 pub returns-in_default-b : goal.returns-in_default-b
-returns-in_default-b c = rw (c.in-Present.is, c.in_default-b.is)
+returns-in_default-b c = rw (c.in-Some.is, c.in_default-b.is)
 
 pub returns : goal.returns
-returns c = rw (c.in-Present.is, c.in-Present-b.is, c.test.ensures)
+returns c = rw (c.in-Some.is, c.in-Some-b.is, c.test.ensures)

@@ -10,7 +10,7 @@ use mir.Syntax.{w32, w64}
 use mir.Val.{to_z, of_z}
 use mir.Facts.{to_z-of_z}
 use borrow.Author.Tests.{lt-ltb}
-use Rattle.value.specs.declared.Value.TheVariants.{Present}
+use Rattle.std.specs.Prelude.{Some}
 use Rattle.value.proofs.Words.{under, over, Word, negative, positive}
 use Rattle.value.proofs.fitted.Goals as goal
 use Rattle.value.proofs.fitted.Goals.{Else-z-lt0, Start, Then-z-lt0}
@@ -53,4 +53,4 @@ pub returns-then-z-lt0 : goal.returns-then-z-lt0
 returns-then-z-lt0 c = rw (same (goal.at.returns-then-z-lt0 c).Start, (then c).is, half c) (then c).fits
 
 pub returns-else-z-lt0 : goal.returns-else-z-lt0
-returns-else-z-lt0 c = rw (same (goal.at.returns-else-z-lt0 c).Start) (ap (λ (n : ℤ). Present (nat_abs n)) (else c).is ∙ (else c).fits)
+returns-else-z-lt0 c = rw (same (goal.at.returns-else-z-lt0 c).Start) (ap (λ (n : ℤ). Some (nat_abs n)) (else c).is ∙ (else c).fits)

@@ -3,4 +3,4 @@
 use Rattle.value.proofs.operate.Goals as goal
 
 pub returns : goal.returns
-returns c = rw (c.in-Present.is, c.in-Present-b.is) c.compute.ensures
+returns c = rw (c.in-Some.is, c.in-Some-b.is) c.compute.ensures

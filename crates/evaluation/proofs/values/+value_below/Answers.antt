@@ -2,7 +2,7 @@
 -- Assumes nothing.
 use mathlib.Core.Path.{sym, ap}
 use borrow.Author.Tests.{ne_eqb}
-use Rattle.value.specs.declared.Value.TheVariants.{Present}
+use Rattle.std.specs.Prelude.{Some}
 use Rattle.state.specs.Evaluation.{value_step}
 use Rattle.evaluation.proofs.Steps.{value_out, value_at_lem}
 use Rattle.evaluation.proofs.values.+value_below.Goals as goal
@@ -15,7 +15,7 @@ pub returns-in-32 : goal.returns-in-32
 unfolding value_step
 returns-in-32 t c =
     λ sizes e. rw (value_at_lem _ _ _ _ _ _ c.if-limit-node.false, c.in-32.is)
-    (ap Present c.constant_at.ensures)
+    (ap Some c.constant_at.ensures)
 
 pub returns-in-33 : goal.returns-in-33
 unfolding value_step

@@ -19,16 +19,16 @@ value_is c =
 pub returns-then-kinds-n : goal.returns-then-kinds-n
 returns-then-kinds-n c =
     full_ends (here (goal.at.returns-then-kinds-n c).Start) c.args.state.now c.args.agent c.args.n c.args.keys c.args.size _
-    (sym (value_is (goal.at.returns-then-kinds-n c).After-value_of-value) ∙ c.in-Present.is) _
+    (sym (value_is (goal.at.returns-then-kinds-n c).After-value_of-value) ∙ c.in-Some.is) _
     c.clock_of.ensures c.if-kinds-n.true
 
-pub returns-in-Absent : goal.returns-in-Absent
-returns-in-Absent c =
-    absent_ends (here (goal.at.returns-in-Absent c).Start) c.args.state.now c.args.agent c.args.n c.args.keys c.args.size
-    (sym (value_is (goal.at.returns-in-Absent c).After-value_of-value) ∙ c.in-Absent.is)
+pub returns-in-None : goal.returns-in-None
+returns-in-None c =
+    absent_ends (here (goal.at.returns-in-None c).Start) c.args.state.now c.args.agent c.args.n c.args.keys c.args.size
+    (sym (value_is (goal.at.returns-in-None c).After-value_of-value) ∙ c.in-None.is)
 
 pub returns-else-kinds-n : goal.returns-else-kinds-n
 returns-else-kinds-n c =
     action_ends (here (goal.at.returns-else-kinds-n c).Start) c.args.state.now c.args.agent c.args.n c.args.keys c.args.size _
-    (sym (value_is (goal.at.returns-else-kinds-n c).After-value_of-value) ∙ c.in-Present.is) _
+    (sym (value_is (goal.at.returns-else-kinds-n c).After-value_of-value) ∙ c.in-Some.is) _
     c.clock_of.ensures c.if-kinds-n.false c.sized.result c.sized.ensures

@@ -1,0 +1,87 @@
+// A fleet's table by its parts.
+ghost use Rattle.table.specs.Tables.{table};
+ghost use Rattle.table.specs.Sound.{Shaped};
+
+use super::kinds::fields_here;
+use super::{Fields, Sizes};
+
+// The sizes, a kind for each node, and an operand of four bytes for each node.
+#[derive(Clone, Copy)]
+pub struct Fleet<'a> {
+    pub sizes: Sizes,
+    pub kinds: &'a [u8],
+    pub operands: &'a [u8],
+    pub ghost shaped: { Shaped (table sizes kinds.now operands.now) },
+}
+
+impl<'a> Fleet<'a> {
+    ghost use Rattle.std.specs.Prelude.{◌≡◌, ◌<◌};
+    ghost use Rattle.table.specs.Tables.{kind_at, p_at, q_at, constant_at, first_root, body_at, link_at};
+    ghost use Rattle.table.specs.Nodes.{fields_here as the_fields};
+    ghost use Rattle.table.specs.Fleets.{table_in};
+
+    // The kind of a node.
+    pub fn kind_at(&self, node: usize) -> u8
+        requires { node < self.now.sizes.nodes }
+        ensures { result ≡ kind_at (table_in self.now) node }
+    {
+        self.kinds[node]
+    }
+
+    // The first half of a node's operand.
+    pub fn p_at(&self, node: usize) -> usize
+        requires { node < self.now.sizes.nodes }
+        ensures is { result ≡ p_at (table_in self.now) node }
+        ensures small { result < 65536 }
+    {
+        basis::u16_at(self.operands, 4 * node)
+    }
+
+    // The second half.
+    pub fn q_at(&self, node: usize) -> usize
+        requires { node < self.now.sizes.nodes }
+        ensures is { result ≡ q_at (table_in self.now) node }
+        ensures small { result < 65536 }
+    {
+        basis::u16_at(self.operands, 4 * node + 2)
+    }
+
+    // Both halves, a constant.
+    pub fn constant_at(&self, node: usize) -> u32
+        requires { node < self.now.sizes.nodes }
+        ensures { result ≡ constant_at (table_in self.now) node }
+    {
+        basis::u32_at(self.operands, 4 * node)
+    }
+
+    // What a node's fields hold.
+    pub fn fields_at(&self, node: usize) -> Fields
+        requires { node < self.now.sizes.nodes }
+        ensures { result ≡ the_fields (table_in self.now) node (kind_at (table_in self.now) node) }
+    {
+        fields_here(self.sizes, node, self.kinds[node])
+    }
+
+    // The first of the last D + S + A nodes.
+    pub fn first_root(&self) -> usize
+        ensures { result ≡ first_root (table_in self.now) }
+    {
+        self.sizes.nodes - (self.sizes.definitions + self.sizes.stigmergy + self.sizes.agents)
+    }
+
+    // The node that is the body of a definition.
+    pub fn body_at(&self, definition: usize) -> usize
+        requires { definition < self.now.sizes.definitions }
+        ensures { result ≡ body_at (table_in self.now) definition }
+    {
+        self.p_at(self.first_root() + definition)
+    }
+
+    // The node that is the link of a stigmergy key.
+    pub fn link_at(&self, key: usize) -> usize
+        requires { key < self.now.sizes.stigmergy }
+        ensures { result ≡ link_at (table_in self.now) key }
+    {
+        self.p_at(self.first_root() + self.sizes.definitions + key)
+    }
+}
