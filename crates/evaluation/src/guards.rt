@@ -1,53 +1,20 @@
 // What a guard comes to, by recursion on the falling node number, for many receivers at once; and links.
-ghost use Rattle.std.specs.Prelude.{◌≡◌, ◌&&◌, ℕ, ◌<◌, ◌≤◌, length};
+ghost use Rattle.std.specs.Prelude.{◌≡◌, ◌&&◌, ℕ, ◌<◌};
 ghost use Rattle.basis.specs.KeySets.{has as has_agent};
-ghost use Rattle.table.specs.Tables.{Table, table};
-ghost use Rattle.table.specs.Sound.{Shaped};
+ghost use Rattle.table.specs.Fleets.{table_in};
 ghost use Rattle.state.specs.Evaluation.{holds as holds_of, link_holds};
-ghost use Rattle.state.specs.Walks.{truth_below};
-ghost use Rattle.evaluation.specs.Situated.{Situated, Placed, InTables};
-ghost use Rattle.evaluation.specs.Sets.{comparison, Found, Connects};
+ghost use Rattle.evaluation.specs.Situated.{Situated, Placed};
+ghost use Rattle.evaluation.specs.Sets.{Connects};
 
 use super::AgentSets;
-use super::values::value_below;
+use super::senders::Sender;
 use basis::plus_if;
-use table::Sizes;
+use table::Fleet;
 
 const NOBODY: AgentSets = AgentSets {
     defined: 0,
     holding: 0,
 };
-
-// A comparison for each agent of a set.
-fn compare_all(
-    kinds: &[u8],
-    operands: &[u8],
-    state: &[u32],
-    sender: usize,
-    agents: u32,
-    node: usize,
-) -> AgentSets
-    requires { Placed kinds.now operands.now state.now sender × (node < length kinds.now) }
-    ensures { InTables kinds.now operands.now
-        (λ t. Found agents (λ y. comparison t state.now sender y node) result) }
-{
-    if agents == 0 {
-        return NOBODY;
-    }
-    let agent = basis::lowest(agents);
-    let others = basis::minus(agents, agent);
-    let found = compare_all(kinds, operands, state, sender, others, node);
-    let nodes = kinds.len();
-    let p = table::p_at(operands, node);
-    let q = table::q_at(operands, node);
-    let a = value_below(kinds, operands, state, sender, agent, nodes, p);
-    let b = value_below(kinds, operands, state, sender, agent, nodes, q);
-    let t = value::compare_values(kinds[node], a, b);
-    AgentSets {
-        defined: plus_if(found.defined, agent, t.defined),
-        holding: plus_if(found.holding, agent, t.holds),
-    }
-}
 
 // Not, and, or on what their parts come to.
 fn connect_all(kind: u8, a: AgentSets, b: AgentSets) -> AgentSets
@@ -70,76 +37,86 @@ fn connect_all(kind: u8, a: AgentSets, b: AgentSets) -> AgentSets
     }
 }
 
-// What a node below the limit comes to for each agent of a set; undefined where it is not below.
-fn truths_below(
-    kinds: &[u8],
-    operands: &[u8],
-    state: &[u32],
-    sender: usize,
-    agents: u32,
-    limit: usize,
-    node: usize,
-) -> AgentSets
-    requires { Placed kinds.now operands.now state.now sender × (limit ≤ length kinds.now) }
-    ensures { InTables kinds.now operands.now
-        (λ t. Found agents (λ y. truth_below t state.now sender y limit node) result) }
-{
-    if limit <= node {
-        return NOBODY;
+impl<'a> Sender<'a> {
+    ghost use Rattle.std.specs.Prelude.{◌≤◌};
+    ghost use Rattle.state.specs.Walks.{truth_below};
+    ghost use Rattle.evaluation.specs.Sets.{comparison, Found};
+
+    // A comparison for each agent of a set.
+    fn compare_all(&self, agents: u32, node: usize) -> AgentSets
+        requires { node < self.now.fleet.sizes.nodes }
+        ensures { Found agents
+            (λ y. comparison (table_in self.now.fleet) self.now.state.now self.now.agent y node) result }
+    {
+        if agents == 0 {
+            return NOBODY;
+        }
+        let agent = basis::lowest(agents);
+        let others = basis::minus(agents, agent);
+        let found = self.compare_all(others, node);
+        let nodes = self.fleet.sizes.nodes;
+        let a = self.value_below(agent, nodes, self.fleet.p_at(node));
+        let b = self.value_below(agent, nodes, self.fleet.q_at(node));
+        let t = value::compare_values(self.fleet.kind_at(node), a, b);
+        AgentSets {
+            defined: plus_if(found.defined, agent, t.defined),
+            holding: plus_if(found.holding, agent, t.holds),
+        }
     }
-    let kind = kinds[node];
-    if kind == basis::kinds::TRUE {
-        return AgentSets {
-            defined: agents,
-            holding: agents,
-        };
+
+    // What a node below the limit comes to for each agent of a set; undefined where it is not below.
+    fn truths_below(&self, agents: u32, limit: usize, node: usize) -> AgentSets
+        requires { limit ≤ self.now.fleet.sizes.nodes }
+        ensures { Found agents
+            (λ y. truth_below (table_in self.now.fleet) self.now.state.now self.now.agent y limit node) result }
+    {
+        if limit <= node {
+            return NOBODY;
+        }
+        let kind = self.fleet.kind_at(node);
+        if kind == basis::kinds::TRUE {
+            return AgentSets {
+                defined: agents,
+                holding: agents,
+            };
+        }
+        if kind < basis::kinds::NOT {
+            return self.compare_all(agents, node);
+        }
+        let a = self.truths_below(agents, node, self.fleet.p_at(node));
+        if kind == basis::kinds::NOT {
+            return connect_all(kind, a, a);
+        }
+        let b = self.truths_below(agents, node, self.fleet.q_at(node));
+        connect_all(kind, a, b)
     }
-    if kind < basis::kinds::NOT {
-        return compare_all(kinds, operands, state, sender, agents, node);
-    }
-    let p = table::p_at(operands, node);
-    let a = truths_below(kinds, operands, state, sender, agents, node, p);
-    if kind == basis::kinds::NOT {
-        return connect_all(kind, a, a);
-    }
-    let q = table::q_at(operands, node);
-    let b = truths_below(kinds, operands, state, sender, agents, node, q);
-    connect_all(kind, a, b)
 }
 
 // Whether a guard holds.
-pub fn holds(
-    sizes: Sizes,
-    kinds: &[u8],
-    operands: &[u8],
-    state: &[u32],
-    sender: usize,
-    receiver: usize,
-    node: usize,
-) -> bool
-    requires { let t = table sizes kinds.now operands.now in Situated t state.now sender receiver }
-    ensures { let t = table sizes kinds.now operands.now in result ≡ holds_of t state.now sender receiver node }
+pub fn holds(fleet: &Fleet, state: &[u32], sender: usize, receiver: usize, node: usize) -> bool
+    requires { Situated state.now sender receiver }
+    ensures { result ≡ holds_of (table_in fleet.now) state.now sender receiver node }
 {
+    let from = Sender {
+        fleet: *fleet,
+        state,
+        agent: sender,
+    };
     let asked = basis::plus(0, receiver);
-    let found = truths_below(kinds, operands, state, sender, asked, sizes.nodes, node);
+    let found = from.truths_below(asked, fleet.sizes.nodes, node);
     basis::has(found.holding, receiver)
 }
 
 // The agents of a set to whom the link of a key holds from a sender.
-pub fn links_hold(
-    sizes: Sizes,
-    kinds: &[u8],
-    operands: &[u8],
-    state: &[u32],
-    key: usize,
-    sender: usize,
-    agents: u32,
-) -> u32
-    requires { let t = table sizes kinds.now operands.now in Shaped t × Placed kinds.now operands.now state.now sender × (key < sizes.stigmergy) }
-    ensures { let t = table sizes kinds.now operands.now in (y : ℕ) → has_agent result y ≡ (has_agent agents y && link_holds t state.now key sender y) }
+pub fn links_hold(fleet: &Fleet, state: &[u32], key: usize, sender: usize, agents: u32) -> u32
+    requires { Placed state.now sender × (key < fleet.now.sizes.stigmergy) }
+    ensures { (y : ℕ) → has_agent result y ≡ (has_agent agents y && link_holds (table_in fleet.now) state.now key sender y) }
 {
-    let root = table::first_root(sizes) + sizes.definitions + key;
-    let link = table::p_at(operands, root);
-    let found = truths_below(kinds, operands, state, sender, agents, sizes.nodes, link);
+    let from = Sender {
+        fleet: *fleet,
+        state,
+        agent: sender,
+    };
+    let found = from.truths_below(agents, fleet.sizes.nodes, fleet.link_at(key));
     found.holding
 }

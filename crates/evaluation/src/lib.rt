@@ -3,6 +3,7 @@
 
 mod guards; // guards.rt: what a guard comes to; links
 mod reading; // reading.rt: the stigmergy keys that a node reads
+mod senders; // senders.rt: whom expressions and guards are judged from
 mod values; // values.rt: the value of an expression
 
 pub use guards::{holds, links_hold};

@@ -1,63 +1,51 @@
 // The stigmergy keys that a node reads, by recursion on the falling node number: one walk for all keys.
 ghost use Rattle.std.specs.Prelude.{◌≡◌, ◌^◌, ◌<◌, ◌≤◌};
 ghost use Rattle.basis.specs.KeySets.{plus_all};
-ghost use Rattle.table.specs.Tables.{Table, table};
-ghost use Rattle.table.specs.Sound.{Shaped};
+ghost use Rattle.table.specs.Fleets.{table_in};
 ghost use Rattle.state.specs.Layout.{key_limit};
 ghost use Rattle.state.specs.Evaluation.{reads};
 ghost use Rattle.evaluation.specs.Reading.{Adds, reads_below, is_key};
 
-use table::{KEYS, Sizes};
+use table::{Fleet, KEYS};
 
 // The set with the key that a node is, if it is one.
-fn own_key(sizes: Sizes, kinds: &[u8], operands: &[u8], node: usize, keys: u32) -> u32
-    requires { let t = table sizes kinds.now operands.now in Shaped t × (node < sizes.nodes) }
-    ensures { let t = table sizes kinds.now operands.now in Adds (is_key t node) keys result }
+fn own_key(fleet: &Fleet, node: usize, keys: u32) -> u32
+    requires { node < fleet.now.sizes.nodes }
+    ensures { Adds (is_key (table_in fleet.now) node) keys result }
 {
-    if kinds[node] != basis::kinds::STIGMERGY {
+    if fleet.kind_at(node) != basis::kinds::STIGMERGY {
         return keys;
     }
-    let p = table::p_at(operands, node);
-    if KEYS <= p {
+    let key = fleet.p_at(node);
+    if KEYS <= key {
         return keys;
     }
-    basis::plus(keys, p)
+    basis::plus(keys, key)
 }
 
 // The set with the keys that a node below the limit reads.
-fn keys_below(
-    sizes: Sizes,
-    kinds: &[u8],
-    operands: &[u8],
-    limit: usize,
-    node: usize,
-    keys: u32,
-) -> u32
-    requires shaped { let t : Table = table sizes kinds.now operands.now in Shaped t × (limit ≤ sizes.nodes) }
-    ensures { let t : Table = table sizes kinds.now operands.now in Adds (reads_below t limit node) keys result }
+fn keys_below(fleet: &Fleet, limit: usize, node: usize, keys: u32) -> u32
+    requires { limit ≤ fleet.now.sizes.nodes }
+    ensures { Adds (reads_below (table_in fleet.now) limit node) keys result }
 {
     if limit <= node {
         return keys;
     }
-    let fields = table::fields_here(sizes, node, kinds[node]);
-    let left = fields.p;
-    let right = fields.q;
-    let mut found = own_key(sizes, kinds, operands, node, keys);
-    if table::is_node(left) {
-        let p = table::p_at(operands, node);
-        found = keys_below(sizes, kinds, operands, node, p, found);
+    let fields = fleet.fields_at(node);
+    let mut found = own_key(fleet, node, keys);
+    if table::is_node(fields.p) {
+        found = keys_below(fleet, node, fleet.p_at(node), found);
     }
-    if !table::is_node(right) {
-        return found;
+    if table::is_node(fields.q) {
+        found = keys_below(fleet, node, fleet.q_at(node), found);
     }
-    let q = table::q_at(operands, node);
-    keys_below(sizes, kinds, operands, node, q, found)
+    found
 }
 
 // The set with the stigmergy keys that a node reads.
-pub fn keys_read(sizes: Sizes, kinds: &[u8], operands: &[u8], node: usize, keys: u32) -> u32
-    requires { let t = table sizes kinds.now operands.now in Shaped t × (keys < 2 ^ key_limit) }
-    ensures { let t = table sizes kinds.now operands.now in result ≡ plus_all (reads t node) key_limit keys }
+pub fn keys_read(fleet: &Fleet, node: usize, keys: u32) -> u32
+    requires { keys < 2 ^ key_limit }
+    ensures { result ≡ plus_all (reads (table_in fleet.now) node) key_limit keys }
 {
-    keys_below(sizes, kinds, operands, sizes.nodes, node, keys)
+    keys_below(fleet, fleet.sizes.nodes, node, keys)
 }

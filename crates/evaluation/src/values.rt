@@ -1,13 +1,14 @@
 // The value of an expression, by recursion on the falling node number.
-ghost use Rattle.std.specs.Prelude.{◌≡◌, ◌<◌, ◌≤◌, length};
-ghost use Rattle.table.specs.Tables.{Table, table, agent_limit};
+ghost use Rattle.std.specs.Prelude.{◌≡◌, ◌<◌};
+ghost use Rattle.table.specs.Tables.{agent_limit};
+ghost use Rattle.table.specs.Fleets.{table_in};
 ghost use Rattle.state.specs.Evaluation.{value_of};
-ghost use Rattle.state.specs.Walks.{value_below};
-ghost use Rattle.evaluation.specs.Situated.{Situated, Placed, InTables};
+ghost use Rattle.evaluation.specs.Situated.{Situated};
 ghost use Rattle.evaluation.specs.Parties.{Party};
 
+use super::senders::Sender;
 use state::Store;
-use table::Sizes;
+use table::Fleet;
 use value::Value;
 
 // The agent whom a party names.
@@ -18,51 +19,45 @@ fn agent_of(party: usize, sender: usize, receiver: usize) -> usize
     if party == 2 { receiver } else { sender }
 }
 
-// The value of a node below the limit; absent where it is not below.
-pub fn value_below(
-    kinds: &[u8],
-    operands: &[u8],
-    state: &[u32],
-    sender: usize,
-    receiver: usize,
-    limit: usize,
-    node: usize,
-) -> Value
-    requires { Placed kinds.now operands.now state.now sender × (receiver < agent_limit) × (limit ≤ length kinds.now) }
-    ensures { InTables kinds.now operands.now (λ t. result ≡ value_below t state.now sender receiver limit node) }
-{
-    if limit <= node {
-        return None;
-    }
-    let kind = kinds[node];
-    let p = table::p_at(operands, node);
-    let q = table::q_at(operands, node);
-    let agent = agent_of(q, sender, receiver);
-    match kind {
-        basis::kinds::CONSTANT => Some(table::constant_at(operands, node)),
-        basis::kinds::ATTRIBUTE => state::value_in(state, Store::Attributes(agent), p),
-        basis::kinds::STIGMERGY => state::value_in(state, Store::Entries(agent), p),
-        basis::kinds::ENVIRONMENT => state::value_in(state, Store::Environment, p),
-        _ => {
-            let a = value_below(kinds, operands, state, sender, receiver, node, p);
-            let b = value_below(kinds, operands, state, sender, receiver, node, q);
-            value::operate(kind, a, b)
+impl<'a> Sender<'a> {
+    ghost use Rattle.std.specs.Prelude.{◌≤◌};
+    ghost use Rattle.state.specs.Walks.{value_below};
+
+    // The value of a node below the limit; absent where it is not below.
+    pub fn value_below(&self, receiver: usize, limit: usize, node: usize) -> Value
+        requires { (receiver < agent_limit) × (limit ≤ self.now.fleet.sizes.nodes) }
+        ensures { result ≡ value_below (table_in self.now.fleet) self.now.state.now self.now.agent receiver limit node }
+    {
+        if limit <= node {
+            return None;
+        }
+        let kind = self.fleet.kind_at(node);
+        let p = self.fleet.p_at(node);
+        let q = self.fleet.q_at(node);
+        let agent = agent_of(q, self.agent, receiver);
+        match kind {
+            basis::kinds::CONSTANT => Some(self.fleet.constant_at(node)),
+            basis::kinds::ATTRIBUTE => state::value_in(self.state, Store::Attributes(agent), p),
+            basis::kinds::STIGMERGY => state::value_in(self.state, Store::Entries(agent), p),
+            basis::kinds::ENVIRONMENT => state::value_in(self.state, Store::Environment, p),
+            _ => {
+                let a = self.value_below(receiver, node, p);
+                let b = self.value_below(receiver, node, q);
+                value::operate(kind, a, b)
+            }
         }
     }
 }
 
 // The value of an expression.
-pub fn value_of(
-    sizes: Sizes,
-    kinds: &[u8],
-    operands: &[u8],
-    state: &[u32],
-    sender: usize,
-    receiver: usize,
-    node: usize,
-) -> Value
-    requires { let t = table sizes kinds.now operands.now in Situated t state.now sender receiver }
-    ensures { let t = table sizes kinds.now operands.now in result ≡ value_of t state.now sender receiver node }
+pub fn value_of(fleet: &Fleet, state: &[u32], sender: usize, receiver: usize, node: usize) -> Value
+    requires { Situated state.now sender receiver }
+    ensures { result ≡ value_of (table_in fleet.now) state.now sender receiver node }
 {
-    value_below(kinds, operands, state, sender, receiver, sizes.nodes, node)
+    let from = Sender {
+        fleet: *fleet,
+        state,
+        agent: sender,
+    };
+    from.value_below(receiver, fleet.sizes.nodes, node)
 }
