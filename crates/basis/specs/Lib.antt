@@ -4,3 +4,4 @@ pub mod Bytes
 pub mod Read
 pub mod KeySets
 pub mod Kinds
+pub mod NodeKinds

@@ -2,12 +2,15 @@
 #![tactic(auto)]
 
 pub mod kinds; // kinds.rt: the node kinds by name
+mod node_kinds; // node_kinds.rt: the node kinds as an enum
 pub mod words; // words.rt: words cleared and copied
 
 ghost use Rattle.std.specs.Prelude.{◌≡◌, true, false, ℕ, ◌+◌, ◌^◌, ◌<◌, length};
 ghost use Rattle.basis.specs.Bytes.{u32_at};
 ghost use Rattle.basis.specs.Read.{U16};
 ghost use Rattle.basis.specs.KeySets.{has as has_key, plus as plus_key, plus_if, minus as minus_key};
+
+pub use node_kinds::{NodeKind, UnknownKind};
 
 // A byte as a number that more bytes can be added to.
 fn wide(b: u8) -> usize

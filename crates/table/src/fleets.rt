@@ -4,6 +4,7 @@ ghost use Rattle.table.specs.Sound.{Shaped};
 
 use super::kinds::fields_here;
 use super::{Fields, Sizes};
+use basis::{NodeKind, UnknownKind};
 
 // The sizes, a kind for each node, and an operand of four bytes for each node.
 #[derive(Clone, Copy)]
@@ -19,6 +20,7 @@ impl<'a> Fleet<'a> {
     ghost use Rattle.table.specs.Tables.{kind_at, p_at, q_at, constant_at, first_root, body_at, link_at};
     ghost use Rattle.table.specs.Nodes.{fields_here as the_fields};
     ghost use Rattle.table.specs.Fleets.{table_in};
+    ghost use Rattle.basis.specs.NodeKinds.{Names};
 
     // The kind of a node.
     pub fn kind_at(&self, node: usize) -> u8
@@ -26,6 +28,14 @@ impl<'a> Fleet<'a> {
         ensures { result ≡ kind_at (table_in self.now) node }
     {
         self.kinds[node]
+    }
+
+    // The kind of a node, where its byte names one.
+    pub fn node_kind(&self, node: usize) -> Result<NodeKind, UnknownKind>
+        requires { node < self.now.sizes.nodes }
+        ensures { Names (kind_at (table_in self.now) node) result }
+    {
+        NodeKind::try_from(self.kinds[node])
     }
 
     // The first half of a node's operand.
