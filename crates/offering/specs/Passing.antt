@@ -2,7 +2,6 @@
 use Rattle.std.specs.Prelude.{ℕ, ◌*◌, ◌<◌, ◌≤◌, Bool, cond, ◌&&◌, ◌||◌, ◌≡◌, List}
 use Rattle.basis.specs.KeySets.{has, plus_all}
 use Rattle.table.specs.Tables.{Table, agent_limit}
-use Rattle.table.specs.Sound.{Shaped}
 use Rattle.state.specs.declared.Entry.{Entry}
 use Rattle.state.specs.declared.Insertion.{Insertion}
 use Rattle.state.specs.declared.Insertion.TheVariants.{Add, Update, Discard}
@@ -13,21 +12,19 @@ use Rattle.steps.specs.declared.Response.TheVariants.{Takes, Propagates, Ignores
 use Rattle.steps.specs.declared.Tally.{Tally}
 use Rattle.steps.specs.Tallies.{tally, no_tally}
 
--- table t's sizes fit, s has all blocks, x is an agent and k a stigmergy key
+-- s has all blocks, x is an agent and k a stigmergy key
 pub record Passing (t : Table) (s : List ℕ) (x k : ℕ) : Type 0 where
-  pub shaped : Shaped t
   pub blocks : HasBlocks s
   pub agent : x < t.sizes.agents
   pub key : k < t.sizes.stigmergy
 
--- x's entry for key k could touch y, where the link reaches it: y's is older, or in a confirm newer (an absent one is older than any)
-abbrev pub touches : List ℕ → ℕ → ℕ → Bool → Bool → ℕ → Bool
-touches s x k counts confirming y =
-    (counts && newer (entry_of s x k) (entry_of s y k)) || ((counts && confirming) && newer (entry_of s y k) (entry_of s x k))
+-- entry e for key k could touch y, where the link reaches it: y's is older, or in a confirm newer (an absent one is older than any)
+abbrev pub touches : Entry → List ℕ → ℕ → Bool → Bool → ℕ → Bool
+touches e s k counts confirming y = counts && (newer e (entry_of s y k) || (confirming && newer (entry_of s y k) e))
 
 -- the set of those below n
-abbrev pub touched : List ℕ → ℕ → ℕ → Bool → Bool → ℕ → ℕ
-touched s x k counts confirming n = plus_all (touches s x k counts confirming) n 0
+abbrev pub touched : Entry → List ℕ → ℕ → Bool → Bool → ℕ → ℕ
+touched e s k counts confirming n = plus_all (touches e s k counts confirming) n 0
 
 -- the response of an agent whom an offer could touch and the link reaches, by the rule that inserts the entry
 abbrev pub rule_response : Insertion → Response

@@ -1,21 +1,21 @@
 // Propagate and confirm: an agent's entry for a key is offered to every other agent.
 #![tactic(auto)]
 
+mod offers; // offers.rt: an entry on offer, whom it could touch, and the offer to all
 mod responses; // responses.rt: how an agent responds to an entry, what that writes and what it counts
-mod offers; // offers.rt: whom an offer could touch, and the offer to all
 
-ghost use Rattle.std.specs.Prelude.{◌≡◌, ◌<◌, cond};
-ghost use Rattle.table.specs.Tables.{Table, table, agent_limit};
+ghost use Rattle.std.specs.Prelude.{◌<◌, cond};
+ghost use Rattle.table.specs.Tables.{agent_limit};
+ghost use Rattle.table.specs.Fleets.{table_in};
 ghost use Rattle.state.specs.Layout.{zc_at, zp_at};
 ghost use Rattle.state.specs.Standing.{Standing};
 ghost use Rattle.steps.specs.Offers.{offer_tally, sent};
 ghost use Rattle.offering.specs.Passing.{Passing, Passed};
 
-use offers::offer_all;
-pub use responses::{add_tally, no_tally};
-use state::{drop_key, zc_at, zp_at};
+use offers::Offer;
+use state::{drop_key, entry_of, zc_at, zp_at};
 use steps::Tally;
-use table::Sizes;
+use table::Fleet;
 
 // The set that a step takes its key from: Zc for a confirm, else Zp.
 pub fn pending_at(agent: usize, confirming: bool) -> usize
@@ -32,22 +32,26 @@ pub fn pending_at(agent: usize, confirming: bool) -> usize
 // The agent offers its entry and no longer has to propagate or confirm the key: what the responses count. `counts`:
 // whether the key's link counts in this step.
 pub fn offer(
-    sizes: Sizes,
-    kinds: &[u8],
-    operands: &[u8],
+    fleet: &Fleet,
     state: &mut [u32],
     agent: usize,
     key: usize,
     counts: bool,
     confirming: bool,
 ) -> Tally
-    requires { let t = table sizes kinds.now operands.now in Passing t state.old agent key }
-    ensures { let t = table sizes kinds.now operands.now in Passed (offer_tally t state.old agent key counts sizes.agents)
-        (sent t state.old agent key counts confirming sizes.agents) result state.new }
+    requires { Passing (table_in fleet.now) state.old agent key }
+    ensures { let t = table_in fleet.now in Passed (offer_tally t state.old agent key counts t.sizes.agents)
+        (sent t state.old agent key counts confirming t.sizes.agents) result state.new }
 {
-    let tally = offer_all(
-        sizes, kinds, operands, state, agent, key, counts, confirming,
-    );
+    let entry = entry_of(state, agent, key);
+    let offer = Offer {
+        agent,
+        key,
+        entry,
+        counts,
+        confirming,
+    };
+    let tally = offer.to_all(fleet, state);
     drop_key(state, pending_at(agent, confirming), key);
     tally
 }
