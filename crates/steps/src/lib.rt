@@ -1,7 +1,9 @@
-// Load, act, propagate, confirm, step, preview, run, save, restore and drop: definitions in specs/, laws in proofs/. The
-// crate has no functions but those of a tally.
-
+// Load, act, propagate, confirm, step, preview, run, save, restore and drop: definitions in specs/, laws in proofs/. In
+// code, what an offer does to an agent, and what a step counts.
 #![tactic(auto)]
+
+ghost use Rattle.std.specs.Prelude.{◌≡◌, ◌+◌, ◌^◌, ◌<◌};
+ghost use Rattle.steps.specs.Tallies.{add_tally, taken};
 
 use state::Insertion;
 use std::ops::Add;
@@ -15,19 +17,23 @@ pub enum Response {
     Ignores,
 }
 
-// What a step counts: the agents that take an entry, those that had none and those that had an older one. A tally that
-// counts nothing is the default.
+// What a step counts: the agents that take an entry, those that had none and those that had an older one.
 #[derive(Clone, Copy, Default)]
 pub struct Tally {
     pub added: u32,
     pub replaced: u32,
 }
 
-// Two tallies together.
-impl Add for Tally {
-    ghost use Rattle.std.specs.Prelude.{◌≡◌, ◌+◌, ◌^◌, ◌<◌};
-    ghost use Rattle.steps.specs.Tallies.{add_tally};
+impl Tally {
+    // How many agents take an entry.
+    pub fn taken(self) -> usize
+        ensures { result ≡ taken self }
+    {
+        self.added as usize + self.replaced as usize
+    }
+}
 
+impl Add for Tally {
     type Output = Tally;
 
     ghost can_add = { λ p q. (p.added + q.added < 2 ^ 32) × (p.replaced + q.replaced < 2 ^ 32) };
