@@ -1,6 +1,9 @@
 -- What a visit of a node finds, what it takes to settle one, and refusals 6 and 7.
-use Rattle.std.specs.Prelude.{ℕ, ◌<◌, Bool, true, false, cond, ◌&&◌, ◌≡◌, List, eqb}
+use Rattle.std.specs.Prelude.{ℕ, ◌<◌, Bool, true, false, cond, ◌&&◌, ◌≡◌, List, [], ◌∷◌, eqb, Result}
 use Rattle.basis.specs.Numbers.{lowest}
+use Rattle.table.specs.Checks.{passes, refuse_at, first_of}
+use Rattle.table.specs.Refusals.{result_check}
+use Rattle.table.specs.declared.refusals.Refused.{Refused}
 use Rattle.table.specs.Tables.{Table, first_root}
 use Rattle.term.specs.Acceptance.{overfull}
 use Rattle.basis.specs.Kinds as kind
@@ -45,9 +48,9 @@ pub record Settles (t : Table) (level n : ℕ) (before after : List ℕ) (r : Bo
   pub high : r ≡ false → calls_below level (process_at t level n) ≡ false
 
 -- refusal 6, and the words that it leaves: held for all definitions, where none is bad
-pub record CallsJudged (t : Table) (s : List ℕ) (r : ℕ) : Type 0 where
-  pub is : r ≡ lowest (bad_call t) t.sizes.definitions
-  pub held : r ≡ t.sizes.definitions → Held t t.sizes.definitions s
+pub record CallsJudged (t : Table) (s : List ℕ) (r : Result Unit Refused) : Type 0 where
+  pub check : result_check r ≡ first_of (refuse_at 6 t.sizes.definitions (lowest (bad_call t) t.sizes.definitions) ∷ [])
+  pub held : result_check r ≡ passes → Held t t.sizes.definitions s
 
 -- node n is counted: its counts, and the words before and after
 pub record CountsAt (t : Table) (n : ℕ) (before after : List ℕ) (c : Counts) : Type 0 where
@@ -57,7 +60,7 @@ pub record CountsAt (t : Table) (n : ℕ) (before after : List ℕ) (c : Counts)
   pub pair : c ≡ pair_at after n
 
 -- refusal 7, and the words that it leaves: the counts of all nodes, where none is over-full
-pub record NodesJudged (t : Table) (s : List ℕ) (r : ℕ) : Type 0 where
-  pub is : r ≡ lowest (overfull t) t.sizes.nodes
+pub record NodesJudged (t : Table) (s : List ℕ) (r : Result Unit Refused) : Type 0 where
+  pub check : result_check r ≡ first_of (refuse_at 7 t.sizes.nodes (lowest (overfull t) t.sizes.nodes) ∷ [])
   pub held : Held t t.sizes.definitions s
-  pub all : r ≡ t.sizes.nodes → (n : ℕ) → n < first_root t → is_counted s n ≡ true
+  pub all : result_check r ≡ passes → (n : ℕ) → n < first_root t → is_counted s n ≡ true

@@ -1,7 +1,8 @@
 // A visit of a node: its counts, from those of the nodes and the definitions that it names, or what is to be counted
 // first.
 ghost use Rattle.std.specs.Prelude.{true, ◌≡◌, ◌+◌, ◌*◌, ◌<◌, length};
-ghost use Rattle.table.specs.Tables.{Table, table, first_root};
+ghost use Rattle.table.specs.Tables.{first_root};
+ghost use Rattle.table.specs.Fleets.{table_in};
 ghost use Rattle.accept.specs.Counts.{Capped};
 ghost use Rattle.accept.specs.Scratch.{pair_at, is_counted, Held};
 ghost use Rattle.accept.specs.Calls.{pair_visit, Visits};
@@ -9,7 +10,7 @@ ghost use Rattle.accept.specs.Calls.{pair_visit, Visits};
 use crate::Visit;
 use crate::sums::{ACTION, NONE, TICK, joined};
 use crate::words::{is_counted, pair};
-use table::{Sizes, first_root, p_at, q_at};
+use table::Fleet;
 
 // A sequence, a choice or a parallel. The right of a sequence is exposed where the left can tick.
 fn visit_pair(scratch: &[u32], kind: u8, p: usize, q: usize) -> Visit
@@ -33,21 +34,14 @@ fn visit_pair(scratch: &[u32], kind: u8, p: usize, q: usize) -> Visit
 }
 
 // Node n, where the definitions below a level may be called.
-pub fn visit(
-    sizes: Sizes,
-    kinds: &[u8],
-    operands: &[u8],
-    scratch: &[u32],
-    level: usize,
-    n: usize,
-) -> Visit
-    requires held { let t = table sizes kinds.now operands.now in Held t level scratch.now }
-    requires n_bound { let t = table sizes kinds.now operands.now in n < first_root t }
-    ensures { let t = table sizes kinds.now operands.now in Visits t level scratch.now n result }
+pub fn visit(fleet: &Fleet, scratch: &[u32], level: usize, n: usize) -> Visit
+    requires held { Held (table_in fleet.now) level scratch.now }
+    requires n_bound { n < first_root (table_in fleet.now) }
+    ensures { Visits (table_in fleet.now) level scratch.now n result }
 {
-    let kind = kinds[n];
-    let p = p_at(operands, n);
-    let q = q_at(operands, n);
+    let kind = fleet.kind_at(n);
+    let p = fleet.p_at(n);
+    let q = fleet.q_at(n);
     match kind {
         basis::kinds::TICK => Visit::Done(TICK),
         basis::kinds::SET_ATTRIBUTE => Visit::Done(ACTION),
@@ -65,7 +59,7 @@ pub fn visit(
         basis::kinds::PARALLEL => visit_pair(scratch, kind, p, q),
         basis::kinds::CALL => {
             if p < level {
-                Visit::Done(pair(scratch, p_at(operands, first_root(sizes) + p)))
+                Visit::Done(pair(scratch, fleet.body_at(p)))
             } else {
                 Visit::High
             }

@@ -26,11 +26,7 @@ pub const ACTION: Counts = Counts {
 fn cap(x: u64) -> u64
     ensures { result ≡ capped x }
 {
-    if x < COUNT_LIMIT as u64 {
-        x
-    } else {
-        COUNT_LIMIT as u64
-    }
+    x.min(COUNT_LIMIT.into())
 }
 
 fn times(x: u64, y: u64) -> u64

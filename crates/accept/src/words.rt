@@ -18,19 +18,14 @@ pub fn scratch_words(sizes: Sizes) -> usize
     2 * sizes.nodes
 }
 
-fn wide(x: u32) -> u64
-    ensures { result ≡ x }
-{
-    x as u64
-}
-
 pub fn pair(scratch: &[u32], n: usize) -> Counts
     requires { 2 * n + 1 < length scratch.now }
     ensures { result ≡ pair_at scratch.now n }
 {
-    let actions = wide(scratch[2 * n]);
-    let ticks = wide(scratch[2 * n + 1]);
-    Counts { actions, ticks }
+    Counts {
+        actions: scratch[2 * n].into(),
+        ticks: scratch[2 * n + 1].into(),
+    }
 }
 
 pub fn store(scratch: &mut [u32], n: usize, c: Counts)
@@ -61,7 +56,7 @@ pub fn leads_to(scratch: &[u32], m: usize) -> usize
     requires { (2 * m + 1 < length scratch.now) × (count_limit < get_or scratch.now (2 * m) 0) }
     ensures { back result ≡ get_or scratch.now (2 * m) 0 }
 {
-    wide(scratch[2 * m] - COUNT_LIMIT - 1) as usize
+    (scratch[2 * m] - COUNT_LIMIT - 1) as usize
 }
 
 // No node below `roots` is counted. Both words of a node are written, so that the words stand in a row.
@@ -69,10 +64,5 @@ pub fn discard(scratch: &mut [u32], roots: usize)
     requires { 2 * roots ≤ length scratch.old }
     ensures { (k : ℕ) → k < roots → is_counted scratch.new k ≡ false }
 {
-    let end = 2 * roots;
-    let mut i = 0;
-    while i < end {
-        scratch[i] = COUNT_LIMIT + 1;
-        i += 1;
-    }
+    scratch[..2 * roots].fill(COUNT_LIMIT + 1);
 }

@@ -1,10 +1,12 @@
 -- Bits in lent words, a word for each node, as refusals 4 and 5 use them. And what is found of a node.
-use Rattle.std.specs.Prelude.{ℕ, ◌+◌, ◌<◌, ◌≤◌, ◌≡◌, Bool, true, false, cond, ◌&&◌, ◌||◌, List, length, get_or, set}
+use Rattle.std.specs.Prelude.{ℕ, ◌+◌, ◌<◌, ◌≤◌, ◌≡◌, Bool, true, false, cond, ◌&&◌, ◌||◌, List, [], ◌∷◌, length, get_or, set, Option, Some, None, Result, Ok}
 use Rattle.std.specs.Int.Bits.{bit_and, bit_or}
 use Rattle.basis.specs.KeySets.{has, plus, plus_if}
 use Rattle.basis.specs.Numbers.{lowest}
 use Rattle.table.specs.declared.Look.{Look}
-use Rattle.table.specs.declared.Scan.{Scan}
+use Rattle.table.specs.declared.refusals.Refused.{Refused}
+use Rattle.table.specs.Checks.{refuse_at, first_of}
+use Rattle.table.specs.Refusals.{result_check}
 use Rattle.table.specs.Tables.{Table, p_at, q_at}
 use Rattle.table.specs.Nodes.{fitting, left_node, right_node, names, bad_node}
 use Rattle.table.specs.Reach.{process_node, link_root, reached_from, wrong_here, wrong_key}
@@ -44,21 +46,31 @@ is_marked words bit x = has (get_or words x 0) bit
 abbrev pub own_bits : ℕ → ℕ → ℕ
 own_bits k party = plus_if (plus_if 0 not_process_bit (wrong_here k party true false)) not_link_bit (wrong_here k party false true)
 
--- the word of x, if asked for
-unfoldable pub word_if : List ℕ → Bool → ℕ → ℕ
-word_if words on x = cond on (get_or words x 0) 0
+-- node x, where a field names it
+abbrev pub node_if : Bool → ℕ → Option ℕ
+node_if on x = cond on (Some x) None
+
+-- the word of a node, and its bit, if there is one
+unfoldable pub word_of : List ℕ → Option ℕ → ℕ
+word_of words None = 0
+word_of words (Some x) = get_or words x 0
+
+unfoldable pub has_marked : List ℕ → ℕ → Option ℕ → Bool
+has_marked words bit None = false
+has_marked words bit (Some x) = is_marked words bit x
 
 -- the bits that a node has from those that it names: 96 has the last two bits
 abbrev pub risen : List ℕ → Look → ℕ
-risen words l = bit_and 96 (bit_or (word_if words l.left l.p) (word_if words l.right l.q))
+risen words l = bit_and 96 (bit_or (word_of words l.left) (word_of words l.right))
 
 -- by its word, a node that is a process node, the root of a link, reaches what it must not
 abbrev pub doubted : Bool → Bool → ℕ → Bool
 doubted process link w = (process && has w not_process_bit) || (link && has w not_link_bit)
 
--- the word of x is changed, if asked to
-unfoldable pub changed : (ℕ → ℕ) → List ℕ → Bool → ℕ → List ℕ
-changed change words on x = cond on (set words x (change (get_or words x 0))) words
+-- the word of a node is changed, if there is one
+unfoldable pub changed : (ℕ → ℕ) → List ℕ → Option ℕ → List ℕ
+changed change words None = words
+changed change words (Some x) = set words x (change (get_or words x 0))
 
 -- to that of a node which is named too, by one that a process, a link reaches
 abbrev pub marking : Bool → Bool → ℕ → ℕ
@@ -66,21 +78,20 @@ marking process link w = plus_if (plus_if (plus w named_bit) process_bit process
 
 module _ (process link : Bool) where
   -- one node marked: whether it was named before, and the words after
-  pub record Mark (before after : List ℕ) (on : Bool) (x : ℕ) (there : Bool) : Type 0 where
-    pub is : there ≡ (on && is_marked before named_bit x)
-    pub leaves : after ≡ changed (marking process link) before on x
+  pub record Mark (before after : List ℕ) (node : Option ℕ) (there : Bool) : Type 0 where
+    pub is : there ≡ has_marked before named_bit node
+    pub leaves : after ≡ changed (marking process link) before node
 
   -- two, one after the other: whether one of them was
-  pub record TwoMarks (before after : List ℕ) (first : Bool) (p : ℕ) (second : Bool) (q : ℕ) (there : Bool) : Type 0 where
-    pub is : there ≡ ((first && is_marked before named_bit p) || (second && is_marked (changed (marking process link) before first p) named_bit q))
-    pub leaves : after ≡ changed (marking process link) (changed (marking process link) before first p) second q
+  pub record TwoMarks (before after : List ℕ) (first second : Option ℕ) (there : Bool) : Type 0 where
+    pub is : there ≡ (has_marked before named_bit first || has_marked (changed (marking process link) before first) named_bit second)
+    pub leaves : after ≡ changed (marking process link) (changed (marking process link) before first) second
 
+-- what is found of node n where its fields fit
 pub record Looked (t : Table) (n : ℕ) (l : Look) : Type 0 where
-  pub fitting : l.fitting ≡ fitting t n
-  pub left : l.left ≡ left_node t n
-  pub right : l.right ≡ right_node t n
-  pub p : l.p ≡ p_at t n
-  pub q : l.q ≡ q_at t n
+  pub fit : fitting t n ≡ true
+  pub left : l.left ≡ node_if (left_node t n) (p_at t n)
+  pub right : l.right ≡ node_if (right_node t n) (q_at t n)
 
 -- a bit of the words shows a test of the first n nodes
 abbrev pub Shows : List ℕ → ℕ → ℕ → (ℕ → Bool) → Type 0
@@ -93,10 +104,10 @@ pub record Shown (t : Table) (words : List ℕ) (n : ℕ) : Type 0 where
   pub process : Shows words process_bit n (process_node t)
   pub link : Shows words link_bit n (link_root t)
 
--- what looking for a bad node finds; where there is none and it is not doubtful, no key is wrong
-pub record Bad (t : Table) (r : Scan) : Type 0 where
-  pub is : r.bad ≡ lowest (bad_node t) t.sizes.nodes
-  pub sure : t.sizes.nodes ≤ r.bad → r.doubtful ≡ false → (k : ℕ) → k < t.sizes.nodes → wrong_key t k ≡ false
+-- what looking for a bad node answers: refusal 4; where there is none and it is not doubtful, no key is wrong
+pub record Bad (t : Table) (r : Result Bool Refused) : Type 0 where
+  pub check : result_check r ≡ first_of (refuse_at 4 t.sizes.nodes (lowest (bad_node t) t.sizes.nodes) ∷ [])
+  pub sure : r ≡ Ok false → (k : ℕ) → k < t.sizes.nodes → wrong_key t k ≡ false
 
 -- the nodes from i up have handed on a bit: only reached nodes have it, all starts, and what the reached of those name
 pub record Handed (t : Table) (words : List ℕ) (bit : ℕ) (start : ℕ → Bool) (i : ℕ) : Type 0 where
@@ -119,6 +130,11 @@ pub record Descends (t : Table) (words : List ℕ) (i : ℕ) : Type 0 where
   pub fit : (k : ℕ) → k < t.sizes.nodes → fitting t k ≡ true
   pub above : Above t words (i + 1)
 
-pub record Visit (t : Table) (words : List ℕ) (i lowest r : ℕ) : Type 0 where
-  pub is : r ≡ cond (wrong_key t i) i lowest
+pub record Visit (t : Table) (words : List ℕ) (i : ℕ) (wrong : Bool) : Type 0 where
+  pub is : wrong ≡ wrong_key t i
   pub above : Above t words i
+
+-- the lowest number below n that passes, if one does
+abbrev pub LowestOf : (ℕ → Bool) → ℕ → Option ℕ → Type 0
+LowestOf test n None = (k : ℕ) → k < n → test k ≡ false
+LowestOf test n (Some x) = (x < n) × (x ≡ lowest test n)

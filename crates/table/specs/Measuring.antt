@@ -1,15 +1,12 @@
 -- Refusals 1 to 3, and the sizes of a table that they pass.
-use Rattle.std.specs.Prelude.{ℕ, ◌+◌, ◌*◌, ◌<◌, ◌≡◌, not, List, [], ◌∷◌, ltb, eqb, length, take, drop}
+use Rattle.std.specs.Prelude.{ℕ, ◌+◌, ◌*◌, ◌<◌, ◌≡◌, not, List, [], ◌∷◌, ltb, eqb, length, take, drop, Result, Ok}
 use Rattle.table.specs.declared.Sizes.{Sizes}
-use Rattle.table.specs.declared.Measured.{Measured}
-use Rattle.table.specs.declared.Measured.TheVariants.{Fine, Refused}
-use Rattle.table.specs.Checks.{Check, passes, refuses, Refusal, refuse_if, first_of}
-use Rattle.table.specs.Tables.{header_bytes, sizes_of, within_limits}
-
--- the paper's number and place for each case of the answer
-abbrev pub measured_check : Measured → Check
-measured_check (Fine n) = passes
-measured_check (Refused number place) = refuses number place
+use Rattle.table.specs.declared.fleets.Fleet.{Fleet}
+use Rattle.table.specs.declared.refusals.Refused.{Refused}
+use Rattle.table.specs.Checks.{Refusal, refuse_if, first_of}
+use Rattle.table.specs.Refusals.{result_check}
+use Rattle.table.specs.Fleets.{table_in}
+use Rattle.table.specs.Tables.{header_bytes, sizes_of, within_limits, table_of}
 
 -- the first three lines of a table's checks
 abbrev pub size_checks : List ℕ → List Refusal
@@ -26,10 +23,10 @@ kinds_of bytes n = take n (drop header_bytes bytes)
 abbrev pub operands_of : List ℕ → ℕ → List ℕ
 operands_of bytes n = drop (header_bytes + n) bytes
 
--- what measuring ensures: its check, and the table's sizes where it passes
-pub record Measure (bytes : List ℕ) (r : Measured) : Type 0 where
-  pub check : measured_check r ≡ first_of (size_checks bytes)
-  pub sizes : (n : Sizes) → r ≡ Fine n → n ≡ sizes_of bytes
+-- what measuring ensures: its check, and the fleet's table where it passes
+pub record Measure (bytes : List ℕ) (r : Result Fleet Refused) : Type 0 where
+  pub check : result_check r ≡ first_of (size_checks bytes)
+  pub fleet : (f : Fleet) → r ≡ Ok f → table_in f ≡ table_of bytes
 
 -- sizes of 16 bits each
 pub record SixteenBits (n : Sizes) : Type 0 where

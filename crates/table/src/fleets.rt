@@ -76,7 +76,7 @@ impl<'a> Fleet<'a> {
     pub fn first_root(&self) -> usize
         ensures { result ≡ first_root (table_in self.now) }
     {
-        self.sizes.nodes - (self.sizes.definitions + self.sizes.stigmergy + self.sizes.agents)
+        self.sizes.first_root()
     }
 
     // The node that is the body of a definition.

@@ -1,9 +1,10 @@
 // The sizes in a table's header, and refusals 1 to 3.
-ghost use Rattle.std.specs.Prelude.{◌≡◌, ◌≤◌, length};
-ghost use Rattle.table.specs.Tables.{header_bytes, within_limits};
+ghost use Rattle.std.specs.Prelude.{◌≡◌, ◌-◌, ◌≤◌, length};
+ghost use Rattle.table.specs.Tables.{header_bytes, within_limits, roots_of};
+ghost use Rattle.table.specs.Sound.{Limits};
 ghost use Rattle.table.specs.Measuring.{SixteenBits, Header, Measure};
 
-use super::{Measured, Sizes};
+use super::{Fleet, Refused, Sizes};
 
 // Bytes of the sizes, before the kinds.
 pub const HEADER_BYTES: usize = 12;
@@ -13,6 +14,16 @@ pub const AGENTS: usize = 32;
 
 // Keys that a store has at most.
 pub const KEYS: usize = 16;
+
+impl Sizes {
+    // The first of the last D + S + A nodes.
+    pub fn first_root(self) -> usize
+        requires { Limits self }
+        ensures { result ≡ self.nodes - roots_of self }
+    {
+        self.nodes - (self.definitions + self.stigmergy + self.agents)
+    }
+}
 
 fn header(table: &[u8]) -> Sizes
     requires { header_bytes ≤ length table.now }
@@ -44,19 +55,24 @@ fn within(sizes: Sizes) -> bool
                                         <= sizes.nodes))))))))
 }
 
-// Refusals 1 to 3, for any bytes.
-pub fn measure(table: &[u8]) -> Measured
+// Refusals 1 to 3, for any bytes. What passes them is a fleet's table, with its kinds and operands.
+pub fn measure<'a>(table: &'a [u8]) -> Result<Fleet<'a>, Refused>
     ensures { Measure table.now result }
 {
     if table.len() < HEADER_BYTES {
-        return Measured::Refused(1, 0);
+        return Err(Refused::TableShort);
     }
     let sizes = header(table);
     if !within(sizes) {
-        return Measured::Refused(2, 0);
+        return Err(Refused::SizeOutsideLimits);
     }
     if table.len() != HEADER_BYTES + 5 * sizes.nodes {
-        return Measured::Refused(3, 0);
+        return Err(Refused::TableLength);
     }
-    Measured::Fine(sizes)
+    let operands = HEADER_BYTES + sizes.nodes;
+    Ok(Fleet {
+        sizes,
+        kinds: &table[HEADER_BYTES..operands],
+        operands: &table[operands..],
+    })
 }

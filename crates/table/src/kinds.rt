@@ -1,7 +1,7 @@
 // The list of kinds: which sort a kind is, and what its fields hold.
 ghost use Rattle.std.specs.Prelude.{◌≡◌, List, ℕ, ◌-◌};
 ghost use Rattle.table.specs.Tables.{table, roots_of};
-ghost use Rattle.table.specs.Nodes.{is_process, is_guard, process_rows, guard_rows, expression_rows, row_of, fields, fields_of, root_names, fields_here};
+ghost use Rattle.table.specs.Nodes.{is_process, is_guard, is_expression, is_node, process_rows, guard_rows, expression_rows, row_of, fields, fields_of, root_names, fields_here};
 ghost use Rattle.table.specs.Sound.{Limits};
 
 use super::{Field, Fields, Sizes};
@@ -16,6 +16,28 @@ pub fn is_guard(kind: u8) -> bool
     ensures { result ≡ is_guard kind }
 {
     (basis::kinds::TRUE <= kind) & (kind <= basis::kinds::OR)
+}
+
+pub fn is_expression(kind: u8) -> bool
+    ensures { result ≡ is_expression kind }
+{
+    (basis::kinds::CONSTANT <= kind) & (kind <= basis::kinds::REMAINDER)
+}
+
+impl Field {
+    // Whether the field names a node.
+    pub fn is_node(self) -> bool
+        ensures { result ≡ is_node self }
+    {
+        matches!(self, Field::Process | Field::Guard | Field::Expression)
+    }
+}
+
+// The same, until no crate calls it.
+pub fn is_node(field: Field) -> bool
+    ensures { result ≡ is_node field }
+{
+    field.is_node()
 }
 
 const NOTHING: Fields = Fields {
@@ -136,12 +158,12 @@ fn fields_of(kind: u8) -> Fields
     expression_fields(kind)
 }
 
-// The first of the last D + S + A nodes.
+// The first of the last D + S + A nodes, until no crate calls it.
 pub fn first_root(sizes: Sizes) -> usize
     requires { Limits sizes }
     ensures { result ≡ sizes.nodes - roots_of sizes }
 {
-    sizes.nodes - (sizes.definitions + sizes.stigmergy + sizes.agents)
+    sizes.first_root()
 }
 
 // What the fields of a root hold, by its place.

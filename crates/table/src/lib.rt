@@ -14,8 +14,7 @@ mod wrong;
 pub use bad::lowest_bad;
 pub use fleets::Fleet;
 pub use header::{AGENTS, HEADER_BYTES, KEYS, measure};
-pub use kinds::{fields_here, first_root, is_guard, is_process};
-pub use nodes::is_node;
+pub use kinds::{fields_here, first_root, is_guard, is_node, is_process};
 pub use reading::{constant_at, p_at, q_at};
 pub use refusals::Refused;
 pub use wrong::lowest_wrong;
@@ -29,13 +28,6 @@ pub struct Sizes {
     pub attributes: usize,
     pub stigmergy: usize,
     pub environment: usize,
-}
-
-// What measuring a table gives: its sizes, or a refusal's number and place.
-#[derive(Clone, Copy)]
-pub enum Measured {
-    Fine(Sizes),
-    Refused(u8, usize),
 }
 
 // What an operand field holds. Nothing fits `Never`.
@@ -61,19 +53,16 @@ pub struct Fields {
     pub q: Field,
 }
 
-// What the first pass over the nodes finds: the lowest bad one, and whether some key may be wrong.
-#[derive(Clone, Copy)]
-pub struct Scan {
-    pub bad: usize,
-    pub doubtful: bool,
-}
-
-// What is found of a node: whether its fields fit, whether p and q are nodes, p and q.
+// The nodes that a node's p and q name.
 #[derive(Clone, Copy)]
 struct Look {
-    fitting: bool,
-    left: bool,
-    right: bool,
-    p: usize,
-    q: usize,
+    left: Option<usize>,
+    right: Option<usize>,
+}
+
+// Whether a process, and whether a link, reaches a node.
+#[derive(Clone, Copy)]
+struct Reached {
+    process: bool,
+    link: bool,
 }

@@ -1,15 +1,15 @@
 // A word for each node among lent ones, by its bits.
-ghost use Rattle.std.specs.Prelude.{◌≡◌, true, [], ◌<◌, length};
-ghost use Rattle.table.specs.Tables.{table};
-ghost use Rattle.table.specs.Nodes.{is_process};
-ghost use Rattle.table.specs.Reach.{link_root};
-ghost use Rattle.table.specs.Sound.{Limits};
-ghost use Rattle.table.specs.Marks.{first_word, own_bits, word_if, risen, doubted, Mark, TwoMarks};
+ghost use Rattle.std.specs.Prelude.{◌≡◌, ◌<◌, IfSome, length};
+ghost use Rattle.table.specs.Tables.{kind_at, q_at};
+ghost use Rattle.table.specs.Fleets.{table_in};
+ghost use Rattle.table.specs.Nodes.{left_node, right_node};
+ghost use Rattle.table.specs.Reach.{process_node, link_root};
+ghost use Rattle.table.specs.Marks.{first_word, own_bits, word_of, risen, doubted, Mark, TwoMarks};
 
-use super::kinds::{first_root, is_process};
+use super::kinds::is_process;
 use super::wrong::{is_key, wrong_here};
-use super::{Look, Sizes};
-use basis::{has, plus_if};
+use super::{Fleet, Look, Reached};
+use basis::{has, plus, plus_if};
 
 // The bits: another node names it; its p, its q is a node; a process, a link reaches it; it reaches a key that a
 // process, that a link must not reach.
@@ -30,93 +30,121 @@ const NOT_LINK: usize = 6;
 // The last two as a set: they rise to a node from those that it names.
 const RISING: u32 = 96;
 
-// The word of x, if asked for.
-fn word_if(words: &[u32], on: bool, x: usize) -> u32
-    requires { on ≡ true → x < length words.now }
-    ensures { result ≡ word_if words.now on x }
+impl Reached {
+    pub const NOT: Reached = Reached {
+        process: false,
+        link: false,
+    };
+
+    pub const BY_PROCESS: Reached = Reached {
+        process: true,
+        link: false,
+    };
+
+    pub const BY_LINK: Reached = Reached {
+        process: false,
+        link: true,
+    };
+}
+
+// The word of a node, if there is one.
+fn word_of(words: &[u32], node: Option<usize>) -> u32
+    requires { IfSome node (λ x. x < length words.now) }
+    ensures { result ≡ word_of words.now node }
 {
-    if on { words[x] } else { 0 }
+    node.map_or(0, |x| words[x])
 }
 
 // The bits that a node has by itself: keys have some.
-pub fn own_bits(kind: u8, party: usize) -> u32
-    ensures { result ≡ own_bits kind party }
+pub fn own_bits(fleet: &Fleet, node: usize) -> u32
+    requires { node < fleet.now.sizes.nodes }
+    ensures { let t = table_in fleet.now in result ≡ own_bits (kind_at t node) (q_at t node) }
 {
+    let kind = fleet.kind_at(node);
     if !is_key(kind) {
         return 0;
     }
-    let bits = plus_if(0, NOT_PROCESS, wrong_here(kind, party, true, false));
-    plus_if(bits, NOT_LINK, wrong_here(kind, party, false, true))
+    let party = fleet.q_at(node);
+    let bits = plus_if(
+        0,
+        NOT_PROCESS,
+        wrong_here(kind, party, Reached::BY_PROCESS),
+    );
+    plus_if(bits, NOT_LINK, wrong_here(kind, party, Reached::BY_LINK))
 }
 
 // The bits that a node has from those that it names.
 pub fn rising(words: &[u32], look: Look) -> u32
-    requires { (look.left ≡ true → look.p < length words.now) × (look.right ≡ true → look.q < length words.now) }
+    requires left { IfSome look.left (λ x. x < length words.now) }
+    requires right { IfSome look.right (λ x. x < length words.now) }
     ensures { result ≡ risen words.now look }
 {
-    let left = word_if(words, look.left, look.p);
-    let right = word_if(words, look.right, look.q);
-    RISING & (left | right)
+    RISING & (word_of(words, look.left) | word_of(words, look.right))
 }
 
 // Whether a node is the root of a link.
-pub fn is_link_root(sizes: Sizes, node: usize) -> bool
-    requires { Limits sizes }
-    ensures { result ≡ link_root (table sizes [] []) node }
+fn is_link_root(fleet: &Fleet, node: usize) -> bool
+    ensures { result ≡ link_root (table_in fleet.now) node }
 {
-    let links = first_root(sizes) + sizes.definitions;
-    (links <= node) & (node < links + sizes.stigmergy)
+    let links = fleet.first_root() + fleet.sizes.definitions;
+    (links <= node) & (node < links + fleet.sizes.stigmergy)
+}
+
+// What reaches a node by itself: it is a process node, the root of a link.
+pub fn starts(fleet: &Fleet, node: usize) -> Reached
+    requires { node < fleet.now.sizes.nodes }
+    ensures process { result.process ≡ process_node (table_in fleet.now) node }
+    ensures link { result.link ≡ link_root (table_in fleet.now) node }
+{
+    Reached {
+        process: is_process(fleet.kind_at(node)),
+        link: is_link_root(fleet, node),
+    }
 }
 
 // Whether, by its word, a process node or the root of a link reaches what it must not.
-pub fn is_doubted(process: bool, link: bool, word: u32) -> bool
-    ensures { result ≡ doubted process link word }
+pub fn is_doubted(by: Reached, word: u32) -> bool
+    ensures { result ≡ doubted by.process by.link word }
 {
-    (process & has(word, NOT_PROCESS)) | (link & has(word, NOT_LINK))
+    (by.process & has(word, NOT_PROCESS)) | (by.link & has(word, NOT_LINK))
 }
 
 // The word of a node before anything is handed on: whether p and q are nodes, whether it is a process node, a link's
 // root.
-pub fn first_word(sizes: Sizes, kind: u8, node: usize, left: bool, right: bool) -> u32
-    requires { Limits sizes }
-    ensures { result ≡ first_word left right (is_process kind) (link_root (table sizes [] []) node) }
+pub fn first_word(fleet: &Fleet, node: usize) -> u32
+    requires { node < fleet.now.sizes.nodes }
+    ensures { let t = table_in fleet.now in
+        result ≡ first_word (left_node t node) (right_node t node) (process_node t node) (link_root t node) }
 {
-    let fields = plus_if(plus_if(0, LEFT, left), RIGHT, right);
-    let starts = plus_if(fields, PROCESS, is_process(kind));
-    plus_if(starts, LINK, is_link_root(sizes, node))
+    let fields = fleet.fields_at(node);
+    let by = starts(fleet, node);
+    let left = plus_if(0, LEFT, fields.p.is_node());
+    let right = plus_if(left, RIGHT, fields.q.is_node());
+    let process = plus_if(right, PROCESS, by.process);
+    plus_if(process, LINK, by.link)
 }
 
-// Marks x, if asked to, as named by a node that a process, a link reaches, and says whether it was named before.
-fn mark(words: &mut [u32], on: bool, x: usize, process: bool, link: bool) -> bool
-    requires { on ≡ true → x < length words.old }
-    ensures { Mark process link words.old words.new on x result }
+// Marks a node, if there is one, as named by a node that a process, a link reaches, and says whether it was named
+// before.
+fn mark(words: &mut [u32], node: Option<usize>, by: Reached) -> bool
+    requires { IfSome node (λ x. x < length words.old) }
+    ensures { Mark by.process by.link words.old words.new node result }
 {
-    if !on {
+    let Some(x) = node else {
         return false;
-    }
+    };
     let old = words[x];
-    words[x] = plus_if(
-        plus_if(basis::plus(old, NAMED), PROCESS, process),
-        LINK,
-        link,
-    );
+    words[x] = plus_if(plus_if(plus(old, NAMED), PROCESS, by.process), LINK, by.link);
     has(old, NAMED)
 }
 
-// Marks p and then q, each if asked to, and says whether one was named before.
-pub fn mark_both(
-    words: &mut [u32],
-    first: bool,
-    p: usize,
-    second: bool,
-    q: usize,
-    process: bool,
-    link: bool,
-) -> bool
-    requires { (first ≡ true → p < length words.old) × (second ≡ true → q < length words.old) }
-    ensures { TwoMarks process link words.old words.new first p second q result }
+// Marks the left and then the right, and says whether one was named before.
+pub fn mark_both(words: &mut [u32], left: Option<usize>, right: Option<usize>, by: Reached) -> bool
+    requires left { IfSome left (λ x. x < length words.old) }
+    requires right { IfSome right (λ x. x < length words.old) }
+    ensures { TwoMarks by.process by.link words.old words.new left right result }
 {
-    let a = mark(words, first, p, process, link);
-    let b = mark(words, second, q, process, link);
+    let a = mark(words, left, by);
+    let b = mark(words, right, by);
     a | b
 }

@@ -1,18 +1,16 @@
 // Refusal 5, where it is in doubt: the nodes in descending order, which hand on to those that they name what reaches
 // them.
-ghost use Rattle.std.specs.Prelude.{◌≡◌, false, cond, List, ℕ, ◌<◌, ◌≤◌, length};
+ghost use Rattle.std.specs.Prelude.{◌≡◌, false, [], ◌∷◌, ℕ, ◌<◌, ◌≤◌, length};
+ghost use Rattle.table.specs.Fleets.{table_in};
+ghost use Rattle.table.specs.Checks.{refuse_at, first_of};
+ghost use Rattle.table.specs.Refusals.{result_check};
 ghost use Rattle.basis.specs.Numbers.{lowest};
-ghost use Rattle.table.specs.Tables.{Table, table};
 ghost use Rattle.table.specs.Nodes.{is_key_kind, bad_node};
 ghost use Rattle.table.specs.Reach.{wrong_here, wrong_key};
-ghost use Rattle.table.specs.Sound.{Limits, Shaped};
-ghost use Rattle.table.specs.Marks.{Shown, Descends, Visit};
+ghost use Rattle.table.specs.Marks.{Shown, Descends, Visit, LowestOf};
 
-use super::Sizes;
-use super::kinds::fields_here;
 use super::marks::{LEFT, LINK, PROCESS, RIGHT, first_word, mark_both};
-use super::nodes::is_node;
-use super::reading::{p_at, q_at};
+use super::{Fleet, Reached, Refused};
 use basis::has;
 
 // Whether a kind is that of a key.
@@ -23,93 +21,73 @@ pub fn is_key(kind: u8) -> bool
 }
 
 // Whether a node of this kind and party is wrong, by whether a process and whether a link reaches it.
-pub fn wrong_here(kind: u8, party: usize, process: bool, link: bool) -> bool
-    ensures { result ≡ wrong_here kind party process link }
+pub fn wrong_here(kind: u8, party: usize, by: Reached) -> bool
+    ensures { result ≡ wrong_here kind party by.process by.link }
 {
     is_key(kind)
-        & ((process & (party != 0)) | (link & ((kind == basis::kinds::ENVIRONMENT) | (party == 0))))
+        & ((by.process & (party != 0))
+            | (by.link & ((kind == basis::kinds::ENVIRONMENT) | (party == 0))))
 }
 
-fn choose(first: bool, a: usize, b: usize) -> usize
-    ensures { result ≡ cond first a b }
-{
-    if first { a } else { b }
-}
-
-// Hands on what reaches a node, and gives the node if it is wrong, and `lowest` if not.
-fn visit(
-    sizes: Sizes,
-    kinds: &[u8],
-    operands: &[u8],
-    words: &mut [u32],
-    node: usize,
-    lowest: usize,
-) -> usize
-    requires { let t = table sizes kinds.now operands.now in Descends t words.old node }
-    ensures { let t = table sizes kinds.now operands.now in Visit t words.new node lowest result }
+// Hands on what reaches a node, and says whether it is wrong.
+fn visit(fleet: &Fleet, words: &mut [u32], node: usize) -> bool
+    requires { Descends (table_in fleet.now) words.old node }
+    ensures { Visit (table_in fleet.now) words.new node result }
 {
     let word = words[node];
-    let left = has(word, LEFT);
-    let right = has(word, RIGHT);
-    let process = has(word, PROCESS);
-    let link = has(word, LINK);
-    let p = p_at(operands, node);
-    let q = q_at(operands, node);
-    mark_both(words, left, p, right, q, process, link);
-    choose(wrong_here(kinds[node], q, process, link), node, lowest)
+    let by = Reached {
+        process: has(word, PROCESS),
+        link: has(word, LINK),
+    };
+    let p = fleet.p_at(node);
+    let q = fleet.q_at(node);
+    let left = has(word, LEFT).then_some(p);
+    let right = has(word, RIGHT).then_some(q);
+    mark_both(words, left, right, by);
+    wrong_here(fleet.kind_at(node), q, by)
 }
 
 // The words show which fields are nodes, and where processes and links start.
-fn show_starts(sizes: Sizes, kinds: &[u8], scratch: &mut [u32])
-    requires { Limits sizes × (length kinds.now ≡ sizes.nodes) × (sizes.nodes ≤ length scratch.old) }
-    ensures { (operands : List ℕ) → Shown (table sizes kinds.now operands) scratch.new sizes.nodes }
+fn show_starts(fleet: &Fleet, scratch: &mut [u32])
+    requires { fleet.now.sizes.nodes ≤ length scratch.old }
+    ensures { Shown (table_in fleet.now) scratch.new fleet.now.sizes.nodes }
 {
-    let mut i = 0;
-    while i < sizes.nodes {
-        let kind = kinds[i];
-        let fields = fields_here(sizes, i, kind);
-        let p = fields.p;
-        let q = fields.q;
-        scratch[i] = first_word(sizes, kind, i, is_node(p), is_node(q));
-        i += 1;
+    for node in 0..fleet.sizes.nodes {
+        scratch[node] = first_word(fleet, node);
     }
 }
 
-// The lowest wrong key node, and the number of nodes where there is none.
-fn descend(sizes: Sizes, kinds: &[u8], operands: &[u8], scratch: &mut [u32]) -> usize
-    requires { let t = table sizes kinds.now operands.now in Shaped t
-        × (sizes.nodes ≤ length scratch.old)
-        × ((k : ℕ) → k < sizes.nodes → bad_node (table sizes kinds.now operands.now) k ≡ false)
-        × Shown (table sizes kinds.now operands.now) scratch.old sizes.nodes }
-    ensures { let t = table sizes kinds.now operands.now in result ≡ lowest (wrong_key t) sizes.nodes }
+// The lowest wrong key node.
+fn descend(fleet: &Fleet, scratch: &mut [u32]) -> Option<usize>
+    requires long { fleet.now.sizes.nodes ≤ length scratch.old }
+    requires fine { (k : ℕ) → k < fleet.now.sizes.nodes → bad_node (table_in fleet.now) k ≡ false }
+    requires shown { Shown (table_in fleet.now) scratch.old fleet.now.sizes.nodes }
+    ensures { LowestOf (wrong_key (table_in fleet.now)) fleet.now.sizes.nodes result }
 {
-    let mut lowest = sizes.nodes;
-    let mut i = sizes.nodes;
-    while 0 < i {
-        i -= 1;
-        lowest = visit(sizes, kinds, operands, scratch, i, lowest);
+    let mut lowest = None;
+    for node in (0..fleet.sizes.nodes).rev() {
+        if visit(fleet, scratch, node) {
+            lowest = Some(node);
+        }
     }
     lowest
 }
 
-// The lowest key node with a wrong party, or with an environment key that a link reaches, and the number of nodes where
-// there is none. No node of the table is bad. Where it is not doubtful whether there is one, there is none.
-pub fn lowest_wrong(
-    sizes: Sizes,
-    kinds: &[u8],
-    operands: &[u8],
-    scratch: &mut [u32],
-    doubtful: bool,
-) -> usize
-    requires { let t = table sizes kinds.now operands.now in Shaped t
-        × (sizes.nodes ≤ length scratch.old)
-        × ((k : ℕ) → k < sizes.nodes → bad_node (table sizes kinds.now operands.now) k ≡ false)
-        × (doubtful ≡ false → (k : ℕ) → k < sizes.nodes → wrong_key (table sizes kinds.now operands.now) k ≡ false) }
-    ensures { let t = table sizes kinds.now operands.now in result ≡ lowest (wrong_key t) sizes.nodes }
+// Refuses the lowest key node with a wrong party, or with an environment key that a link reaches. No node of the table
+// is bad. Where it is not doubtful whether there is one, there is none.
+pub fn lowest_wrong(fleet: &Fleet, scratch: &mut [u32], doubtful: bool) -> Result<(), Refused>
+    requires long { fleet.now.sizes.nodes ≤ length scratch.old }
+    requires fine { (k : ℕ) → k < fleet.now.sizes.nodes → bad_node (table_in fleet.now) k ≡ false }
+    requires sure { doubtful ≡ false → (k : ℕ) → k < fleet.now.sizes.nodes → wrong_key (table_in fleet.now) k ≡ false }
+    ensures { let t = table_in fleet.now in
+        result_check result ≡ first_of (refuse_at 5 t.sizes.nodes (lowest (wrong_key t) t.sizes.nodes) ∷ []) }
 {
     if !doubtful {
-        return sizes.nodes;
+        return Ok(());
     }
-    show_starts(sizes, kinds, scratch);
-    descend(sizes, kinds, operands, scratch)
+    show_starts(fleet, scratch);
+    match descend(fleet, scratch) {
+        Some(node) => Err(Refused::WrongParty(node)),
+        None => Ok(()),
+    }
 }
