@@ -1,5 +1,5 @@
 -- Marks, a bit for each node: a guard's says that it is collected, a process's that its only tick has been walked.
-use Rattle.std.specs.Prelude.{ℕ, ◌*◌, ◌/◌, ◌%◌, ◌^◌, ◌<◌, ◌≤◌, Bool, true, false, ◌&&◌, ◌||◌, ◌≡◌, List, [], ◌∷◌, eqb, length, get_or, set}
+use Rattle.std.specs.Prelude.{ℕ, ◌*◌, ◌/◌, ◌%◌, ◌^◌, ◌<◌, ◌≤◌, Bool, true, false, ◌&&◌, ◌||◌, ◌≡◌, Option, Some, None, List, [], ◌∷◌, eqb, length, get_or, set}
 use Rattle.std.specs.Int.Count.{count_trailing_zeros}
 use Rattle.basis.specs.KeySets.{has, plus}
 use Rattle.table.specs.Tables.{Table, kind_at}
@@ -33,11 +33,17 @@ zeros_after ms n = count_trailing_zeros 32 (get_or ms (n / 32) 0 / 2 ^ (n % 32) 
 abbrev pub marked_guard : List ℕ → List ℕ → ℕ → Bool
 marked_guard kinds ms n = is_guard (get_or kinds n 0) && has_mark ms n
 
--- r is the lowest number from a number on that passes, or not below the limit
-pub record Next (test : ℕ → Bool) (limit from r : ℕ) : Type 0 where
+-- r is the lowest number from a number on that passes, and is below the limit
+pub record Lowest (test : ℕ → Bool) (limit from r : ℕ) : Type 0 where
   pub ahead : from ≤ r
   pub none : (k : ℕ) → from ≤ k → k < r → test k ≡ false
-  pub is : r < limit → test r ≡ true
+  pub below : r < limit
+  pub is : test r ≡ true
+
+-- the lowest number from a number on and below the limit that passes, or none where none does
+abbrev pub Next : (ℕ → Bool) → ℕ → ℕ → Option ℕ → Type 0
+Next test limit from None = (k : ℕ) → from ≤ k → k < limit → test k ≡ false
+Next test limit from (Some r) = Lowest test limit from r
 
 -- b is one of these nodes
 unfoldable pub is_in : ℕ → List ℕ → Bool

@@ -21,8 +21,8 @@ use Rattle.choice.specs.declared.Turn.{Turn}
 use Rattle.choice.specs.declared.Turn.TheVariants.{End, On}
 use Rattle.choice.specs.Chosen.{chosen_in}
 
-abbrev pub goal_of : ℕ → Mode → ℕ → Goal
-goal_of n m c = record { node = n; mode = m; choice = c }
+abbrev pub goal_of : {P : Type 0} → P → Mode → ℕ → Goal P
+goal_of from m c = record { from = from; mode = m; choice = c }
 
 -- at a sequence or a parallel of nodes p and q, by its operator's word
 abbrev pub pick_turn : ℕ → Mode → ℕ → ℕ → Pick → Turn
@@ -52,18 +52,18 @@ reach level n = 4097 * level + n
 
 -- of a goal: the derivation; how far a walk to it can go; that it is there
 module _ (t : Table) where
-  abbrev pub chosen_at : Goal → Derivation
-  chosen_at g = chosen_in g.mode (node_process t g.node) g.choice
+  abbrev pub chosen_at : Goal ℕ → Derivation
+  chosen_at g = chosen_in g.mode (node_process t g.from) g.choice
 
-  abbrev pub ahead : Goal → ℕ
-  ahead g = reach (exposure (node_process t g.node)) g.node
+  abbrev pub ahead : Goal ℕ → ℕ
+  ahead g = reach (exposure (node_process t g.from)) g.from
 
-pub record Reached (t : Table) (g : Goal) : Type 0 where
-  pub low : g.node < first_root t
-  pub choice : g.choice < count_in g.mode (node_process t g.node)
+pub record Reached (t : Table) (g : Goal ℕ) : Type 0 where
+  pub low : g.from < first_root t
+  pub choice : g.choice < count_in g.mode (node_process t g.from)
 
 -- a walk to goal g can go on to goal h
-pub record Nearer (t : Table) (g h : Goal) : Type 0 where
+pub record Nearer (t : Table) (g h : Goal ℕ) : Type 0 where
   pub reached : Reached t h
   pub falls : ahead t h < ahead t g
 
@@ -73,10 +73,16 @@ side_guards t Alone = []
 side_guards t (Under b) = b ∷ []
 side_guards t (After h) = (chosen_at t h).guards
 
-abbrev pub SideReached : Table → Goal → Side → Type 0
+abbrev pub SideReached : Table → Goal ℕ → Side → Type 0
 SideReached t g Alone = Unit {0}
 SideReached t g (Under b) = GuardNode t b
 SideReached t g (After h) = Nearer t g h
+
+-- what is collected besides is there
+abbrev pub Sided : Table → Side → Type 0
+Sided t Alone = Unit {0}
+Sided t (Under b) = GuardNode t b
+Sided t (After h) = Reached t h
 
 -- the words that stay before and after what is left, and how many they are
 abbrev pub kept_before : Kept → List ℕ
@@ -105,12 +111,12 @@ pub record Ended (d : Derivation) (done : Label) (word : ℕ) : Type 0 where
   pub words : words d.leaving ≡ word ∷ []
 
 -- the walk to goal g goes on to goal h
-pub record Onward (t : Table) (g h : Goal) (side : Side) (kept : Kept) : Type 0 where
+pub record Onward (t : Table) (g h : Goal ℕ) (side : Side) (kept : Kept) : Type 0 where
   pub nearer : Nearer t g h
   pub collects : SideReached t g side
   pub around : Around (chosen_at t g) (chosen_at t h) (side_guards t side) (kept_before kept) (kept_after kept)
 
 -- what a step towards goal g says of it
-abbrev pub Turned : Table → Goal → Turn → Type 0
+abbrev pub Turned : Table → Goal ℕ → Turn → Type 0
 Turned t g (End label word) = Ended (chosen_at t g) label word
 Turned t g (On h side kept) = Onward t g h side kept

@@ -7,7 +7,7 @@ use Rattle.choice.specs.declared.Goal.{Goal}
 use Rattle.choice.specs.Turns.{chosen_at, Reached}
 
 -- what is left at a goal fits into the gap
-pub record Room (t : Table) (g : Goal) (gap : Gap) (ws : List ℕ) : Type 0 where
+pub record Room (t : Table) (g : Goal ℕ) (gap : Gap) (ws : List ℕ) : Type 0 where
   pub reached : Reached t g
   pub fits : gap.front + length (words (chosen_at t g).leaving) ≤ gap.back
   pub end : gap.back ≤ length ws

@@ -1,6 +1,7 @@
 // Choice c of a process node, found by counting: what it does, under which guards, and what it leaves.
 #![tactic(auto)]
 
+pub mod goals; // goals.rt: where a walk goes to
 pub mod picks; // picks.rt: which part of a sequence or a parallel a choice is of
 pub mod turns; // turns.rt: one step from a node towards its choice
 pub mod writing; // writing.rt: what a node's choice leaves, written between two places
@@ -19,10 +20,11 @@ pub enum Pick {
     RightTicks { tick: u64, choice: u64 },
 }
 
-// The derivation that a walk goes to: a choice among those of a mode of a node.
+// The derivation that a walk goes to: a choice among those of a mode of what it begins from, a node or a place among
+// words.
 #[derive(Clone, Copy)]
-pub struct Goal {
-    pub node: usize,
+pub struct Goal<P> {
+    pub from: P,
     pub mode: Mode,
     pub choice: u64,
 }
@@ -32,7 +34,7 @@ pub struct Goal {
 pub enum Side {
     Alone,
     Under { guard: usize },
-    After { tick: Goal },
+    After { tick: Goal<usize> },
 }
 
 // The words that stay around what is left: none; the operator before it and its right node after it; or a parallel and
@@ -47,8 +49,15 @@ pub enum Kept {
 // One step towards a goal: it ends there, with what is done and the one word that is left; else it goes on.
 #[derive(Clone, Copy)]
 pub enum Turn {
-    End { label: Label, word: u32 },
-    On { next: Goal, side: Side, kept: Kept },
+    End {
+        label: Label,
+        word: u32,
+    },
+    On {
+        next: Goal<usize>,
+        side: Side,
+        kept: Kept,
+    },
 }
 
 // What a derivation does, and how many words it leaves.

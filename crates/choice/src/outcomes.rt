@@ -5,25 +5,27 @@ ghost use Rattle.choice.specs.Outcomes.{grown_by};
 
 use crate::{Effect, Kept};
 
-// The same, with more words.
-pub fn grown(o: Effect, words: usize) -> Effect
-    requires { o.size + words ≤ 4294967295 }
-    ensures { result ≡ grown_by o words }
-{
-    let label = o.label;
-    Effect {
-        label,
-        size: o.size + words,
+impl Effect {
+    // The same, with more words.
+    pub fn grown(self, words: usize) -> Self
+        requires { self.size + words ≤ 4294967295 }
+        ensures { result ≡ grown_by self words }
+    {
+        Effect {
+            size: self.size + words,
+            ..self
+        }
     }
 }
 
-// How many words stay.
-pub fn kept_words(kept: Kept) -> usize
-    ensures { result ≡ kept_size kept }
-{
-    match kept {
-        Kept::Nothing => 0,
-        Kept::Right { .. } => 2,
-        Kept::Left { .. } => 2,
+impl Kept {
+    // How many words stay.
+    pub fn words(self) -> usize
+        ensures { result ≡ kept_size self }
+    {
+        match self {
+            Kept::Nothing => 0,
+            Kept::Right { .. } | Kept::Left { .. } => 2,
+        }
     }
 }

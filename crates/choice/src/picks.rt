@@ -1,5 +1,5 @@
 // Which part of a sequence or a parallel a choice is of, by the counts of the parts.
-ghost use Rattle.std.specs.Prelude.{◌≡◌, ◌/◌, ◌%◌, ◌≤◌};
+ghost use Rattle.std.specs.Prelude.{◌≡◌, ◌≤◌};
 ghost use Rattle.accept.specs.Counts.{Capped};
 ghost use Rattle.choice.specs.Picks.{acting_of, total_of, pick_of};
 
@@ -12,8 +12,7 @@ pub fn acting(mode: Mode, c: Counts) -> u64
     ensures { result ≡ acting_of mode c }
 {
     match mode {
-        Mode::Any => c.actions,
-        Mode::Actions => c.actions,
+        Mode::Any | Mode::Actions => c.actions,
         Mode::Ticks => 0,
     }
 }
@@ -28,24 +27,6 @@ pub fn total(mode: Mode, c: Counts) -> u64
         Mode::Actions => c.actions,
         Mode::Ticks => c.ticks,
     }
-}
-
-fn quotient(x: u64, n: u64) -> u64
-    ensures { result ≡ x / n }
-{
-    if n == 0 {
-        return 0;
-    }
-    x / n
-}
-
-fn remainder(x: u64, n: u64) -> u64
-    ensures { result ≡ x % n }
-{
-    if n == 0 {
-        return x;
-    }
-    x % n
 }
 
 // Derivation c of a sequence or a parallel; `beside` actions of the right part come before the joined ones: none in a
@@ -68,14 +49,15 @@ pub fn pick(mode: Mode, c: u64, beside: u64, left: Counts, right: Counts) -> Pic
     let joined = left.ticks * n;
     if third < joined {
         return Pick::LeftTicks {
-            tick: quotient(third, n),
-            choice: remainder(third, n),
+            tick: third / n,
+            choice: third % n,
         };
     }
+    // past the last derivation k may be 0
     let fourth = third - joined;
     let k = total(mode, left);
     Pick::RightTicks {
-        tick: quotient(fourth, k),
-        choice: remainder(fourth, k),
+        tick: fourth.checked_div(k).unwrap_or(0),
+        choice: fourth.checked_rem(k).unwrap_or(fourth),
     }
 }

@@ -1,23 +1,20 @@
 // One step from a node towards its choice.
-ghost use Rattle.std.specs.Prelude.{◌≡◌, ◌+◌, ◌-◌, ◌*◌, ◌<◌, length};
-ghost use Rattle.basis.specs.Bytes.{u16_at};
-ghost use Rattle.table.specs.Tables.{Table, table, roots_of};
-ghost use Rattle.table.specs.Sound.{Limits};
+ghost use Rattle.std.specs.Prelude.{◌≡◌, ◌<◌};
+ghost use Rattle.accept.specs.Accepted.{accepted_table};
 ghost use Rattle.choice.specs.declared.Kept.TheVariants.{Nothing};
 ghost use Rattle.choice.specs.declared.Turn.TheVariants.{On};
-ghost use Rattle.choice.specs.Turns.{goal_of, pick_turn, choice_turn, Prepared, Reached, Turned};
+ghost use Rattle.choice.specs.Turns.{goal_of, pick_turn, choice_turn, Reached, Turned};
 
 use crate::picks::{acting, pick, total};
 use crate::{Goal, Kept, Pick, Side, Turn};
-use accept::pair;
-use table::{Sizes, first_root, p_at, q_at};
+use accept::Accepted;
 use term::{Label, Mode};
 
 // On to a node, with the same mode and nothing kept.
 fn on_to(node: usize, mode: Mode, choice: u64, side: Side) -> Turn
     ensures { result ≡ On (goal_of node mode choice) side Nothing }
 {
-    let next = Goal { node, mode, choice };
+    let next = Goal::new(node, mode, choice);
     let kept = Kept::Nothing;
     Turn::On { next, side, kept }
 }
@@ -28,41 +25,28 @@ fn part(operator: u32, mode: Mode, p: usize, q: usize, pick: Pick) -> Turn
     ensures { result ≡ pick_turn operator mode p q pick }
 {
     match pick {
-        Pick::LeftActs(i) => Turn::On {
-            next: Goal {
-                node: p,
-                mode: Mode::Actions,
-                choice: i,
-            },
-            side: Side::Alone,
-            kept: Kept::Right {
-                operator,
-                node: q as u32,
-            },
-        },
-        Pick::RightActs(i) => Turn::On {
-            next: Goal {
-                node: q,
-                mode: Mode::Actions,
-                choice: i,
-            },
-            side: Side::Alone,
-            kept: Kept::Left { node: p as u32 },
-        },
+        Pick::LeftActs(i) => {
+            let node = q as u32;
+            Turn::On {
+                next: Goal::new(p, Mode::Actions, i),
+                side: Side::Alone,
+                kept: Kept::Right { operator, node },
+            }
+        }
+        Pick::RightActs(i) => {
+            let node = p as u32;
+            Turn::On {
+                next: Goal::new(q, Mode::Actions, i),
+                side: Side::Alone,
+                kept: Kept::Left { node },
+            }
+        }
         Pick::LeftTicks { tick, choice } => {
-            let tick = Goal {
-                node: p,
-                mode: Mode::Ticks,
-                choice: tick,
-            };
+            let tick = Goal::new(p, Mode::Ticks, tick);
             on_to(q, mode, choice, Side::After { tick })
         }
         Pick::RightTicks { tick, choice } => {
-            let tick = Goal {
-                node: q,
-                mode: Mode::Ticks,
-                choice: tick,
-            };
+            let tick = Goal::new(q, Mode::Ticks, tick);
             on_to(p, mode, choice, Side::After { tick })
         }
     }
@@ -78,52 +62,34 @@ fn either(mode: Mode, c: u64, p: usize, q: usize, k: u64) -> Turn
     on_to(q, mode, c - k, Side::Alone)
 }
 
-// The node that is the body of a definition.
-fn body_at(sizes: Sizes, operands: &[u8], d: usize) -> usize
-    requires { (Limits sizes) × (length operands.now ≡ 4 * sizes.nodes) × (d < sizes.definitions) }
-    ensures { result ≡ u16_at operands.now (4 * (sizes.nodes - roots_of sizes + d)) }
-{
-    p_at(operands, first_root(sizes) + d)
-}
-
 // A call goes on in the body of its definition.
-pub fn turn_at(sizes: Sizes, kinds: &[u8], operands: &[u8], scratch: &[u32], goal: Goal) -> Turn
-    requires prepared { let t = table sizes kinds.now operands.now in Prepared t scratch.now }
-    requires reached { let t = table sizes kinds.now operands.now in Reached t goal }
-    ensures { let t = table sizes kinds.now operands.now in Turned t goal result }
+pub fn turn_at(accepted: &Accepted, goal: Goal<usize>) -> Turn
+    requires { Reached (accepted_table accepted.now) goal }
+    ensures { Turned (accepted_table accepted.now) goal result }
 {
-    let n = goal.node;
+    let fleet = &accepted.fleet;
+    let n = goal.from;
     let mode = goal.mode;
     let c = goal.choice;
-    let kind = kinds[n];
-    let p = p_at(operands, n);
-    let q = q_at(operands, n);
-    match kind {
+    let p = fleet.p_at(n);
+    let q = fleet.q_at(n);
+    match fleet.kind_at(n) {
         basis::kinds::TICK => Turn::End {
             label: Label::Ticking,
             word: term::IDLE_WORD,
         },
-        basis::kinds::SEQUENCE => part(
-            term::SEQ_WORD,
-            mode,
-            p,
-            q,
-            pick(mode, c, 0, pair(scratch, p), pair(scratch, q)),
-        ),
-        basis::kinds::CHOICE => either(mode, c, p, q, total(mode, pair(scratch, p))),
+        basis::kinds::SEQUENCE => {
+            let which = pick(mode, c, 0, accepted.counts_at(p), accepted.counts_at(q));
+            part(term::SEQ_WORD, mode, p, q, which)
+        }
+        basis::kinds::CHOICE => either(mode, c, p, q, total(mode, accepted.counts_at(p))),
         basis::kinds::GUARDED => on_to(q, mode, c, Side::Under { guard: p }),
         basis::kinds::PARALLEL => {
-            let right = pair(scratch, q);
-            let beside = acting(mode, right);
-            part(
-                term::PAR_WORD,
-                mode,
-                p,
-                q,
-                pick(mode, c, beside, pair(scratch, p), right),
-            )
+            let right = accepted.counts_at(q);
+            let which = pick(mode, c, acting(mode, right), accepted.counts_at(p), right);
+            part(term::PAR_WORD, mode, p, q, which)
         }
-        basis::kinds::CALL => on_to(body_at(sizes, operands, p), mode, c, Side::Alone),
+        basis::kinds::CALL => on_to(fleet.body_at(p), mode, c, Side::Alone),
         _ => Turn::End {
             label: Label::Acting(n),
             word: term::TICK_WORD,

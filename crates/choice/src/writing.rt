@@ -1,24 +1,24 @@
 // What a node's choice leaves, written between two places of a residual's words.
 ghost use Rattle.std.specs.Prelude.{◌≡◌, [], ◌∷◌};
-ghost use Rattle.table.specs.Tables.{Table, table};
 ghost use Rattle.term.specs.Terms.{words as words_of};
-ghost use Rattle.choice.specs.Turns.{kept_before, kept_after, kept_size, chosen_at, Prepared};
+ghost use Rattle.accept.specs.Accepted.{accepted_table};
+ghost use Rattle.choice.specs.Turns.{kept_before, kept_after, kept_size, chosen_at};
 ghost use Rattle.choice.specs.Writing.{Room, RoomFor, Written, Narrowed};
 
 use crate::turns::turn_at;
 use crate::{Gap, Goal, Kept, Turn};
-use table::Sizes;
+use accept::Accepted;
 
 // One word is all that is left.
 pub fn put_last(words: &mut [u32], gap: Gap, w: u32) -> Gap
     requires { RoomFor words.old gap 1 }
     ensures { Written words.old gap.front gap.back (w ∷ []) result words.new }
 {
-    let front = gap.front;
+    let Gap { front, back } = gap;
     words[front] = w;
     Gap {
         front: front + 1,
-        back: gap.back,
+        back,
     }
 }
 
@@ -27,8 +27,7 @@ fn put_kept(words: &mut [u32], gap: Gap, kept: Kept) -> Gap
     requires { RoomFor words.old gap (kept_size kept) }
     ensures { Narrowed words.old gap (kept_before kept) (kept_after kept) result words.new }
 {
-    let front = gap.front;
-    let back = gap.back;
+    let Gap { front, back } = gap;
     match kept {
         Kept::Nothing => gap,
         Kept::Right { operator, node } => {
@@ -51,34 +50,21 @@ fn put_kept(words: &mut [u32], gap: Gap, kept: Kept) -> Gap
     }
 }
 
-pub fn write_node(
-    sizes: Sizes,
-    kinds: &[u8],
-    operands: &[u8],
-    scratch: &[u32],
-    words: &mut [u32],
-    gap: Gap,
-    goal: Goal,
-) -> Gap
-    requires prepared { let t = table sizes kinds.now operands.now in Prepared t scratch.now }
-    requires room { let t = table sizes kinds.now operands.now in Room t goal gap words.old }
-    ensures { let t = table sizes kinds.now operands.now in Written words.old gap.front gap.back (words_of (chosen_at t goal).leaving) result words.new }
+pub fn write_node(accepted: &Accepted, words: &mut [u32], gap: Gap, goal: Goal<usize>) -> Gap
+    requires { Room (accepted_table accepted.now) goal gap words.old }
+    ensures { let t = accepted_table accepted.now in
+        Written words.old gap.front gap.back (words_of (chosen_at t goal).leaving) result words.new }
 {
     let mut rest = gap;
     let mut at = goal;
     loop {
-        let turn = turn_at(sizes, kinds, operands, scratch, at);
-        match turn {
+        match turn_at(accepted, at) {
             Turn::End { word, .. } => return put_last(words, rest, word),
             Turn::On { next, kept, .. } => {
                 rest = put_kept(words, rest, kept);
                 // field by field: a copy of the whole waits until each part is stored
-                let mode = next.mode;
-                at = Goal {
-                    node: next.node,
-                    mode,
-                    choice: next.choice,
-                };
+                let Goal { from, mode, choice } = next;
+                at = Goal { from, mode, choice };
             }
         }
     }

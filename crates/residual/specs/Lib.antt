@@ -1,5 +1,4 @@
 pub mod Reading
 pub mod Measures
 pub mod Steps
-pub mod Moves
 pub mod Wholes

@@ -1,5 +1,5 @@
 -- The counts of the term that begins at a place among words.
-use Rattle.std.specs.Prelude.{ℕ, ◌+◌, ◌*◌, ◌≤◌, ◌<◌, cond, ◌≡◌, List, ◌++◌, eqb, ltb, length, drop}
+use Rattle.std.specs.Prelude.{ℕ, ◌+◌, ◌*◌, ◌≤◌, ◌<◌, cond, ◌≡◌, List, ◌++◌, eqb, ltb, length, drop, true, false, Option, Some, None, IfSome}
 use Rattle.table.specs.Tables.{Table, first_root}
 use Rattle.term.specs.Terms.{Term, words, seq_word, tick_word}
 use Rattle.term.specs.Accepted.{Over}
@@ -24,15 +24,23 @@ pub record Pairs (roots : ℕ) (s : List ℕ) : Type 0 where
   pub small : (n : ℕ) → n < roots → Capped (pair_at s n)
 
 -- what is found of term T at a place
-pub record Told (t : Table) (T : Term) (at : ℕ) (r : Measured) : Type 0 where
-  pub next : r.next.at ≡ at + length (words T)
-  pub counts : r.counts ≡ counts_of (process t T)
-  pub few : r.few ≡ all_few t T
+pub record Told (t : Table) (T : Term) (at : ℕ) (m : Measured) : Type 0 where
+  pub next : m.next.at ≡ at + length (words T)
+  pub counts : m.counts ≡ counts_of (process t T)
+  pub few : all_few t T ≡ true
 
--- what is found at a place of ws: if a term stands there, all of the above
-pub record Found (roots : ℕ) (s ws : List ℕ) (at : ℕ) (r : Measured) : Type 0 where
-  pub small : Capped r.counts
-  pub on : at ≤ r.next.at
-  pub more : at < length ws → at < r.next.at
-  pub within : r.next.at ≤ length ws
-  pub right : (t : Table) → first_root t ≡ roots → Counted t s → (T : Term) (rest : List ℕ) → Over t T → drop at ws ≡ words T ++ rest → Told t T at r
+-- nothing is found of a term with a subterm that has too many derivations
+abbrev pub ToldIf : Table → Term → ℕ → Option Measured → Type 0
+ToldIf t T at None = all_few t T ≡ false
+ToldIf t T at (Some m) = Told t T at m
+
+-- what is found at a place of ws has counts that are held, and ends further on
+pub record Within (ws : List ℕ) (at : ℕ) (m : Measured) : Type 0 where
+  pub small : Capped m.counts
+  pub on : at < m.next.at
+  pub end : m.next.at ≤ length ws
+
+-- what is found at a place of ws: if a term stands there, what is said of it
+pub record Found (roots : ℕ) (s ws : List ℕ) (at : ℕ) (r : Option Measured) : Type 0 where
+  pub within : IfSome r (Within ws at)
+  pub right : (t : Table) → first_root t ≡ roots → Counted t s → (T : Term) (rest : List ℕ) → Over t T → drop at ws ≡ words T ++ rest → ToldIf t T at r

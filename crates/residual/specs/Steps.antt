@@ -1,5 +1,5 @@
 -- One step from a residual towards its choice.
-use Rattle.std.specs.Prelude.{ℕ, ◌+◌, ◌-◌, ◌<◌, true, cond, ◌≡◌, List, [], ◌++◌, eqb, length, drop}
+use Rattle.std.specs.Prelude.{ℕ, ◌+◌, ◌-◌, ◌<◌, true, cond, ◌≡◌, List, [], ◌++◌, eqb, length, drop, Option, Some, None}
 use Rattle.table.specs.Tables.{Table}
 use Rattle.term.specs.declared.Label.TheVariants.{Ticking}
 use Rattle.term.specs.declared.Mode.{Mode}
@@ -9,13 +9,13 @@ use Rattle.term.specs.Accepted.{Over}
 use Rattle.term.specs.Processes.{Derivation, process, all_few}
 use Rattle.term.specs.Choices.{count_in}
 use Rattle.accept.specs.declared.Counts.{Counts}
+use Rattle.choice.specs.declared.Goal.{Goal}
 use Rattle.choice.specs.declared.Pick.{Pick}
 use Rattle.choice.specs.declared.Pick.TheVariants.{LeftActs, RightActs, LeftTicks, RightTicks}
 use Rattle.choice.specs.Chosen.{chosen_in}
 use Rattle.choice.specs.Picks.{acting_of}
-use Rattle.choice.specs.Turns.{chosen_at, Reached, Around, Ended}
+use Rattle.choice.specs.Turns.{goal_of, chosen_at, Reached, Around, Ended}
 use Rattle.residual.specs.declared.Cursor.{Cursor}
-use Rattle.residual.specs.declared.Target.{Target}
 use Rattle.residual.specs.declared.Step.{Step}
 use Rattle.residual.specs.declared.Step.TheVariants.{Ticked, Leaf, Acts, Joins}
 
@@ -23,19 +23,19 @@ use Rattle.residual.specs.declared.Step.TheVariants.{Ticked, Leaf, Acts, Joins}
 unfoldable pub beside_of : ℕ → Mode → Counts → ℕ
 beside_of w m Q = cond (eqb w seq_word) 0 (acting_of m Q)
 
-abbrev pub target_of : Cursor → Mode → ℕ → Target
-target_of from m c = record { from = from; mode = m; choice = c }
+abbrev pub Target : Type 0
+Target = Goal Cursor
 
 -- choice c of all derivations of the term at a place
 abbrev pub whole_of : ℕ → ℕ → Target
-whole_of at c = target_of (record { at = at }) Any c
+whole_of at c = goal_of (record { at = at }) Any c
 
 -- at an operator's term, by the cursors of its parts and of its end
 abbrev pub pick_step : Mode → Cursor → Cursor → Cursor → Pick → Step
-pick_step m left right end (LeftActs i) = Acts (target_of left Actions i) (end.at - right.at)
-pick_step m left right end (RightActs i) = Acts (target_of right Actions i) 0
-pick_step m left right end (LeftTicks j i) = Joins (target_of right m i) (end.at - right.at) 0 (target_of left Ticks j)
-pick_step m left right end (RightTicks j i) = Joins (target_of left m i) (right.at - left.at) (end.at - right.at) (target_of right Ticks j)
+pick_step m left right end (LeftActs i) = Acts (goal_of left Actions i) (end.at - right.at)
+pick_step m left right end (RightActs i) = Acts (goal_of right Actions i) 0
+pick_step m left right end (LeftTicks j i) = Joins (goal_of right m i) (end.at - right.at) 0 (goal_of left Ticks j)
+pick_step m left right end (RightTicks j i) = Joins (goal_of left m i) (right.at - left.at) (end.at - right.at) (goal_of right Ticks j)
 
 -- the target's choice of a term over process nodes is there, and each subterm has few derivations
 pub record Choosable (t : Table) (T : Term) (g : Target) : Type 0 where
@@ -84,3 +84,8 @@ Stepped t T g Ticked = (length (words T) ≡ 1) × Ended (going t T g) Ticking i
 Stepped t T g (Leaf h) = (length (words T) ≡ 1) × Reached t h × (going t T g ≡ chosen_at t h)
 Stepped t T g (Acts h after) = Acting t T g h after
 Stepped t T g (Joins h n after k) = Joining t T g h n after k
+
+-- there is a step, and so much is said of it
+abbrev pub SteppedIf : Table → Term → Target → Option Step → Type 0
+SteppedIf t T g None = ⊥
+SteppedIf t T g (Some r) = Stepped t T g r

@@ -1,11 +1,10 @@
 -- A residual: words that are one whole term.
-use Rattle.std.specs.Prelude.{ℕ, ◌+◌, ◌-◌, ◌<◌, ◌≤◌, true, ◌≡◌, List, ◌++◌, length, take, drop, replicate}
+use Rattle.std.specs.Prelude.{ℕ, ◌+◌, ◌-◌, ◌<◌, ◌≤◌, true, false, ◌≡◌, Option, Some, None, List, ◌++◌, length, take, drop, replicate}
 use Rattle.table.specs.Tables.{Table}
 use Rattle.term.specs.Terms.{Term, words, term_of, are_terms}
 use Rattle.term.specs.Processes.{derivations, process, all_few}
 use Rattle.choice.specs.declared.Gap.{Gap}
 use Rattle.choice.specs.Outcomes.{most}
-use Rattle.residual.specs.declared.Choices.{Choices}
 use Rattle.residual.specs.Reading.{lent_limit}
 
 -- the words are one whole term over process nodes
@@ -21,10 +20,15 @@ pub record Taking (t : Table) (T : Term) (c : ℕ) : Type 0 where
   pub few : all_few t T ≡ true
   pub choice : c < length (derivations (process t T))
 
--- what is found of a residual's choices
-pub record Offered (t : Table) (T : Term) (r : Choices) : Type 0 where
-  pub few : r.few ≡ all_few t T
-  pub count : all_few t T ≡ true → r.count ≡ length (derivations (process t T))
+-- each subterm has few derivations, and the term has so many
+pub record Choices (t : Table) (T : Term) (count : ℕ) : Type 0 where
+  pub few : all_few t T ≡ true
+  pub count : count ≡ length (derivations (process t T))
+
+-- what is found of a residual's choices: none where a subterm has too many
+abbrev pub Offered : Table → Term → Option ℕ → Type 0
+Offered t T None = all_few t T ≡ false
+Offered t T (Some count) = Choices t T count
 
 -- a bound of the words that a choice leaves: those of a node's choice, and the term's
 abbrev pub limit_of : Table → Term → ℕ

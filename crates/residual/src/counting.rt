@@ -1,26 +1,23 @@
-// The counts of the term that begins at a place, where it ends, and whether each subterm has few derivations.
+// The counts of the term that begins at a place, and where it ends.
 ghost use Rattle.std.specs.Prelude.{◌≡◌, ◌+◌, ◌≤◌, leb, length};
 ghost use Rattle.term.specs.Processes.{derivation_limit};
 ghost use Rattle.accept.specs.Counts.{Capped};
 ghost use Rattle.residual.specs.Measures.{leaf_counts, operator_counts, Pairs, Found};
 
 use crate::reading::is_operator;
-use crate::{Cursor, Measured, Read};
+use crate::{Cursor, Measured};
 use accept::{Counts, NONE, TICK, pair, parallel, sequence};
 
 // The counts of a word that is a term by itself.
-fn leaf(roots: usize, scratch: &[u32], word: u32) -> Counts
-    requires { Pairs roots scratch.now }
-    ensures { result ≡ leaf_counts roots scratch.now word }
+fn leaf(roots: usize, counts: &[u32], word: u32) -> Counts
+    requires { Pairs roots counts.now }
+    ensures { result ≡ leaf_counts roots counts.now word }
 {
     if word == term::TICK_WORD {
         return TICK;
     }
     let n = word as usize;
-    if n < roots {
-        return pair(scratch, n);
-    }
-    NONE
+    if n < roots { pair(counts, n) } else { NONE }
 }
 
 // The counts of an operator's term, from those of its parts.
@@ -43,34 +40,26 @@ fn few(c: Counts) -> bool
     c.actions + c.ticks <= term::DERIVATIONS
 }
 
-pub fn measure(roots: usize, scratch: &[u32], words: &[u32], from: Cursor) -> Measured
-    requires pairs { Pairs roots scratch.now }
+// Nothing where some subterm has too many derivations, and at the end of the words.
+// Counts, and no accepted table: `count_choices` is asked without kinds and operands.
+pub fn measure(roots: usize, counts: &[u32], words: &[u32], from: Cursor) -> Option<Measured>
+    requires pairs { Pairs roots counts.now }
     requires at_in_bounds { from.at ≤ length words.now }
-    ensures { Found roots scratch.now words.now from.at result }
+    ensures { Found roots counts.now words.now from.at result }
 {
-    let read = from.read(words);
-    let Read::Word { word, next } = read else {
-        return Measured {
-            counts: NONE,
-            next: from,
-            few: true,
-        };
+    let (word, next) = from.read(words)?;
+    let found = if is_operator(word) {
+        let left = measure(roots, counts, words, next)?;
+        let right = measure(roots, counts, words, left.next)?;
+        Measured {
+            counts: combined(word, left.counts, right.counts),
+            next: right.next,
+        }
+    } else {
+        Measured {
+            counts: leaf(roots, counts, word),
+            next,
+        }
     };
-    if is_operator(word) {
-        let left = measure(roots, scratch, words, next);
-        let right = measure(roots, scratch, words, left.next);
-        let c = combined(word, left.counts, right.counts);
-        let end = right.next;
-        return Measured {
-            counts: c,
-            next: end,
-            few: few(c) & (left.few & right.few),
-        };
-    }
-    let c = leaf(roots, scratch, word);
-    Measured {
-        counts: c,
-        next,
-        few: few(c),
-    }
+    few(found.counts).then_some(found)
 }

@@ -5,7 +5,7 @@ ghost use Rattle.table.specs.Sound.{Limits};
 ghost use Rattle.term.specs.Terms.{are_terms, is_operator};
 ghost use Rattle.residual.specs.Reading.{read_at, leaf_word};
 
-use crate::{Cursor, Read};
+use crate::Cursor;
 use table::{Sizes, first_root, is_process};
 
 impl Cursor {
@@ -15,17 +15,13 @@ impl Cursor {
         Cursor { at: 0 }
     }
 
-    pub fn read(self, words: &[u32]) -> Read
+    // The word there, with the cursor after it; nothing at the end.
+    pub fn read(self, words: &[u32]) -> Option<(u32, Cursor)>
         ensures { result ≡ read_at words.now self.at }
     {
-        let at = self.at;
-        if at < words.len() {
-            return Read::Word {
-                word: words[at],
-                next: Cursor { at: at + 1 },
-            };
-        }
-        Read::End
+        let word = words.get(self.at)?;
+        let next = Cursor { at: self.at + 1 };
+        Some((*word, next))
     }
 }
 
@@ -33,10 +29,7 @@ impl Cursor {
 pub fn is_operator(word: u32) -> bool
     ensures { result ≡ is_operator word }
 {
-    if word == term::SEQ_WORD {
-        return true;
-    }
-    word == term::PAR_WORD
+    matches!(word, term::SEQ_WORD | term::PAR_WORD)
 }
 
 // A word that is a term by itself: tick, idle or a process node below the first root.
@@ -44,20 +37,15 @@ fn is_leaf(roots: usize, kinds: &[u8], word: u32) -> bool
     requires { roots ≤ length kinds.now }
     ensures { result ≡ leaf_word roots kinds.now word }
 {
-    if word == term::TICK_WORD {
-        return true;
-    }
-    if word == term::IDLE_WORD {
+    if matches!(word, term::TICK_WORD | term::IDLE_WORD) {
         return true;
     }
     let n = word as usize;
-    if n < roots {
-        return is_process(kinds[n]);
-    }
-    false
+    n < roots && is_process(kinds[n])
 }
 
 // Whether the words are one whole term over process nodes: `more` terms are still to come.
+// Sizes and kinds, and no fleet: the operands may be any, and the kinds more than the nodes.
 pub fn whole_term(sizes: Sizes, kinds: &[u8], words: &[u32]) -> bool
     requires { (Limits sizes) × (sizes.nodes ≤ length kinds.now) }
     ensures { (operands : List ℕ) → result ≡ are_terms (table sizes kinds.now operands) 1 words.now }
@@ -65,22 +53,18 @@ pub fn whole_term(sizes: Sizes, kinds: &[u8], words: &[u32]) -> bool
     let roots = first_root(sizes);
     let mut cursor = Cursor::start();
     let mut more: usize = 1;
-    loop {
-        let read = cursor.read(words);
-        let Read::Word { word, next } = read else {
-            return more == 0;
-        };
+    while let Some((word, next)) = cursor.read(words) {
         if more == 0 {
             return false;
         }
         if is_operator(word) {
             more += 1;
-        } else {
-            if !is_leaf(roots, kinds, word) {
-                return false;
-            }
+        } else if is_leaf(roots, kinds, word) {
             more -= 1;
+        } else {
+            return false;
         }
         cursor = next;
     }
+    more == 0
 }

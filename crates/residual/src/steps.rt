@@ -1,15 +1,14 @@
 // One step from a residual towards its choice.
 ghost use Rattle.std.specs.Prelude.{◌≡◌, ◌≤◌};
-ghost use Rattle.table.specs.Tables.{Table, first_root};
 ghost use Rattle.term.specs.Terms.{Term};
-ghost use Rattle.accept.specs.Scratch.{Counted};
-ghost use Rattle.residual.specs.Measures.{Pairs};
-ghost use Rattle.residual.specs.Steps.{whole_of, beside_of, pick_step, Stands, Stepped};
+ghost use Rattle.accept.specs.Accepted.{accepted_table};
+ghost use Rattle.choice.specs.Turns.{goal_of};
+ghost use Rattle.residual.specs.Steps.{whole_of, beside_of, pick_step, Stands, Stepped, SteppedIf};
 
 use crate::counting::measure;
 use crate::reading::is_operator;
-use crate::{Cursor, Read, Step, Target};
-use accept::Counts;
+use crate::{Cursor, Step, Target};
+use accept::{Accepted, Counts};
 use choice::picks::{acting, pick};
 use choice::{Goal, Pick};
 use term::Mode;
@@ -18,11 +17,7 @@ use term::Mode;
 pub fn whole(at: usize, c: u64) -> Target
     ensures { result ≡ whole_of at c }
 {
-    Target {
-        from: Cursor { at },
-        mode: Mode::Any,
-        choice: c,
-    }
+    Goal::new(Cursor { at }, Mode::Any, c)
 }
 
 // How many actions of the right part come before the joined derivations: none in a sequence.
@@ -40,80 +35,58 @@ fn toward(mode: Mode, left: Cursor, right: Cursor, end: Cursor, pick: Pick) -> S
     requires { (left.at ≤ right.at) × (right.at ≤ end.at) }
     ensures { result ≡ pick_step mode left right end pick }
 {
+    let left_size = right.at - left.at;
+    let right_size = end.at - right.at;
     match pick {
         Pick::LeftActs(i) => Step::Acts {
-            part: Target {
-                from: left,
-                mode: Mode::Actions,
-                choice: i,
-            },
-            after: end.at - right.at,
+            part: Goal::new(left, Mode::Actions, i),
+            after: right_size,
         },
         Pick::RightActs(i) => Step::Acts {
-            part: Target {
-                from: right,
-                mode: Mode::Actions,
-                choice: i,
-            },
+            part: Goal::new(right, Mode::Actions, i),
             after: 0,
         },
         Pick::LeftTicks { tick, choice } => Step::Joins {
-            part: Target {
-                from: right,
-                mode,
-                choice,
-            },
-            size: end.at - right.at,
+            part: Goal::new(right, mode, choice),
+            size: right_size,
             after: 0,
-            tick: Target {
-                from: left,
-                mode: Mode::Ticks,
-                choice: tick,
-            },
+            tick: Goal::new(left, Mode::Ticks, tick),
         },
         Pick::RightTicks { tick, choice } => Step::Joins {
-            part: Target {
-                from: left,
-                mode,
-                choice,
-            },
-            size: right.at - left.at,
-            after: end.at - right.at,
-            tick: Target {
-                from: right,
-                mode: Mode::Ticks,
-                choice: tick,
-            },
+            part: Goal::new(left, mode, choice),
+            size: left_size,
+            after: right_size,
+            tick: Goal::new(right, Mode::Ticks, tick),
         },
     }
 }
 
-// At the end of the words stands no term: any step will do there.
-pub fn step_at(roots: usize, scratch: &[u32], words: &[u32], target: Target) -> Step
-    requires { Pairs roots scratch.now }
-    ensures { (t : Table) → first_root t ≡ roots → Counted t scratch.now →
-        (T : Term) → Stands t T target words.now → Stepped t T target result }
+// Nothing at the end of the words, and nothing where a part has too many derivations.
+fn step_from(accepted: &Accepted, words: &[u32], target: Target) -> Option<Step>
+    ensures { (T : Term) → Stands (accepted_table accepted.now) T target words.now →
+        SteppedIf (accepted_table accepted.now) T target result }
 {
-    let from = target.from;
-    let mode = target.mode;
-    let choice = target.choice;
-    let read = from.read(words);
-    let Read::Word { word, next } = read else {
-        return Step::Ticked;
-    };
+    let Goal { from, mode, choice } = target;
+    let (word, next) = from.read(words)?;
     if is_operator(word) {
-        let left = measure(roots, scratch, words, next);
-        let middle = left.next;
-        let right = measure(roots, scratch, words, middle);
+        let roots = accepted.fleet.first_root();
+        let left = measure(roots, accepted.counts, words, next)?;
+        let right = measure(roots, accepted.counts, words, left.next)?;
         let more = beside(word, mode, right.counts);
         let which = pick(mode, choice, more, left.counts, right.counts);
-        return toward(mode, next, middle, right.next, which);
+        return Some(toward(mode, next, left.next, right.next, which));
     }
     if word == term::TICK_WORD {
-        return Step::Ticked;
+        return Some(Step::Ticked);
     }
-    let node = word as usize;
-    Step::Leaf {
-        goal: Goal { node, mode, choice },
-    }
+    let goal = Goal::new(word as usize, mode, choice);
+    Some(Step::Leaf { goal })
+}
+
+// Where no term with that choice stands, any step will do.
+pub fn step_at(accepted: &Accepted, words: &[u32], target: Target) -> Step
+    ensures { (T : Term) → Stands (accepted_table accepted.now) T target words.now →
+        Stepped (accepted_table accepted.now) T target result }
+{
+    step_from(accepted, words, target).unwrap_or(Step::Ticked)
 }

@@ -2,7 +2,7 @@
 #![tactic(auto)]
 
 // Which derivations of a process are counted: all of them, its actions, or its ticks.
-#[derive(Clone, Copy)]
+#[derive(Clone, Copy, PartialEq, Eq)]
 pub enum Mode {
     Any,
     Actions,

@@ -1,7 +1,0 @@
--- `quotient` meets its contract. Assumes nothing.
-use mathlib.Core.Path.{sym}
-use native.Mathlib.Nat.{div-zero}
-use Rattle.choice.proofs.picks.quotient.Goals as goal
-
-pub returns-then-n-eq0 : goal.returns-then-n-eq0
-returns-then-n-eq0 c = rw c.if-n-eq0.true (sym (div-zero c.args.x))
