@@ -1,7 +1,7 @@
 -- Sets of agents for whom a guard is well defined, and for whom it holds.
 -- Assumes nothing.
 use Prim.Native.Nat.{ℕ}
-use mathlib.Core.Bool.{Bool, true, false, not, ◌&&◌, ◌||◌, and-false, and-true, or-false}
+use mathlib.Core.Bool.{Bool, true, false, not, ◌&&◌, ◌||◌, and-false, and-true, or-false, or_comm}
 use mathlib.Core.Path.{◌≡◌, refl, ◌∙◌}
 use lib.Dec.{eqb}
 use borrow.Author.Tests.{eqb-true}
@@ -39,21 +39,35 @@ pub made : (g : Bool → Bool → Bool) → g false false ≡ false → (asked p
 made g none true p q is first second = is ∙ rw (first, second)
 made g none false p q is first second = is ∙ rw (first, second) none
 
--- one agent more
-with_one : (f : ℕ → Bool) (w u n : ℕ) → has w n ≡ true → ((y : ℕ) → has u y ≡ (has (minus w n) y && f y)) → (y : ℕ) → has (plus_if u n (f n)) y ≡ (has w y && f y)
-with_one f w u n first others y = rw (has_plus_if u n (f n) y, others y, has_minus w n y) (by (eqb n y) refl)
+-- WHAT IS LEFT: of the agents of a set some are left, and what is found is of the others
+pub record Left (agents rest : ℕ) (comesTo : ℕ → Truth) (r : AgentSets) : Type 0 where
+  pub defined : (y : ℕ) → (has r.defined y || (has rest y && (comesTo y).defined)) ≡ (has agents y && (comesTo y).defined)
+  pub holding : (y : ℕ) → (has r.holding y || (has rest y && (comesTo y).holds)) ≡ (has agents y && (comesTo y).holds)
+
+-- one agent more is found
+one_more : (f : ℕ → Bool) (w u n y : ℕ) → has w n ≡ true → (has (plus_if u n (f n)) y || (has (minus w n) y && f y)) ≡ (has u y || (has w y && f y))
+one_more f w u n y there = rw (has_plus_if u n (f n) y, has_minus w n y) (by (eqb n y) refl)
   where
-    by : (b : Bool) → eqb n y ≡ b → ((b && f n) || ((not b && has w y) && f y)) ≡ (has w y && f y)
-    by true e = or-false (f n) ∙ rw (← eqb-true n y e, first)
+    by : (b : Bool) → eqb n y ≡ b → (((b && f n) || has u y) || ((not b && has w y) && f y)) ≡ (has u y || (has w y && f y))
+    by true e = rw (← eqb-true n y e, there, or-false (f n || has u n)) (or_comm (f n) (has u n))
     by false e = refl
 
-pub found_more : {w others d h : ℕ} (n : ℕ) {t : Truth} {f : ℕ → Truth} {r : AgentSets} → has w n ≡ true → others ≡ minus w n → t ≡ f n
-    → d ≡ plus_if r.defined n t.defined → h ≡ plus_if r.holding n t.holds
-    → Found others f r → Found w f (sets d h)
-found_more {w} n {f = f} {r} first e is defined holding others =
-    let rest : Found (minus w n) f r = rw e at others in
-    rw (defined, holding, is)
-    (record {
-      defined = with_one (λ y. (f y).defined) w r.defined n first rest.defined;
-      holding = with_one (λ y. (f y).holds) w r.holding n first rest.holding;
-    })
+module _ {agents rest : ℕ} {f : ℕ → Truth} where
+  pub left_all : rest ≡ agents → Left agents rest f (sets 0 0)
+  left_all e = rw e (record { defined = λ y. rw (has_nothing y); holding = λ y. rw (has_nothing y) })
+
+  pub left_more : {r : AgentSets} {others d h : ℕ} (n : ℕ) {t : Truth} → has rest n ≡ true → others ≡ minus rest n → t ≡ f n
+      → d ≡ plus_if r.defined n t.defined → h ≡ plus_if r.holding n t.holds → Left agents rest f r → Left agents others f (sets d h)
+  left_more {r} n there e is defined holding left =
+      rw (defined, holding, is, e)
+      (record {
+        defined = λ y. one_more (λ z. (f z).defined) rest r.defined n y there ∙ left.defined y;
+        holding = λ y. one_more (λ z. (f z).holds) rest r.holding n y there ∙ left.holding y;
+      })
+
+  pub left_none : {r : AgentSets} → rest ≡ 0 → Left agents rest f r → Found agents f r
+  left_none {r} e left =
+      record {
+        defined = λ y. rw (e, has_nothing y, or-false (has r.defined y)) at (left.defined y);
+        holding = λ y. rw (e, has_nothing y, or-false (has r.holding y)) at (left.holding y);
+      }

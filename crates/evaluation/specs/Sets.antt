@@ -1,6 +1,6 @@
 -- A guard judged for many receivers at once.
-use Rattle.std.specs.Prelude.{ℕ, ◌&&◌, List, ◌≡◌}
-use Rattle.basis.specs.KeySets.{has}
+use Rattle.std.specs.Prelude.{ℕ, ◌<◌, ◌&&◌, true, List, ◌≡◌, Option, MatchOption}
+use Rattle.basis.specs.KeySets.{has, minus}
 use Rattle.value.specs.declared.Truth.{Truth}
 use Rattle.value.specs.Truths.{compare_values, connect}
 use Rattle.table.specs.Tables.{Table, kind_at, p_at, q_at}
@@ -20,3 +20,7 @@ pub record Found (agents : ℕ) (comesTo : ℕ → Truth) (r : AgentSets) : Type
 abbrev pub Connects : ℕ → AgentSets → AgentSets → AgentSets → Type 0
 Connects kind a b r =
     (agents : ℕ) (f g : ℕ → Truth) → Found agents f a → Found agents g b → Found agents (λ (y : ℕ). connect kind (f y) (g y)) r
+
+-- an agent of the set w is taken, and v is left; nobody is where nobody is in it
+abbrev pub TakesLowest : ℕ → Option ℕ → ℕ → Type 0
+TakesLowest w r v = MatchOption r (w ≡ 0) (λ y. (y < 32) × (has w y ≡ true) × (v ≡ minus w y))

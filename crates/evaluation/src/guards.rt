@@ -7,6 +7,7 @@ ghost use Rattle.evaluation.specs.Situated.{Situated, Placed};
 ghost use Rattle.evaluation.specs.Sets.{Connects};
 
 use super::AgentSets;
+use super::members::Members;
 use super::senders::Sender;
 use basis::plus_if;
 use table::Fleet;
@@ -48,20 +49,19 @@ impl<'a> Sender<'a> {
         ensures { Found agents
             (λ y. comparison (table_in self.now.fleet) self.now.state.now self.now.agent y node) result }
     {
-        if agents == 0 {
-            return NOBODY;
-        }
-        let agent = basis::lowest(agents);
-        let others = basis::minus(agents, agent);
-        let found = self.compare_all(others, node);
         let nodes = self.fleet.sizes.nodes;
-        let a = self.value_below(agent, nodes, self.fleet.p_at(node));
-        let b = self.value_below(agent, nodes, self.fleet.q_at(node));
-        let t = value::compare_values(self.fleet.kind_at(node), a, b);
-        AgentSets {
-            defined: plus_if(found.defined, agent, t.defined),
-            holding: plus_if(found.holding, agent, t.holds),
+        let kind = self.fleet.kind_at(node);
+        let p = self.fleet.p_at(node);
+        let q = self.fleet.q_at(node);
+        let mut found = NOBODY;
+        for agent in Members(agents) {
+            let a = self.value_below(agent, nodes, p);
+            let b = self.value_below(agent, nodes, q);
+            let truth = value::compare_values(kind, a, b);
+            found.defined = plus_if(found.defined, agent, truth.defined);
+            found.holding = plus_if(found.holding, agent, truth.holds);
         }
+        found
     }
 
     // What a node below the limit comes to for each agent of a set; undefined where it is not below.

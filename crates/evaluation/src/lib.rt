@@ -2,6 +2,7 @@
 #![tactic(auto)]
 
 mod guards; // guards.rt: what a guard comes to; links
+mod members; // members.rt: the agents of a set, one by one
 mod reading; // reading.rt: the stigmergy keys that a node reads
 mod senders; // senders.rt: whom expressions and guards are judged from
 mod values; // values.rt: the value of an expression
