@@ -33,10 +33,10 @@ fn keys_below(fleet: &Fleet, limit: usize, node: usize, keys: u32) -> u32
     }
     let fields = fleet.fields_at(node);
     let mut found = own_key(fleet, node, keys);
-    if table::is_node(fields.p) {
+    if fields.p.is_node() {
         found = keys_below(fleet, node, fleet.p_at(node), found);
     }
-    if table::is_node(fields.q) {
+    if fields.q.is_node() {
         found = keys_below(fleet, node, fleet.q_at(node), found);
     }
     found
