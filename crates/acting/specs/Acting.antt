@@ -2,7 +2,6 @@
 use Rattle.std.specs.Prelude.{ℕ, ◌<◌, ◌≤◌, true, ◌≡◌, List, length}
 use Rattle.basis.specs.Kinds as kind
 use Rattle.table.specs.Tables.{Table, kind_at, p_at, agent_limit}
-use Rattle.table.specs.Sound.{Shaped}
 use Rattle.term.specs.Terms.{words}
 use Rattle.term.specs.Processes.{all_few}
 use Rattle.term.specs.Accepted.{ActionNode}
@@ -36,7 +35,6 @@ pub record Stored (kind x : ℕ) (r : Store) : Type 0 where
 
 -- action n of agent x sets its key to word v
 pub record Setting (t : Table) (s : List ℕ) (x n v : ℕ) : Type 0 where
-  pub shaped : Shaped t
   pub blocks : HasBlocks s
   pub agent : x < agent_limit
   pub action : ActionNode t n

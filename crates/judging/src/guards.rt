@@ -1,36 +1,30 @@
 // Refusal 14: whether every marked guard holds, and the stigmergy keys that they read.
 ghost use Rattle.std.specs.Prelude.{◌≡◌, List, ℕ};
-ghost use Rattle.table.specs.Tables.{Table, table};
+ghost use Rattle.table.specs.Fleets.{table_in};
 ghost use Rattle.judging.specs.Guards.{GuardsMarked, GuardsGiven, asked_of};
 
-use crate::Asked;
 use choice::marking::next_guard;
 use evaluation::{holds, keys_read};
-use table::Sizes;
+use table::{Fleet, Refused};
 
 pub fn ask_guards(
-    sizes: Sizes,
-    kinds: &[u8],
-    operands: &[u8],
+    fleet: &Fleet,
     state: &[u32],
     marks: &[u32],
     agent: usize,
-) -> Asked
-    requires { let t = table sizes kinds.now operands.now in GuardsGiven t state.now agent marks.now }
-    ensures { let t = table sizes kinds.now operands.now in (gs : List ℕ) → GuardsMarked t gs marks.now
-        → result ≡ asked_of (table sizes kinds.now operands.now) state.now agent gs }
+) -> Result<u32, Refused>
+    requires { GuardsGiven (table_in fleet.now) state.now agent marks.now }
+    ensures { (gs : List ℕ) → GuardsMarked (table_in fleet.now) gs marks.now
+        → result ≡ asked_of (table_in fleet.now) state.now agent gs }
 {
     let mut keys = 0;
-    let mut n = 0;
-    loop {
-        n = next_guard(kinds, marks, n);
-        if sizes.nodes <= n {
-            return Asked::Hold { keys };
+    let mut from = 0;
+    while let Some(n) = next_guard(fleet.kinds, marks, from) {
+        if !holds(fleet, state, agent, agent, n) {
+            return Err(Refused::GuardFails);
         }
-        if !holds(sizes, kinds, operands, state, agent, agent, n) {
-            return Asked::Fails;
-        }
-        keys = keys_read(sizes, kinds, operands, n, keys);
-        n += 1;
+        keys = keys_read(fleet, n, keys);
+        from = n + 1;
     }
+    Ok(keys)
 }

@@ -8,17 +8,11 @@ mod outcomes; // outcomes.rt: 15 to 17
 pub use acts::judge;
 use term::Label;
 
-// What is found of an act: the refusal, or what it does, the word that it sets (0 for a tick) and the stigmergy keys
-// that its guards read.
+// An act that is allowed: what it does, the word that it sets (0 for a tick) and the stigmergy keys that its guards
+// read.
 #[derive(Clone, Copy)]
-pub enum Judgement {
-    Refused(u8),
-    Allowed { label: Label, value: u32, keys: u32 },
-}
-
-// What is found of guards: one does not hold; or all do, and these are the stigmergy keys that they read.
-#[derive(Clone, Copy)]
-enum Asked {
-    Fails,
-    Hold { keys: u32 },
+pub struct Allowed {
+    pub label: Label,
+    pub value: u32,
+    pub keys: u32,
 }

@@ -1,17 +1,21 @@
 -- A step of an accepted table and a well-formed state: what is found of it, and what is then done.
-use Rattle.std.specs.Prelude.{ℕ, ◌<◌, Bool, true, false, cond, ◌≡◌, List, get_or}
+use Rattle.std.specs.Prelude.{ℕ, ◌<◌, Bool, true, false, cond, ◌≡◌, List, get_or, Result, Ok, Err}
 use Rattle.basis.specs.KeySets.{has}
-use Rattle.table.specs.Checks.{first_of}
+use Rattle.table.specs.Checks.{Check, first_of}
 use Rattle.table.specs.Tables.{Table}
+use Rattle.table.specs.declared.refusals.Refused.{Refused}
+use Rattle.table.specs.declared.refusals.Refused.TheVariants.{KeyNotInSet}
+use Rattle.table.specs.Refusals.{check_of}
 use Rattle.state.specs.Layout.{zc_at, zp_at}
 use Rattle.state.specs.WellFormed.{Proper}
+use Rattle.steps.specs.declared.Tally.{Tally}
 use Rattle.steps.specs.Tallies.{no_tally}
-use Rattle.steps.specs.Steps.{Outcome, done, refused, outcome, own_checks, tally_of, after}
-use Rattle.judging.specs.declared.Judgement.TheVariants.{Allowed}
+use Rattle.steps.specs.Steps.{Outcome, done, outcome, own_checks, tally_of, after}
 use Rattle.judging.specs.Judging.{Judges}
 use Rattle.offering.specs.Passing.{Passing}
-use Rattle.machine.specs.declared.Judged.{Judged}
-use Rattle.machine.specs.declared.Judged.TheVariants.{Refused, Act, Offer}
+use Rattle.machine.specs.declared.checking.Planned.{Planned}
+use Rattle.machine.specs.declared.checking.Planned.TheVariants.{Act, Offer}
+use Rattle.machine.specs.declared.requests.Request.{Request}
 
 -- what a step that is in range comes to
 abbrev pub own_step : Table → List ℕ → ℕ → ℕ → ℕ → Outcome
@@ -26,27 +30,25 @@ abbrev pub offer_kind : Bool → ℕ
 offer_kind confirming = cond confirming 2 1
 
 -- 18, of an offer
-abbrev pub judged_offer : List ℕ → ℕ → ℕ → Bool → Judged
-judged_offer was x k confirming = cond (has (get_or was (cond confirming (zc_at x) (zp_at x)) 0) k) (Offer confirming) (Refused 18)
+abbrev pub judged_offer : List ℕ → ℕ → ℕ → Bool → Result Planned Refused
+judged_offer was x k confirming = cond (has (get_or was (cond confirming (zc_at x) (zp_at x)) 0) k) (Ok (Offer confirming)) (Err KeyNotInSet)
 
-abbrev pub is_allowed : Judged → Bool
-is_allowed (Refused refusal) = false
-is_allowed (Act label value keys) = true
-is_allowed (Offer confirming) = true
-
--- what a step of agent x that was judged so comes to, on state s
-abbrev pub finished : Table → List ℕ → ℕ → ℕ → Judged → Outcome
-finished t s x number (Refused refusal) = refused refusal 0 s
-finished t s x number (Act label value keys) = done no_tally (after t s 0 x number)
-finished t s x number (Offer confirming) = done (tally_of t s (offer_kind confirming) x number) (after t s (offer_kind confirming) x number)
+-- what a step that was planned so comes to, on state s
+abbrev pub finished : Table → List ℕ → Request → Planned → Outcome
+finished t s q (Act allowed) = done no_tally (after t s 0 q.agent q.number)
+finished t s q (Offer confirming) = done (tally_of t s (offer_kind confirming) q.agent q.number) (after t s (offer_kind confirming) q.agent q.number)
 
 -- what is asked of that state
-abbrev pub Finishing : Table → List ℕ → ℕ → ℕ → Judged → Type 0
-Finishing t s x number (Refused refusal) = Unit {0}
-Finishing t s x number (Act label value keys) = Proper t s × (x < t.sizes.agents) × Judges t s x number (Allowed label value keys)
-Finishing t s x number (Offer confirming) = Passing t s x number
+abbrev pub Finishing : Table → List ℕ → Request → Planned → Type 0
+Finishing t s q (Act allowed) = Proper t s × (q.agent < t.sizes.agents) × Judges t s q.agent q.number (Ok allowed)
+Finishing t s q (Offer confirming) = Passing t s q.agent q.number
 
--- the judgement r of a step that comes to o
-pub record StepJudged (t : Table) (was : List ℕ) (x number : ℕ) (o : Outcome) (r : Judged) : Type 0 where
-  pub is : o ≡ finished t was x number r
-  pub asked : Finishing t was x number r
+-- what a planned step counts, and the state after it
+pub record Finishes (t : Table) (s : List ℕ) (q : Request) (p : Planned) (counted : Tally) (after : List ℕ) : Type 0 where
+  pub tally : counted ≡ (finished t s q p).tally
+  pub state : after ≡ (finished t s q p).state
+
+-- the judgement of a step that comes to o
+abbrev pub StepJudged : Table → List ℕ → Request → Outcome → Result Planned Refused → Type 0
+StepJudged t was q o (Ok p) = (o ≡ finished t was q p) × Finishing t was q p
+StepJudged t was q o (Err e) = o ≡ record { check = check_of e; tally = no_tally; state = was }

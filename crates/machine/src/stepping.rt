@@ -1,99 +1,58 @@
 // A step of an accepted table and a well-formed state: judged, and then done on the state or on a copy of it.
 ghost use Rattle.std.specs.Prelude.{◌≡◌, length};
-ghost use Rattle.table.specs.Tables.{Table, table};
-ghost use Rattle.choice.specs.Turns.{Prepared};
+ghost use Rattle.accept.specs.Accepted.{accepted_table};
 ghost use Rattle.state.specs.WellFormed.{Proper};
-ghost use Rattle.steps.specs.Steps.{step_in};
 ghost use Rattle.machine.specs.Answers.{Steps};
-ghost use Rattle.machine.specs.Stepping.{into, is_allowed, Finishing, finished};
+ghost use Rattle.machine.specs.Requests.{step_asked};
+ghost use Rattle.machine.specs.Stepping.{into, Finishing, Finishes};
 
-use crate::checking::judge_step;
-use crate::{Judged, Stepped};
+use crate::checking::{Planned, judge_step};
+use crate::requests::Request;
+use accept::Accepted;
 use acting::perform;
 use basis::words::copy;
-use offering::{no_tally, offer};
-use table::Sizes;
+use offering::offer;
+use steps::Tally;
+use table::Refused;
 
-fn is_allowed(judged: Judged) -> bool
-    ensures { result ≡ is_allowed judged }
+// A step is done on a state, as it was judged.
+fn finish(accepted: &Accepted, state: &mut [u32], request: Request, planned: Planned) -> Tally
+    requires { Finishing (accepted_table accepted.now) state.old request planned }
+    ensures { Finishes (accepted_table accepted.now) state.old request planned result state.new }
 {
-    match judged {
-        Judged::Refused(_) => false,
-        Judged::Act { .. } => true,
-        Judged::Offer { .. } => true,
-    }
-}
-
-// What a step was judged to be is done on a state, or is refused.
-fn finish(
-    sizes: Sizes,
-    kinds: &[u8],
-    operands: &[u8],
-    scratch: &[u32],
-    state: &mut [u32],
-    agent: usize,
-    number: usize,
-    judged: Judged,
-) -> Stepped
-    requires prepared { let t = table sizes kinds.now operands.now in Prepared t scratch.now }
-    requires finishing { let t = table sizes kinds.now operands.now in Finishing t state.old agent number judged }
-    ensures { let t = table sizes kinds.now operands.now in Steps (finished t state.old agent number judged) result state.new }
-{
-    match judged {
-        Judged::Refused(refusal) => Stepped::Refused(refusal, 0),
-        Judged::Act { label, value, keys } => {
-            let choice = number as u64;
-            perform(
-                sizes, kinds, operands, scratch, state, agent, choice, label, value, keys,
-            );
-            Stepped::Done(no_tally())
+    let agent = request.agent;
+    let number = request.number;
+    match planned {
+        Planned::Act(allowed) => {
+            perform(accepted, state, agent, number as u64, allowed);
+            Tally::default()
         }
-        Judged::Offer { confirming } => Stepped::Done(offer(
-            sizes, kinds, operands, state, agent, number, true, confirming,
-        )),
+        Planned::Offer { confirming } => {
+            offer(&accepted.fleet, state, agent, number, true, confirming)
+        }
     }
 }
 
-pub fn step_in(
-    sizes: Sizes,
-    kinds: &[u8],
-    operands: &[u8],
-    scratch: &[u32],
-    state: &mut [u32],
-    kind: u8,
-    agent: usize,
-    number: usize,
-) -> Stepped
-    requires prepared { let t = table sizes kinds.now operands.now in Prepared t scratch.now }
-    requires proper { let t = table sizes kinds.now operands.now in Proper t state.old }
-    ensures { let t = table sizes kinds.now operands.now in Steps (step_in t state.old kind agent number) result state.new }
+pub fn step_in(accepted: &Accepted, state: &mut [u32], request: Request) -> Result<Tally, Refused>
+    requires { Proper (accepted_table accepted.now) state.old }
+    ensures { Steps (step_asked (accepted_table accepted.now) state.old request) result state.new }
 {
-    let judged = judge_step(sizes, kinds, operands, scratch, state, kind, agent, number);
-    finish(
-        sizes, kinds, operands, scratch, state, agent, number, judged,
-    )
+    let planned = judge_step(accepted, state, request)?;
+    Ok(finish(accepted, state, request, planned))
 }
 
 // The step is judged on the first state; the second buffer is written only where it is done.
 pub fn preview_in(
-    sizes: Sizes,
-    kinds: &[u8],
-    operands: &[u8],
-    scratch: &[u32],
+    accepted: &Accepted,
     state: &[u32],
-    kind: u8,
-    agent: usize,
-    number: usize,
+    request: Request,
     next: &mut [u32],
-) -> Stepped
-    requires prepared { let t = table sizes kinds.now operands.now in Prepared t scratch.now }
-    requires proper { let t = table sizes kinds.now operands.now in Proper t state.now }
+) -> Result<Tally, Refused>
+    requires proper { Proper (accepted_table accepted.now) state.now }
     requires state_len { length state.now ≡ length next.old }
-    ensures { let t = table sizes kinds.now operands.now in Steps (into next.old (step_in t state.now kind agent number)) result next.new }
+    ensures { Steps (into next.old (step_asked (accepted_table accepted.now) state.now request)) result next.new }
 {
-    let judged = judge_step(sizes, kinds, operands, scratch, state, kind, agent, number);
-    if is_allowed(judged) {
-        copy(state, next);
-    }
-    finish(sizes, kinds, operands, scratch, next, agent, number, judged)
+    let planned = judge_step(accepted, state, request)?;
+    copy(state, next);
+    Ok(finish(accepted, next, request, planned))
 }
