@@ -8,7 +8,7 @@ use Rattle.steps.specs.declared.Tally.{Tally}
 use Rattle.steps.specs.Tallies.{add_tally}
 use Rattle.steps.specs.Runs.{steps_of, kind_in, agent_in, number_in, step_limit, schedule_checks}
 use Rattle.offering.specs.Passing.{TallyWithin}
-use Rattle.machine.specs.declared.schedules.Schedule.{Schedule}
+use Rattle.machine.specs.declared.schedule.Schedule.{Schedule}
 use Rattle.machine.specs.declared.requests.Request.{Request}
 use Rattle.machine.specs.declared.Totals.{Totals}
 use Rattle.machine.specs.Answers.{step_tally, totals}

@@ -4,7 +4,7 @@
 mod checking; // checking.rt: refusals 11 to 18
 mod requests; // requests.rt: a step as it is asked for; 10
 mod running; // running.rt: 20, and the steps of a schedule
-mod schedules; // schedules.rt: a schedule's bytes; 19
+mod schedule; // schedule.rt: a schedule's bytes; 19
 mod stepping; // stepping.rt: a step, or its preview, of an accepted table and a well-formed state
 
 ghost use Rattle.std.specs.Prelude.{length};

@@ -7,7 +7,7 @@ ghost use Rattle.machine.specs.Answers.{Reports};
 ghost use Rattle.machine.specs.Running.{Schedules, Runnable, CanTally, tallied};
 
 use crate::Totals;
-use crate::schedules::Schedule;
+use crate::schedule::Schedule;
 use crate::stepping::step_in;
 use accept::Accepted;
 use steps::Tally;

@@ -1,62 +1,41 @@
 // Whether a shelf's words are well formed for a table: 9, after what was judged before.
-ghost use Rattle.std.specs.Prelude.{◌≡◌, List, ℕ, ◌<◌};
-ghost use Rattle.table.specs.Tables.{table as table_with};
-ghost use Rattle.steps.specs.Shelves.{place_limit, place_formed, shelf_formed};
-ghost use Rattle.shelf.specs.Shelving.{FormGiven, ShelfGiven, ShelfJudged};
+ghost use Rattle.std.specs.Prelude.{◌≡◌, ◌<◌, length, Ok};
+ghost use Rattle.table.specs.Fleets.{table_in};
+ghost use Rattle.table.specs.declared.fleets.Fleet.{Fleet};
+ghost use Rattle.steps.specs.Shelves.{place_limit, shelf_words, place_formed, shelf_formed};
+ghost use Rattle.shelf.specs.Shelving.{ShelfJudged};
 
-use crate::places::{NAME_LIMIT, PLACES, place_of, saved_at};
-use accept::Acceptance;
-use opening::Answer;
-use table::Sizes;
+use crate::places::{NAME_LIMIT, PLACES, place_of, saved_of};
+use table::{Fleet, Refused};
 use wellformed::well_formed;
 
-fn place_formed(sizes: Sizes, kinds: &[u8], shelf: &[u32], place: usize) -> bool
-    requires { (FormGiven sizes kinds.now shelf.now) × (place < place_limit) }
-    ensures { (operands : List ℕ) → result ≡ place_formed shelf.now (table_with sizes kinds.now operands) place }
+fn place_formed(fleet: &Fleet, shelf: &[u32], place: usize) -> bool
+    requires { (length shelf.now ≡ shelf_words) × (place < place_limit) }
+    ensures { result ≡ place_formed shelf.now (table_in fleet.now) place }
 {
     let name = shelf[place];
-    if name == 0 {
-        return true;
-    }
-    if NAME_LIMIT < name {
-        return false;
-    }
-    if place_of(shelf, name) != place {
-        return false;
-    }
-    let at = saved_at(place);
-    let end = at + state::STATE_WORDS;
-    well_formed(sizes, kinds, &shelf[at..end])
+    name == 0
+        || (name <= NAME_LIMIT
+            && place_of(shelf, name) == Some(place)
+            && well_formed(fleet.sizes, fleet.kinds, saved_of(shelf, place)))
 }
 
-fn shelf_formed(sizes: Sizes, kinds: &[u8], shelf: &[u32]) -> bool
-    requires { FormGiven sizes kinds.now shelf.now }
-    ensures { (operands : List ℕ) → result ≡ shelf_formed shelf.now (table_with sizes kinds.now operands) }
+fn shelf_formed(fleet: &Fleet, shelf: &[u32]) -> bool
+    requires { length shelf.now ≡ shelf_words }
+    ensures { result ≡ shelf_formed shelf.now (table_in fleet.now) }
 {
-    let mut place: usize = 0;
-    while place < PLACES {
-        if !place_formed(sizes, kinds, shelf, place) {
-            return false;
-        }
-        place += 1;
-    }
-    true
+    (0..PLACES).all(|place| place_formed(fleet, shelf, place))
 }
 
 // What was judged before, and then the shelf.
-pub fn judge_shelf(table: &[u8], shelf: &[u32], earlier: Acceptance) -> Answer
-    requires { ShelfGiven table.now shelf.now earlier }
-    ensures { ShelfJudged table.now shelf.now earlier result }
+pub fn judge_shelf(shelf: &[u32], earlier: Result<Fleet, Refused>) -> Result<(), Refused>
+    requires { (f : Fleet) → earlier ≡ Ok f → length shelf.now ≡ shelf_words }
+    ensures { ShelfJudged shelf.now earlier result }
 {
-    match earlier {
-        Acceptance::Accepted(sizes) => {
-            let operands = table::HEADER_BYTES + sizes.nodes;
-            if shelf_formed(sizes, &table[table::HEADER_BYTES..operands], shelf) {
-                Answer::Done
-            } else {
-                Answer::Refused(9, 0)
-            }
-        }
-        Acceptance::Refused(number, place) => Answer::Refused(number, place),
+    let fleet = earlier?;
+    if shelf_formed(&fleet, shelf) {
+        Ok(())
+    } else {
+        Err(Refused::StateNotWellFormed)
     }
 }

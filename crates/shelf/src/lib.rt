@@ -11,8 +11,9 @@ ghost use Rattle.shelf.specs.Answers.{Changes};
 
 use forming::judge_shelf;
 use keeping::{drop_in, restore_in, save_in};
-use opening::{Answer, open};
+use opening::open;
 pub use places::SHELF_WORDS;
+use table::Refused;
 
 // The state goes to the shelf under a name: to the place that the name holds, or else to the lowest free one.
 pub fn save(
@@ -21,16 +22,13 @@ pub fn save(
     scratch: &mut [u32],
     shelf: &mut [u32],
     name: u32,
-) -> Answer
+) -> Result<(), Refused>
     ensures { Changes (save_of table.now state.now (length scratch.old) shelf.old name)
         result shelf.new }
 {
     let opened = open(table, state, shelf.len() == SHELF_WORDS, scratch);
-    let judged = judge_shelf(table, shelf, opened);
-    match judged {
-        Answer::Done => save_in(state, shelf, name),
-        Answer::Refused(number, place) => Answer::Refused(number, place),
-    }
+    judge_shelf(shelf, opened)?;
+    save_in(state, shelf, name)
 }
 
 // The state becomes the one that the shelf holds under a name.
@@ -40,26 +38,25 @@ pub fn restore(
     scratch: &mut [u32],
     shelf: &[u32],
     name: u32,
-) -> Answer
+) -> Result<(), Refused>
     ensures { Changes (restore_of table.now state.old (length scratch.old) shelf.now name)
         result state.new }
 {
     let opened = open(table, state, shelf.len() == SHELF_WORDS, scratch);
-    let judged = judge_shelf(table, shelf, opened);
-    match judged {
-        Answer::Done => restore_in(state, shelf, name),
-        Answer::Refused(number, place) => Answer::Refused(number, place),
-    }
+    judge_shelf(shelf, opened)?;
+    restore_in(state, shelf, name)
 }
 
 // The place that a name holds becomes free.
-pub fn drop(table: &[u8], scratch: &mut [u32], shelf: &mut [u32], name: u32) -> Answer
+pub fn drop(
+    table: &[u8],
+    scratch: &mut [u32],
+    shelf: &mut [u32],
+    name: u32,
+) -> Result<(), Refused>
     ensures { Changes (drop_of table.now (length scratch.old) shelf.old name) result shelf.new }
 {
     let accepted = accept::accept(table, shelf.len() == SHELF_WORDS, scratch);
-    let judged = judge_shelf(table, shelf, accepted);
-    match judged {
-        Answer::Done => drop_in(shelf, name),
-        Answer::Refused(number, place) => Answer::Refused(number, place),
-    }
+    judge_shelf(shelf, accepted)?;
+    drop_in(shelf, name)
 }
