@@ -25,8 +25,9 @@ use Rattle.accept.specs.declared.Counts.{Counts}
 use Rattle.accept.specs.Counts.{true_counts}
 use Rattle.choice.specs.declared.Goal.{Goal}
 use Rattle.choice.specs.declared.Side.{Side}
+use Rattle.choice.specs.declared.Side.TheVariants.{Alone, Under, After}
 use Rattle.choice.specs.Chosen.{chosen_in}
-use Rattle.choice.specs.Turns.{Reached, side_guards}
+use Rattle.choice.specs.Turns.{ahead, Reached}
 use Rattle.choice.specs.Marking.{only_tick, has_mark, WithMark, is_in, WalkMarks, Marked}
 use Rattle.choice.proofs.Chosen.{no_idle}
 
@@ -61,11 +62,11 @@ apart t b n g p =
     omega arith)
 
 -- a node that has a choice is a process
-pub reached_process : (t : Table) (g : Goal) → Reached t g → is_process (kind_at t g.node) ≡ true
+pub reached_process : (t : Table) (g : Goal ℕ) → Reached t g → is_process (kind_at t g.from) ≡ true
 reached_process t g r =
-    ⊎_elim (λ (e : is_process (kind_at t g.node) ≡ true). e)
-    (λ (e : is_process (kind_at t g.node) ≡ false). absurd (no_idle g.mode g.choice (subst (λ (P : Process). g.choice < count_in g.mode P) (no_process t g.node e) r.choice)))
-    (either (is_process (kind_at t g.node)))
+    ⊎_elim (λ (e : is_process (kind_at t g.from) ≡ true). e)
+    (λ (e : is_process (kind_at t g.from) ≡ false). absurd (no_idle g.mode g.choice (subst (λ (P : Process). g.choice < count_in g.mode P) (no_process t g.from e) r.choice)))
+    (either (is_process (kind_at t g.from)))
 
 -- where one tick is looked for and there is one only, that is the choice
 pub only_first : (m : Mode) (k : Counts) (P : Process) (c : ℕ) → only_tick m k ≡ true → k ≡ true_counts P → c < count_in m P → chosen_in m P c ≡ chosen_in Ticks P 0
@@ -158,9 +159,11 @@ module _ (t : Table) (ms : List ℕ) (marks : WalkMarks t ms) where
 pub marked_same : {t : Table} {gs hs ms out : List ℕ} → gs ≡ hs → Marked t hs ms out → Marked t gs ms out
 marked_same {t} {gs} {hs} {ms} {out} e m = subst (λ (l : List ℕ). Marked t l ms out) (sym e) m
 
--- what is collected besides, by the case of a side
-pub marked_side : {t : Table} {r s : Side} {ms vs out : List ℕ} → r ≡ s → out ≡ vs → Marked t (side_guards t s) ms vs → Marked t (side_guards t r) ms out
-marked_side {t} {r} {s} {ms} {vs} {out} e f m = subst (λ (x : Side). Marked t (side_guards t x) ms out) (sym e) (subst (Marked t (side_guards t s) ms) (sym f) m)
+-- how far a walk to what is collected besides can go
+abbrev pub side_ahead : Table → Side → ℕ
+side_ahead t Alone = 0
+side_ahead t (Under b) = 0
+side_ahead t (After h) = ahead t h
 
 -- zeros mark nothing
 pub zeros_none : (n i : ℕ) → has_mark (replicate n 0) i ≡ false

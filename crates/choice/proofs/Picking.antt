@@ -3,7 +3,10 @@
 use Prim.Native.Nat.{ℕ, ◌*◌, ◌-◌, ◌/◌, ◌%◌, ◌<◌, ◌≤◌, zero-le}
 use mathlib.Core.Logic.{⊎_elim}
 use mathlib.Core.Path.{◌≡◌, refl, sym, subst}
+use native.Mathlib.Nat.{div-zero, mod-zero}
 use native.Mathlib.Omega.{arith}
+use Rattle.std.specs.Prelude.{Option, Some, None}
+use Rattle.std.specs.Option.{SomeIff, unwrap_or}
 use borrow.Author.Tests.{lt-ltb, le-ltb}
 use Rattle.basis.proofs.Tests.{lt_or_le}
 use Rattle.term.specs.declared.Mode.{Mode}
@@ -46,6 +49,15 @@ module _ (m : Mode) (c beside : ℕ) (P Q : Counts) where
       → pick_of m c beside P Q ≡ RightTicks ((c - a - beside - P.ticks * n) / k) ((c - a - beside - P.ticks * n) % k)
   unfolding pick_of
   picks_fourth h g i = rw (le-ltb c a h, le-ltb (c - a) beside g, le-ltb (c - a - beside) (P.ticks * n) i)
+
+-- where the number may be 0
+pub quotient_or : (r : Option ℕ) (x n : ℕ) → SomeIff r (0 < n) (x / n) → unwrap_or r 0 ≡ x / n
+quotient_or None x n h = let z : n ≡ 0 = omega (arith, h) in rw (z, div-zero)
+quotient_or (Some y) x n h = h.1
+
+pub remainder_or : (r : Option ℕ) (x n : ℕ) → SomeIff r (0 < n) (x % n) → unwrap_or r x ≡ x % n
+remainder_or None x n h = let z : n ≡ 0 = omega (arith, h) in rw (z, mod-zero)
+remainder_or (Some y) x n h = h.1
 
 -- the counts of a mode
 pub acting_true : (m : Mode) (P : Process) → acting_of m (true_counts P) ≡ actions_of m P

@@ -26,7 +26,7 @@ kept_most (Left n) = omega arith
 
 -- a walk from goal f has come to goal g, and its marks from ms to vs: what is done is the same, so many words are
 -- left, with the last one, and the guards passed are marked
-pub record Toward (t : Table) (f : Goal) (ms : List ℕ) (g : Goal) (size : ℕ) (vs : List ℕ) : Type 0 where
+pub record Toward (t : Table) (f : Goal ℕ) (ms : List ℕ) (g : Goal ℕ) (size : ℕ) (vs : List ℕ) : Type 0 where
   pub reached : Reached t g
   pub label : (chosen_at t f).label ≡ (chosen_at t g).label
   pub words : size + length (words (chosen_at t g).leaving) ≡ 1 + length (words (chosen_at t f).leaving)
@@ -35,12 +35,12 @@ pub record Toward (t : Table) (f : Goal) (ms : List ℕ) (g : Goal) (size : ℕ)
   pub guards : (chosen_at t f).guards ≡ passed ++ (chosen_at t g).guards
   pub marked : Marked t passed ms vs
 
-module _ (t : Table) (f : Goal) (ms : List ℕ) (marks : WalkMarks t ms) where
+module _ (t : Table) (f : Goal ℕ) (ms : List ℕ) (marks : WalkMarks t ms) where
   pub toward_start : Reached t f → Toward t f ms f 1 ms
   toward_start r = record { reached = r; label = refl; words = refl; bound = omega arith; passed = []; guards = refl; marked = marked_none t ms marks }
 
-  module _ (g : Goal) (size : ℕ) (vs : List ℕ) (w : Toward t f ms g size vs) where
-    pub toward_on : (h : Goal) (side : Side) (kept : Kept) (k : ℕ) → k ≡ kept_size kept → Onward t g h side kept
+  module _ (g : Goal ℕ) (size : ℕ) (vs : List ℕ) (w : Toward t f ms g size vs) where
+    pub toward_on : (h : Goal ℕ) (side : Side) (kept : Kept) (k : ℕ) → k ≡ kept_size kept → Onward t g h side kept
         → (out : List ℕ) → Marked t (side_guards t side) vs out → Toward t f ms h (size + k) out
     toward_on h side kept k e s out m =
         let x = around_size s.around in

@@ -10,7 +10,7 @@ use native.Mathlib.Omega.{arith}
 use lib.ListN.{length, length-append, get_or}
 use borrow.Author.Tests.{lt-ltb, le-ltb, ltb-true}
 use Rattle.basis.proofs.Tests.{lt_or_le, and_left, and_right, cond_true}
-use Rattle.table.specs.Tables.{Table, kind_at, p_at, q_at, body_at}
+use Rattle.table.specs.Tables.{Table, kind_at, p_at, q_at, first_root, body_at}
 use Rattle.table.specs.Sound.{Sound, LowerProcess, LowerGuard}
 use Rattle.table.proofs.Promises.{guarded_operands, call_operands, body_process}
 use Rattle.term.specs.declared.Label.{Label}
@@ -102,15 +102,15 @@ exposure_least level (par P p Q q) e =
     max-le (exposure_least level P (and_left (calls_below level P) (calls_below level Q) e)) (exposure_least level Q (and_right (calls_below level P) (calls_below level Q) e))
 
 -- a walk is at a goal whose node names p and q
-pub record Here (t : Table) (s : List ℕ) (g : Goal) (p q : ℕ) : Type 0 where
+pub record Here (t : Table) (s : List ℕ) (g : Goal ℕ) (p q : ℕ) : Type 0 where
   pub ready : Prepared t s
   pub reached : Reached t g
-  pub p_is : p ≡ p_at t g.node
-  pub q_is : q ≡ q_at t g.node
+  pub p_is : p ≡ p_at t g.from
+  pub q_is : q ≡ q_at t g.from
 
-module _ {t : Table} {s : List ℕ} {g : Goal} {p q : ℕ} (here : Here t s g p q) where
+module _ {t : Table} {s : List ℕ} {g : Goal ℕ} {p q : ℕ} (here : Here t s g p q) where
   abbrev n : ℕ
-  n = g.node
+  n = g.from
 
   abbrev m : Mode
   m = g.mode
@@ -137,8 +137,8 @@ module _ {t : Table} {s : List ℕ} {g : Goal} {p q : ℕ} (here : Here t s g p 
   pub lower_small : (k : ℕ) → k < n → Capped (pair_at s k)
   lower_small k h = let f = here.ready.counted.few k (omega (arith, here.reached.low)) in record { actions = omega arith; ticks = omega arith }
 
-  pub lower_room : (k : ℕ) → k < n → 2 * k + 1 < length s
-  lower_room k h = omega (arith, here.reached.low, here.ready.counted.words)
+  pub lower_low : {k : ℕ} → k < n → k < first_root t
+  lower_low h = omega (arith, here.reached.low)
 
   -- node n, of kind k, and what is known of its process
   abbrev Form : ℕ → Process
@@ -162,7 +162,7 @@ module _ {t : Table} {s : List ℕ} {g : Goal} {p q : ℕ} (here : Here t s g p 
   nearer k j i l h x = record { reached = record { low = omega (arith, here.reached.low); choice = h }; falls = omega arith }
 
   -- a step that keeps nothing
-  onward : (h : Goal) (side : Side) → Nearer t g h → SideReached t g side
+  onward : (h : Goal ℕ) (side : Side) → Nearer t g h → SideReached t g side
       → chosen_at t g ≡ derivation (chosen_at t h).label (side_guards t side ++ (chosen_at t h).guards) (chosen_at t h).leaving → Onward t g h side Nothing
   onward h side l r e = record { nearer = l; collects = r; around = around_under (chosen_at t g) (chosen_at t h) (side_guards t side) e }
 
@@ -306,6 +306,6 @@ module _ {t : Table} {s : List ℕ} {g : Goal} {p q : ℕ} (here : Here t s g p 
       tt (chosen_same m (N n) c (N (body_at t p)) same)
 
 -- a walk in a checked table goes no further than its last node, at its last definition
-pub ahead_most : (t : Table) (s : List ℕ) → Prepared t s → (g : Goal) → Reached t g → ahead t g ≤ 4097 * t.sizes.definitions + t.sizes.nodes
+pub ahead_most : (t : Table) (s : List ℕ) → Prepared t s → (g : Goal ℕ) → Reached t g → ahead t g ≤ 4097 * t.sizes.definitions + t.sizes.nodes
 ahead_most t s ready g r =
-    omega (arith, r.low, exposure_least t.sizes.definitions (node_process t g.node) (node_calls t ready.checked.sound g.node))
+    omega (arith, r.low, exposure_least t.sizes.definitions (node_process t g.from) (node_calls t ready.checked.sound g.from))
