@@ -2,14 +2,14 @@
 -- Assumes nothing.
 use Prim.Native.Nat.{ℕ, ◌<◌}
 use mathlib.Core.Bool.{Bool, true, false, cond}
-use mathlib.Core.Path.{◌≡◌, refl, sym, ◌∙◌}
+use mathlib.Core.Path.{◌≡◌, refl, sym, ap, ◌∙◌}
 use mathlib.Core.List.{List, [], ◌∷◌, ◌++◌}
 use native.Mathlib.Omega.{arith}
 use lib.Dec.{ltb}
-use borrow.Author.Tests.{le-ltb, ltb-false}
+use borrow.Author.Tests.{lt-ltb, le-ltb, ltb-false}
 use Rattle.basis.specs.Numbers.{lowest}
 use Rattle.basis.proofs.Numbers.{lowest_before, lowest_none}
-use Rattle.table.specs.Checks.{Check, passes, refuses, Refusal, first_of, passed}
+use Rattle.table.specs.Checks.{Check, passes, refuses, Refusal, refuse_at, first_of, passed}
 
 pub refused : {number place : ℕ} → refuses number place ≡ passes → ⊥
 refused e = let z : ◌≡◌ {A = ℕ} 0 1 = cc in omega arith
@@ -74,3 +74,11 @@ module _ (limit : ℕ) (test : ℕ → Bool) where
 
   pub passes_lowest : ((k : ℕ) → k < limit → test k ≡ false) → ltb (lowest test limit) limit ≡ false
   passes_lowest f = le-ltb (lowest test limit) limit (omega (arith, lowest_none test limit f))
+
+  -- a line that refuses at the lowest: where there is none, and where it has been found
+  pub line_passes : (number : ℕ) → ((k : ℕ) → k < limit → test k ≡ false) → passes ≡ first_of (refuse_at number limit (lowest test limit) ∷ [])
+  line_passes number f = sym (first_both (refuse_at number limit (lowest test limit)) [] (passes_lowest f) none_passes)
+
+  pub line_refuses : (number x : ℕ) → x < limit → x ≡ lowest test limit → refuses number x ≡ first_of (refuse_at number limit (lowest test limit) ∷ [])
+  line_refuses number x h e =
+      ap (refuses number) e ∙ sym (first_refuses (refuse_at number limit (lowest test limit)) [] (lt-ltb (lowest test limit) limit (omega arith)))

@@ -8,9 +8,10 @@ use native.Mathlib.Omega.{arith}
 use lib.Dec.{leb}
 use lib.ListN.{length, take, drop, length-take, length-drop}
 use borrow.Author.Tests.{leb-true, le-leb}
+use Rattle.basis.proofs.Lists.{take_rest}
 use Rattle.basis.proofs.Tests.{and_left, and_right}
 use Rattle.table.specs.declared.Sizes.{Sizes}
-use Rattle.table.specs.Tables.{sizes_of, roots_of, within_limits, table_of}
+use Rattle.table.specs.Tables.{sizes_of, roots_of, within_limits, table, table_of}
 use Rattle.table.specs.Measuring.{kinds_of, operands_of}
 use Rattle.table.specs.Sound.{Limits, Shaped}
 
@@ -73,6 +74,13 @@ shaped bytes w h =
       operands = length_operands bytes (sizes_of bytes).nodes h;
     }
 
--- the kinds as code lends them: the count of a part is its end less its start
-pub kinds_part : (bytes : List ℕ) (n : ℕ) → take (12 + n - 12) (drop 12 bytes) ≡ kinds_of bytes n
-kinds_part bytes n = let e : 12 + n - 12 ≡ n = omega arith in rw e
+-- the kinds and the operands as code lends them: the count of a part is its end less its start
+pub lent_table : (bytes : List ℕ) (n : Sizes) → n ≡ sizes_of bytes
+    → table n (take (12 + n.nodes - 12) (drop 12 bytes)) (take (length bytes - (12 + n.nodes)) (drop (12 + n.nodes) bytes)) ≡ table_of bytes
+lent_table bytes n e =
+    let k : 12 + n.nodes - 12 ≡ n.nodes = omega arith in
+    rw (k, take_rest bytes (12 + n.nodes), e)
+
+pub lent_shape : (bytes : List ℕ) (n : Sizes) → n ≡ sizes_of bytes → within_limits n ≡ true → length bytes ≡ 12 + 5 * n.nodes
+    → Shaped (table n (take (12 + n.nodes - 12) (drop 12 bytes)) (take (length bytes - (12 + n.nodes)) (drop (12 + n.nodes) bytes)))
+lent_shape bytes n e w h = rw (lent_table bytes n e) (shaped bytes (rw e at w) (rw e at h))

@@ -1,6 +1,6 @@
 -- Laws of marks, and of what is found of a node.
 -- Assumes nothing.
-use Prim.Native.Nat.{ℕ, ◌+◌, ◌<◌}
+use Prim.Native.Nat.{ℕ, ◌+◌, ◌<◌, ◌≤◌}
 use mathlib.Core.Bool.{Bool, true, false, ◌&&◌, ◌||◌, and-true, and-false, or-false, or-true}
 use mathlib.Core.Path.{◌≡◌, refl, sym, ap, ◌∙◌}
 use mathlib.Core.List.{List}
@@ -10,6 +10,8 @@ use lib.ListN.{length, get_or, set, length-set}
 use lib.Seq.{get_or-set_same, get_or-set_other}
 use borrow.Author.Count.{below_more}
 use borrow.Author.Tests.{eqb-true, eqb-false}
+use Rattle.std.specs.Prelude.{Option, Some, None, IfSome}
+use Rattle.std.specs.Bool.{then_some}
 use Rattle.basis.specs.KeySets.{has}
 use Rattle.basis.proofs.KeySets.{has_plus_if, has_nothing}
 use Rattle.basis.proofs.Tests.{and_right}
@@ -18,37 +20,35 @@ use Rattle.table.specs.declared.Look.{Look}
 use Rattle.table.specs.Tables.{Table, p_at, q_at}
 use Rattle.table.specs.Nodes.{fields_at, is_node, fits, fitting, left_node, right_node, names}
 use Rattle.table.specs.Reach.{process_node, link_root}
-use Rattle.table.specs.Marks.{left_bit, right_bit, process_bit, link_bit, first_word, marking, is_marked, changed, Shows, Shown, Mark, TwoMarks, Looked}
+use Rattle.table.specs.Marks.{left_bit, right_bit, process_bit, link_bit, first_word, marking, is_marked, has_marked, changed, Shows, Shown, Mark, TwoMarks, Looked}
 use Rattle.table.proofs.Operands.{left_lower, right_lower}
 
-pub changed_off : (change : ℕ → ℕ) (words : List ℕ) (on : Bool) (x : ℕ) → on ≡ false → words ≡ changed change words on x
-unfolding changed
-changed_off change words on x e = rw (changed, e)
+pub length_changed : (change : ℕ → ℕ) (words : List ℕ) (node : Option ℕ) → length (changed change words node) ≡ length words
+length_changed change words None = refl
+length_changed change words (Some x) = simp length-set
 
-pub changed_on : (change : ℕ → ℕ) (words : List ℕ) (on : Bool) (x : ℕ) {w : ℕ} → on ≡ true → w ≡ change (get_or words x 0) → set words x w ≡ changed change words on x
-unfolding changed
-changed_on change words on x e d = rw (changed, e, d)
+pub marked_if : (words : List ℕ) (bit : ℕ) (on : Bool) (x : ℕ) → has_marked words bit (then_some on x) ≡ (on && is_marked words bit x)
+marked_if words bit true x = refl
+marked_if words bit false x = refl
 
-pub length_changed : (change : ℕ → ℕ) (words : List ℕ) (on : Bool) (x : ℕ) → length (changed change words on x) ≡ length words
-unfolding changed
-length_changed change words true x = simp length-set
-length_changed change words false x = refl
+pub below_if : {n : ℕ} (on : Bool) (x : ℕ) → (on ≡ true → x < n) → IfSome (then_some on x) (λ y. y < n)
+below_if true x h = h refl
+below_if false x h = tt {0}
 
 module _ {process link : Bool} where
-  pub marks_length : {a b : List ℕ} {f g : Bool} {p q : ℕ} {r : Bool} → TwoMarks process link a b f p g q r → length b ≡ length a
-  marks_length {a} {b} {f} {g} {p} {q} m =
+  pub marks_length : {a b : List ℕ} {f g : Option ℕ} {r : Bool} → TwoMarks process link a b f g r → length b ≡ length a
+  marks_length {a} {b} {f} {g} m =
       let change = marking process link in
-      rw m.leaves (length_changed change (changed change a f p) g q ∙ length_changed change a f p)
+      rw m.leaves (length_changed change (changed change a f) g ∙ length_changed change a f)
 
-  pub marks_both : {a b c : List ℕ} {f g : Bool} {p q : ℕ} {r s : Bool} → Mark process link a b f p r → Mark process link b c g q s
-      → TwoMarks process link a c f p g q (r || s)
+  pub marks_both : {a b c : List ℕ} {f g : Option ℕ} {r s : Bool} → Mark process link a b f r → Mark process link b c g s
+      → TwoMarks process link a c f g (r || s)
   marks_both m k = record { is = rw (m.is, k.is, m.leaves); leaves = rw (k.leaves, m.leaves) }
 
 -- a bit of every word after a change which gives it where d holds
 module _ (change : ℕ → ℕ) (j : ℕ) (d : Bool) (gives : (w : ℕ) → has (change w) j ≡ (d || has w j)) where
   pub changed_is : (words : List ℕ) (on : Bool) (x : ℕ) → (on ≡ true → x < length words) → (m : ℕ)
-      → is_marked (changed change words on x) j m ≡ ((d && (on && eqb x m)) || is_marked words j m)
-  unfolding changed
+      → is_marked (changed change words (then_some on x)) j m ≡ ((d && (on && eqb x m)) || is_marked words j m)
   changed_is words false x l m = rw (and-false d)
   changed_is words true x l m = by (eqb x m) refl
     where
@@ -119,38 +119,45 @@ module _ (t : Table) where
       K : Bool
       K = link_root t i
 
-  pub looked : {n : ℕ} {f : Fields} {p q : ℕ} {a b l r : Bool}
-      → f ≡ fields_at t n → p ≡ p_at t n → q ≡ q_at t n → a ≡ fits t n f.p p → b ≡ fits t n f.q q → l ≡ is_node f.p → r ≡ is_node f.q
-      → Looked t n (record { fitting = a && b; left = l; right = r; p = p; q = q })
+  pub looked : {n : ℕ} {f : Fields} {p q : ℕ}
+      → f ≡ fields_at t n → p ≡ p_at t n → q ≡ q_at t n → fits t n f.p p ≡ true → fits t n f.q q ≡ true
+      → Looked t n (record { left = then_some (is_node f.p) p; right = then_some (is_node f.q) q })
   unfolding fitting
-  looked ef ep eq ea eb el er =
+  looked ef ep eq ea eb =
       record {
-        fitting = rw (fitting, ea, eb, ep, eq, ef);
-        left = rw (el, ef);
-        right = rw (er, ef);
-        p = ep;
-        q = eq;
+        fit = rw (fitting, ← ep, ← eq, ← ef, ea, eb);
+        left = rw (ef, ep);
+        right = rw (ef, eq);
       }
 
   -- what is found of a node that fits says which marks it makes, and they are of lower nodes
   module _ {i : ℕ} {l : Look} (k : Looked t i l) where
-    pub marks_found : {words after : List ℕ} (on : Bool) {a s : Bool} (process link : Bool) {e f : Bool} → a ≡ on → e ≡ process → f ≡ link
-        → TwoMarks e f words after (a && l.left) l.p (a && l.right) l.q s
-        → TwoMarks process link words after (on && left_node t i) (p_at t i) (on && right_node t i) (q_at t i) s
-    marks_found on process link d e f m = rw (d, e, f, k.left, k.right, k.p, k.q) at m
+    pub marks_found : {words after : List ℕ} {s : Bool} (process link : Bool) {e f : Bool} → e ≡ process → f ≡ link
+        → TwoMarks e f words after l.left l.right s
+        → TwoMarks process link words after (then_some (left_node t i) (p_at t i)) (then_some (right_node t i) (q_at t i)) s
+    marks_found process link e f m = rw (e, f, k.left, k.right) at m
 
-    pub marks_lower : (on : Bool) → l.fitting ≡ true → ((on && l.left) ≡ true → l.p < i) × ((on && l.right) ≡ true → l.q < i)
-    marks_lower on f = (
-      (λ e. omega (arith, k.p, left_lower t i (sym k.fitting ∙ f) (sym k.left ∙ and_right on l.left e))),
-      (λ e. omega (arith, k.q, right_lower t i (sym k.fitting ∙ f) (sym k.right ∙ and_right on l.right e))),
-    )
+    -- where it may make them, and where it may not
+    pub marks_when : {words after : List ℕ} {s : Bool} (process link on : Bool) → on ≡ true → TwoMarks process link words after l.left l.right s
+        → TwoMarks process link words after (then_some (on && left_node t i) (p_at t i)) (then_some (on && right_node t i) (q_at t i)) s
+    marks_when process link on e m = rw e (marks_found process link refl refl m)
+
+    pub marks_not : (words : List ℕ) (process link on : Bool) → on ≡ false
+        → TwoMarks process link words words (then_some (on && left_node t i) (p_at t i)) (then_some (on && right_node t i) (q_at t i)) false
+    marks_not words process link on e = rw e (record { is = refl; leaves = refl })
+
+    pub marks_left : {n : ℕ} → i ≤ n → IfSome l.left (λ x. x < n)
+    marks_left h = rw k.left (below_if (left_node t i) (p_at t i) (λ e. omega (arith, left_lower t i k.fit e)))
+
+    pub marks_right : {n : ℕ} → i ≤ n → IfSome l.right (λ x. x < n)
+    marks_right h = rw k.right (below_if (right_node t i) (q_at t i) (λ e. omega (arith, right_lower t i k.fit e)))
 
   -- the words after node i has changed those of the nodes that it names
   module _ (change : ℕ → ℕ) (words : List ℕ) {after : List ℕ} (i : ℕ) (on : Bool) (small : i < length words) (good : fitting t i ≡ true)
-      (e : after ≡ changed change (changed change words (on && left_node t i) (p_at t i)) (on && right_node t i) (q_at t i))
+      (e : after ≡ changed change (changed change words (then_some (on && left_node t i) (p_at t i))) (then_some (on && right_node t i) (q_at t i)))
       (j : ℕ) (d : Bool) (gives : (w : ℕ) → has (change w) j ≡ (d || has w j)) where
     abbrev once : List ℕ
-    once = changed change words (on && left_node t i) (p_at t i)
+    once = changed change words (then_some (on && left_node t i) (p_at t i))
 
     pub once_is : (k : ℕ) → is_marked once j k ≡ ((d && ((on && left_node t i) && eqb (p_at t i) k)) || is_marked words j k)
     once_is = changed_is change j d gives words (on && left_node t i) (p_at t i) (λ e. omega (arith, left_lower t i good (and_right on (left_node t i) e)))
@@ -159,6 +166,6 @@ module _ (t : Table) where
     twice_is k =
         ap (λ (ws : List ℕ). is_marked ws j k) e
         ∙ changed_is change j d gives once (on && right_node t i) (q_at t i)
-        (λ e. omega (arith, length_changed change words (on && left_node t i) (p_at t i), right_lower t i good (and_right on (right_node t i) e))) k
+        (λ e. omega (arith, length_changed change words (then_some (on && left_node t i) (p_at t i)), right_lower t i good (and_right on (right_node t i) e))) k
         ∙ ap (λ (b : Bool). (d && ((on && right_node t i) && eqb (q_at t i) k)) || b) (once_is k)
         ∙ marking_test d on (left_node t i) (right_node t i) (eqb (p_at t i) k) (eqb (q_at t i) k) (is_marked words j k)

@@ -10,7 +10,10 @@ use lib.ListN.{length}
 use borrow.Author.Tests.{eqb-true, lt-ltb, le-ltb, eq-eqb, ne_eqb, not-false}
 use Rattle.basis.specs.Bytes.{u16_at}
 use Rattle.table.specs.declared.Sizes.{Sizes}
-use Rattle.table.specs.declared.Measured.TheVariants.{Fine, Refused}
+use Rattle.std.specs.Prelude.{Ok, Err}
+use Rattle.table.specs.declared.fleets.Fleet.{Fleet}
+use Rattle.table.specs.declared.refusals.Refused.TheVariants.{TableShort, SizeOutsideLimits, TableLength}
+use Rattle.table.specs.Fleets.{table_in}
 use Rattle.table.specs.Checks.{passes, refuse_if, first_of}
 use Rattle.table.specs.Tables.{sizes_of, within_limits, table_of}
 use Rattle.table.specs.Measuring.{size_checks, Measure}
@@ -26,35 +29,31 @@ pub sizes_eq : (bytes : List ℕ) (n d a i s v : ℕ) → n ≡ u16_at bytes 0 �
 sizes_eq bytes n d a i s v en ed ea ei es ev =
     λ j. record { nodes = en j; definitions = ed j; agents = ea j; attributes = ei j; stigmergy = es j; environment = ev j }
 
--- a refusal has no sizes
-no_sizes : (bytes : List ℕ) (number place : ℕ) (n : Sizes) → Refused number place ≡ Fine n → n ≡ sizes_of bytes
-no_sizes bytes number place n e = absurd (let z : ◌≡◌ {A = ℕ} 0 1 = cc in omega arith)
-
 -- each answer
-pub measure_1 : (bytes : List ℕ) → length bytes < 12 → Measure bytes (Refused 1 0)
+pub measure_1 : (bytes : List ℕ) → length bytes < 12 → Measure bytes (Err TableShort)
 unfolding first_of
-measure_1 bytes h = record { check = rw (lt-ltb (length bytes) 12 h); sizes = no_sizes bytes 1 0 }
+measure_1 bytes h = record { check = rw (lt-ltb (length bytes) 12 h); fleet = λ f e. (cc) }
 
 module _ (bytes : List ℕ) (s : Sizes) (e : s ≡ sizes_of bytes) (l : 12 ≤ length bytes) where
-  pub measure_2 : within_limits s ≡ false → Measure bytes (Refused 2 0)
+  pub measure_2 : within_limits s ≡ false → Measure bytes (Err SizeOutsideLimits)
   unfolding first_of
   measure_2 w =
       let v : within_limits (sizes_of bytes) ≡ false = rw e at w in
-      record { check = rw (le-ltb (length bytes) 12 l, v); sizes = no_sizes bytes 2 0 }
+      record { check = rw (le-ltb (length bytes) 12 l, v); fleet = λ f e. (cc) }
 
-  pub measure_3 : within_limits s ≡ true → (length bytes ≡ 12 + 5 * s.nodes → ⊥) → Measure bytes (Refused 3 0)
+  pub measure_3 : within_limits s ≡ true → (length bytes ≡ 12 + 5 * s.nodes → ⊥) → Measure bytes (Err TableLength)
   unfolding first_of
   measure_3 w n =
       let v : within_limits (sizes_of bytes) ≡ true = rw e at w in
       let m : eqb (length bytes) (12 + 5 * (sizes_of bytes).nodes) ≡ false = rw e at (ne_eqb (length bytes) (12 + 5 * s.nodes) n) in
-      record { check = rw (le-ltb (length bytes) 12 l, v, m); sizes = no_sizes bytes 3 0 }
+      record { check = rw (le-ltb (length bytes) 12 l, v, m); fleet = λ f e. (cc) }
 
-  pub measure_fine : within_limits s ≡ true → length bytes ≡ 12 + 5 * s.nodes → Measure bytes (Fine s)
+  pub measure_fine : within_limits s ≡ true → length bytes ≡ 12 + 5 * s.nodes → (f : Fleet) → table_in f ≡ table_of bytes → Measure bytes (Ok f)
   unfolding first_of
-  measure_fine w n =
+  measure_fine w n f d =
       let v : within_limits (sizes_of bytes) ≡ true = rw e at w in
       let m : eqb (length bytes) (12 + 5 * (sizes_of bytes).nodes) ≡ true = rw e at (eq-eqb (length bytes) (12 + 5 * s.nodes) n) in
-      record { check = rw (le-ltb (length bytes) 12 l, v, m); sizes = λ n f. let d : n ≡ s = cc in d ∙ e }
+      record { check = rw (le-ltb (length bytes) 12 l, v, m); fleet = λ g h. let k : g ≡ f = cc in rw k d }
 
 -- where 1 to 3 pass, the table has the shape that its sizes say
 module _ (bytes : List ℕ) (p : first_of (size_checks bytes) ≡ passes) where

@@ -2,11 +2,12 @@
 -- Assumes nothing.
 use Prim.Native.Nat.{ℕ, ◌+◌, ◌<◌}
 use mathlib.Core.Bool.{Bool, true, false, not, ◌&&◌, ◌||◌, or_comm}
-use mathlib.Core.Path.{◌≡◌, refl, sym, ap, ◌∙◌}
+use mathlib.Core.Path.{◌≡◌, refl, sym, ap, ap₂, ◌∙◌}
 use mathlib.Core.List.{List}
 use native.Mathlib.Omega.{arith}
 use lib.Dec.{eqb}
 use lib.ListN.{length, set, length-set}
+use Rattle.std.specs.Bool.{then_some}
 use Rattle.basis.specs.KeySets.{has, plus_if}
 use Rattle.basis.proofs.KeySets.{has_plus}
 use Rattle.basis.proofs.Numbers.{some_more, some_none}
@@ -16,7 +17,7 @@ use Rattle.table.specs.Nodes.{fitting, left_node, right_node, names, inner, name
 use Rattle.table.specs.Marks.{named_bit, marking, is_marked, changed, Shows, TwoMarks}
 use Rattle.table.proofs.Operands.{left_lower, right_lower, names_lower}
 use Rattle.table.proofs.Promises.{not_bad}
-use Rattle.table.proofs.Marking.{shows_next, once_is, twice_is}
+use Rattle.table.proofs.Marking.{marked_if, shows_next, once_is, twice_is}
 
 -- two tests that are the same by their tables
 again_test : (i l r a b e : Bool) → (((i && l) && a) || ((i && r) && (((i && l) && e) || b))) ≡ (i && ((l && a) || ((r && b) || (l && (r && e)))))
@@ -64,7 +65,7 @@ module _ (t : Table) where
   -- a turn: node i's word is written, and what it names is marked
   module _ {words after : List ℕ} {i : ℕ} {r : Bool} (w : ℕ) (before : Turned words i) (fine : (k : ℕ) → k < i → bad_node t k ≡ false) (inside : i < length words)
       (good : fitting t i ≡ true) (d : has w named_bit ≡ false)
-      (m : TwoMarks false false (set words i w) after (inner t i && left_node t i) (p_at t i) (inner t i && right_node t i) (q_at t i) r) where
+      (m : TwoMarks false false (set words i w) after (then_some (inner t i && left_node t i) (p_at t i)) (then_some (inner t i && right_node t i) (q_at t i)) r) where
     abbrev written : List ℕ
     written = set words i w
 
@@ -91,15 +92,19 @@ module _ (t : Table) where
     abbrev q : ℕ
     q = q_at t i
 
+    abbrev once : List ℕ
+    once = changed (marking false false) written (then_some (I && L) p)
+
     -- the marks tell whether a second naming is made
     again_is : r ≡ names_again t i
     unfolding names_again
     again_is =
         m.is
-        ∙ ap (λ (b : Bool). b || ((I && R) && is_marked (changed (marking false false) written (I && L) p) named_bit q))
+        ∙ ap₂ (λ (a b : Bool). a || b) (marked_if written named_bit (I && L) p) (marked_if once named_bit (I && R) q)
+        ∙ ap (λ (b : Bool). b || ((I && R) && is_marked once named_bit q))
         (and_when (I && L) (is_marked written named_bit p) (named t i p) (λ e. h p (omega (arith, left_lower t i good (and_right I L e)))))
         ∙ ap (λ (b : Bool). ((I && L) && named t i p) || b)
-        (and_when (I && R) (is_marked (changed (marking false false) written (I && L) p) named_bit q) (((I && L) && eqb p q) || named t i q)
+        (and_when (I && R) (is_marked once named_bit q) (((I && L) && eqb p q) || named t i q)
         (λ e.
         once_is t (marking false false) written i I small good m.leaves named_bit true (gives named_bit) q
         ∙ ap (λ (b : Bool). ((I && L) && eqb p q) || b) (h q (omega (arith, right_lower t i good (and_right I R e))))))

@@ -12,13 +12,14 @@ use lib.ListN.{length, set}
 use lib.Seq.{get_or-set_same, get_or-set_other}
 use borrow.Author.Count.{below_more}
 use borrow.Author.Tests.{eqb-true}
+use Rattle.std.specs.Bool.{then_some}
 use Rattle.basis.proofs.KeySets.{has_plus_if, has_nothing, has_both, has_either}
 use Rattle.basis.proofs.Tests.{and_left, and_right, and_both, or_either, or_left, or_right, or_neither, is_false, not_both}
 use Rattle.table.specs.Tables.{Table, kind_at, p_at, q_at}
 use Rattle.table.specs.Nodes.{is_key_kind, fitting, left_node, right_node, names}
 use Rattle.table.specs.Reach.{process_node, link_root, reaches, reached_from, wrong_here, wrong_key}
 use Rattle.basis.specs.KeySets.{has, plus_if}
-use Rattle.table.specs.Marks.{named_bit, not_process_bit, not_link_bit, own_bits, is_marked, word_if, risen, doubted, Looked}
+use Rattle.table.specs.Marks.{named_bit, not_process_bit, not_link_bit, own_bits, is_marked, word_of, risen, doubted, Looked}
 use Rattle.table.specs.declared.Look.{Look}
 use Rattle.table.proofs.Operands.{left_lower, right_lower, names_lower, names_left, names_right}
 use Rattle.table.proofs.Reaches.{ByLeft, ByRight, reaches_how, reached_which}
@@ -150,10 +151,9 @@ module _ (process link : Bool) where
   own_link : has own not_link_bit ≡ link
   own_link = simp (has_plus_if, has_nothing) (or-false link)
 
-has_word_if : (words : List ℕ) (on : Bool) (x j : ℕ) → has (word_if words on x) j ≡ (on && is_marked words j x)
-unfolding word_if
-has_word_if words true x j = refl
-has_word_if words false x j = has_nothing j
+has_word_of : (words : List ℕ) (on : Bool) (x j : ℕ) → has (word_of words (then_some on x)) j ≡ (on && is_marked words j x)
+has_word_of words true x j = refl
+has_word_of words false x j = has_nothing j
 
 module _ (t : Table) where
   abbrev pub not_process : ℕ → Bool
@@ -185,8 +185,8 @@ module _ (t : Table) where
         ∙ ap (λ (b : Bool). has (own_at i) j || b)
         (has_both 96 _ j
         ∙ ap (λ (b : Bool). has 96 j && b)
-        (has_either (word_if words l.left l.p) (word_if words l.right l.q) j
-        ∙ rw (has_word_if words l.left l.p j, has_word_if words l.right l.q j, k.left, k.p, k.right, k.q)))
+        (has_either (word_of words l.left) (word_of words l.right) j
+        ∙ rw (k.left, k.right, has_word_of words (left_node t i) (p_at t i) j, has_word_of words (right_node t i) (q_at t i) j)))
 
     pub word_unnamed : has w named_bit ≡ false
     word_unnamed = word_bits named_bit ∙ rw (name_stays, own_named (not_process i) (not_link i))

@@ -3,20 +3,21 @@
 use Prim.Native.Nat.{ℕ, suc, ◌+◌, ◌<◌, ◌≤◌}
 use mathlib.Core.Bool.{Bool, true, false, cond, ◌&&◌, ◌||◌}
 use mathlib.Core.Path.{◌≡◌, refl, sym, ◌∙◌}
-use mathlib.Core.Logic.{⊎_elim}
+use mathlib.Core.Logic.{◌⊎◌, inl, inr, ⊎_elim}
 use mathlib.Core.List.{List}
 use native.Mathlib.Omega.{arith}
 use native.Mathlib.Numerals.{add-one}
 use lib.ListN.{length}
+use Rattle.std.specs.Prelude.{Option, Some, None}
+use Rattle.std.specs.Bool.{then_some}
 use Rattle.basis.specs.KeySets.{has}
-use Rattle.basis.specs.Numbers.{some_below, lowest}
 use Rattle.basis.proofs.KeySets.{has_plus, has_plus_if}
-use Rattle.basis.proofs.Numbers.{some_not, lowest_none}
+use Rattle.basis.proofs.Numbers.{lowest_at}
 use Rattle.basis.proofs.Tests.{same_test, and_left, and_right, and_both, or_either, or_left, or_right, same_or_other}
 use Rattle.table.specs.Tables.{Table, kind_at, p_at, q_at}
 use Rattle.table.specs.Nodes.{fitting, left_node, right_node, names}
 use Rattle.table.specs.Reach.{process_node, link_root, reached_from, wrong_here, wrong_key}
-use Rattle.table.specs.Marks.{left_bit, right_bit, process_bit, link_bit, is_marked, marking, TwoMarks, Shows, Shown, Handed, Above}
+use Rattle.table.specs.Marks.{left_bit, right_bit, process_bit, link_bit, is_marked, marking, TwoMarks, Shows, Shown, Handed, Above, LowestOf}
 use Rattle.table.proofs.Operands.{names_lower}
 use Rattle.table.proofs.Reaches.{reached_start, reached_named, reached_how}
 use Rattle.table.proofs.Marking.{twice_is}
@@ -93,7 +94,7 @@ module _ (t : Table) (good : (k : ℕ) → k < t.sizes.nodes → fitting t k ≡
     wrong_told d e f = rw (d, e ∙ process_told, f ∙ link_told, wrong_key)
 
     pub above_more : {after : List ℕ} {r : Bool} → N ≤ length words
-        → TwoMarks (by_process i) (by_link i) words after (left_node t i) (p_at t i) (right_node t i) (q_at t i) r → Above t after i
+        → TwoMarks (by_process i) (by_link i) words after (then_some (left_node t i) (p_at t i)) (then_some (right_node t i) (q_at t i)) r → Above t after i
     above_more {after} long m =
         record {
           left = λ k g. given left_bit false (λ w. rw (has_plus_if, has_plus_if, has_plus)) k ∙ h.left k g;
@@ -106,27 +107,22 @@ module _ (t : Table) (good : (k : ℕ) → k < t.sizes.nodes → fitting t k ≡
             → (k : ℕ) → is_marked after j k ≡ ((d && names t i k) || is_marked words j k)
         given = twice_is t (marking (by_process i) (by_link i)) words i true (omega arith) (good i small) m.leaves
 
--- the lowest that passes, found from above
-lowest_test : (a b : Bool) (x i j n : ℕ) → cond (a || b) (cond a x (cond b i j)) n ≡ cond a x (cond b i n)
-lowest_test true b x i j n = refl
-lowest_test false true x i j n = refl
-lowest_test false false x i j n = refl
+-- the lowest number from i up to n that passes, if one does
+abbrev pub LowestFrom : (ℕ → Bool) → ℕ → ℕ → Option ℕ → Type 0
+LowestFrom test n i None = (k : ℕ) → i ≤ k → k < n → test k ≡ false
+LowestFrom test n i (Some x) = (x < n) × (test x ≡ true) × ((k : ℕ) → i ≤ k → k < x → test k ≡ false)
 
 module _ (test : ℕ → Bool) (n : ℕ) where
-  abbrev pub Lower : ℕ → ℕ → Type 0
-  Lower i low = lowest test n ≡ cond (some_below test i) (lowest test i) low
+  pub from_first : LowestFrom test n n None
+  from_first k h g = absurd (omega arith)
 
-  pub lower_first : Lower n n
-  lower_first = by (some_below test n) refl
-    where
-      by : (b : Bool) → some_below test n ≡ b → lowest test n ≡ cond b (lowest test n) n
-      by true e = refl
-      by false e = lowest_none test n (some_not test n e)
+  pub from_here : (i : ℕ) → i < n → test i ≡ true → LowestFrom test n i (Some i)
+  from_here i h e = (h, e, λ k g l. absurd (omega arith))
 
-  pub lower_more : (i low : ℕ) → Lower (i + 1) low → Lower i (cond (test i) i low)
-  unfolding some_below lowest
-  lower_more i low h = (rw (add-one i) at h) ∙ lowest_test (some_below test i) (test i) (lowest test i) i (suc i) low
+  pub from_lower : (i : ℕ) (o : Option ℕ) → test i ≡ false → LowestFrom test n (i + 1) o → LowestFrom test n i o
+  from_lower i None e f = λ k h g. ⊎_elim (λ (u : k ≡ i). rw u e) (λ (u : k ≡ i → ⊥). f k (omega (arith, u)) g) (same_or_other k i)
+  from_lower i (Some x) e f = (f.0, f.1, λ k h g. ⊎_elim (λ (u : k ≡ i). rw u e) (λ (u : k ≡ i → ⊥). f.2 k (omega (arith, u)) g) (same_or_other k i))
 
-  pub lower_last : (low : ℕ) → Lower 0 low → low ≡ lowest test n
-  unfolding some_below
-  lower_last low h = sym h
+  pub from_all : (o : Option ℕ) → LowestFrom test n 0 o → LowestOf test n o
+  from_all None f = λ k h. f k (omega arith) h
+  from_all (Some x) f = (f.0, sym (lowest_at test n x f.0 f.1 (λ k h. f.2 k (omega arith) h)))

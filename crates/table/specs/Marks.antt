@@ -1,5 +1,6 @@
 -- Bits in lent words, a word for each node, as refusals 4 and 5 use them. And what is found of a node.
 use Rattle.std.specs.Prelude.{ℕ, ◌+◌, ◌<◌, ◌≤◌, ◌≡◌, Bool, true, false, cond, ◌&&◌, ◌||◌, List, [], ◌∷◌, length, get_or, set, Option, Some, None, Result, Ok}
+use Rattle.std.specs.Bool.{then_some}
 use Rattle.std.specs.Int.Bits.{bit_and, bit_or}
 use Rattle.basis.specs.KeySets.{has, plus, plus_if}
 use Rattle.basis.specs.Numbers.{lowest}
@@ -46,16 +47,12 @@ is_marked words bit x = has (get_or words x 0) bit
 abbrev pub own_bits : ℕ → ℕ → ℕ
 own_bits k party = plus_if (plus_if 0 not_process_bit (wrong_here k party true false)) not_link_bit (wrong_here k party false true)
 
--- node x, where a field names it
-abbrev pub node_if : Bool → ℕ → Option ℕ
-node_if on x = cond on (Some x) None
-
--- the word of a node, and its bit, if there is one
-unfoldable pub word_of : List ℕ → Option ℕ → ℕ
+-- the word of a node, and whether it has a bit, if there is one
+abbrev pub word_of : List ℕ → Option ℕ → ℕ
 word_of words None = 0
 word_of words (Some x) = get_or words x 0
 
-unfoldable pub has_marked : List ℕ → ℕ → Option ℕ → Bool
+abbrev pub has_marked : List ℕ → ℕ → Option ℕ → Bool
 has_marked words bit None = false
 has_marked words bit (Some x) = is_marked words bit x
 
@@ -68,7 +65,7 @@ abbrev pub doubted : Bool → Bool → ℕ → Bool
 doubted process link w = (process && has w not_process_bit) || (link && has w not_link_bit)
 
 -- the word of a node is changed, if there is one
-unfoldable pub changed : (ℕ → ℕ) → List ℕ → Option ℕ → List ℕ
+abbrev pub changed : (ℕ → ℕ) → List ℕ → Option ℕ → List ℕ
 changed change words None = words
 changed change words (Some x) = set words x (change (get_or words x 0))
 
@@ -90,8 +87,8 @@ module _ (process link : Bool) where
 -- what is found of node n where its fields fit
 pub record Looked (t : Table) (n : ℕ) (l : Look) : Type 0 where
   pub fit : fitting t n ≡ true
-  pub left : l.left ≡ node_if (left_node t n) (p_at t n)
-  pub right : l.right ≡ node_if (right_node t n) (q_at t n)
+  pub left : l.left ≡ then_some (left_node t n) (p_at t n)
+  pub right : l.right ≡ then_some (right_node t n) (q_at t n)
 
 -- a bit of the words shows a test of the first n nodes
 abbrev pub Shows : List ℕ → ℕ → ℕ → (ℕ → Bool) → Type 0

@@ -39,20 +39,20 @@ fn header(table: &[u8]) -> Sizes
     }
 }
 
+#[tactic(auto, unfolding(crate::specs::Tables::within_limits))]
 fn within(sizes: Sizes) -> bool
     requires { SixteenBits sizes }
     ensures { result ≡ within_limits sizes }
 {
-    (1 <= sizes.nodes)
-        & ((sizes.nodes <= 4096)
-            & ((sizes.definitions <= 64)
-                & ((1 <= sizes.agents)
-                    & ((sizes.agents <= AGENTS)
-                        & ((sizes.attributes <= KEYS)
-                            & ((sizes.stigmergy <= KEYS)
-                                & ((sizes.environment <= KEYS)
-                                    & (sizes.definitions + sizes.stigmergy + sizes.agents
-                                        <= sizes.nodes))))))))
+    1 <= sizes.nodes
+        && sizes.nodes <= 4096
+        && sizes.definitions <= 64
+        && 1 <= sizes.agents
+        && sizes.agents <= AGENTS
+        && sizes.attributes <= KEYS
+        && sizes.stigmergy <= KEYS
+        && sizes.environment <= KEYS
+        && sizes.definitions + sizes.stigmergy + sizes.agents <= sizes.nodes
 }
 
 // Refusals 1 to 3, for any bytes. What passes them is a fleet's table, with its kinds and operands.

@@ -65,12 +65,12 @@ const EXPRESSIONS: Fields = Fields {
     q: Field::Expression,
 };
 
+#[tactic(auto, unfolding(crate::specs::Nodes::process_rows, crate::specs::Nodes::row_of))]
 fn process_fields(kind: u8) -> Fields
     ensures { result ≡ row_of process_rows kind }
 {
     match kind {
-        basis::kinds::IDLE => ZEROS,
-        basis::kinds::TICK => ZEROS,
+        basis::kinds::IDLE | basis::kinds::TICK => ZEROS,
         basis::kinds::SET_ATTRIBUTE => Fields {
             p: Field::Attribute,
             q: Field::Expression,
@@ -83,13 +83,11 @@ fn process_fields(kind: u8) -> Fields
             p: Field::Environment,
             q: Field::Expression,
         },
-        basis::kinds::SEQUENCE => PROCESSES,
-        basis::kinds::CHOICE => PROCESSES,
+        basis::kinds::SEQUENCE | basis::kinds::CHOICE | basis::kinds::PARALLEL => PROCESSES,
         basis::kinds::GUARDED => Fields {
             p: Field::Guard,
             q: Field::Process,
         },
-        basis::kinds::PARALLEL => PROCESSES,
         basis::kinds::CALL => Fields {
             p: Field::Definition,
             q: Field::Zero,
@@ -98,24 +96,23 @@ fn process_fields(kind: u8) -> Fields
     }
 }
 
+#[tactic(auto, unfolding(crate::specs::Nodes::guard_rows, crate::specs::Nodes::row_of))]
 fn guard_fields(kind: u8) -> Fields
     ensures { result ≡ row_of guard_rows kind }
 {
     match kind {
         basis::kinds::TRUE => ZEROS,
-        basis::kinds::EQUAL => EXPRESSIONS,
-        basis::kinds::LESS => EXPRESSIONS,
-        basis::kinds::GREATER => EXPRESSIONS,
+        basis::kinds::EQUAL | basis::kinds::LESS | basis::kinds::GREATER => EXPRESSIONS,
         basis::kinds::NOT => Fields {
             p: Field::Guard,
             q: Field::Zero,
         },
-        basis::kinds::AND => GUARDS,
-        basis::kinds::OR => GUARDS,
+        basis::kinds::AND | basis::kinds::OR => GUARDS,
         _ => NOTHING,
     }
 }
 
+#[tactic(auto, unfolding(crate::specs::Nodes::expression_rows, crate::specs::Nodes::row_of))]
 fn expression_fields(kind: u8) -> Fields
     ensures { result ≡ row_of expression_rows kind }
 {
@@ -136,11 +133,11 @@ fn expression_fields(kind: u8) -> Fields
             p: Field::Environment,
             q: Field::Zero,
         },
-        basis::kinds::PLUS => EXPRESSIONS,
-        basis::kinds::MINUS => EXPRESSIONS,
-        basis::kinds::TIMES => EXPRESSIONS,
-        basis::kinds::DIVIDE => EXPRESSIONS,
-        basis::kinds::REMAINDER => EXPRESSIONS,
+        basis::kinds::PLUS
+        | basis::kinds::MINUS
+        | basis::kinds::TIMES
+        | basis::kinds::DIVIDE
+        | basis::kinds::REMAINDER => EXPRESSIONS,
         _ => NOTHING,
     }
 }
@@ -191,6 +188,7 @@ fn root_fields(sizes: Sizes, node: usize) -> Fields
 }
 
 // What the fields of a node hold, if it has this kind: the last nodes, and no others, are roots.
+#[tactic(auto, unfolding(crate::specs::Nodes::fields_here))]
 pub fn fields_here(sizes: Sizes, node: usize, kind: u8) -> Fields
     requires { Limits sizes }
     ensures { (kinds operands : List ℕ) → result ≡ fields_here (table sizes kinds operands) node kind }

@@ -56,6 +56,7 @@ fn word_of(words: &[u32], node: Option<usize>) -> u32
 }
 
 // The bits that a node has by itself: keys have some.
+#[tactic(auto, unfolding(basis::specs::KeySets::plus_if))]
 pub fn own_bits(fleet: &Fleet, node: usize) -> u32
     requires { node < fleet.now.sizes.nodes }
     ensures { let t = table_in fleet.now in result ≡ own_bits (kind_at t node) (q_at t node) }

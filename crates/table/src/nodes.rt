@@ -8,6 +8,7 @@ use super::kinds::{is_expression, is_guard, is_process};
 use super::{Field, Fleet, Look};
 
 // Whether x fits a field of a node.
+#[tactic(auto, unfolding(crate::specs::Nodes::fits))]
 fn suits(fleet: &Fleet, node: usize, field: Field, x: usize) -> bool
     requires { node < fleet.now.sizes.nodes }
     ensures { result ≡ fits (table_in fleet.now) node field x }
@@ -28,6 +29,7 @@ fn suits(fleet: &Fleet, node: usize, field: Field, x: usize) -> bool
 }
 
 // The nodes that a node names, if its fields fit.
+#[tactic(auto, unfolding(crate::specs::Nodes::fitting))]
 pub fn look_at(fleet: &Fleet, node: usize) -> Option<Look>
     requires { node < fleet.now.sizes.nodes }
     ensures { MatchOption result (fitting (table_in fleet.now) node ≡ false) (λ l. Looked (table_in fleet.now) node l) }

@@ -1,7 +1,11 @@
 -- `table::header::measure` meets its contract.
 -- Assumes nothing.
 use native.Mathlib.Omega.{arith}
-use mathlib.Core.Path.{sym, ◌∙◌}
+use mathlib.Core.Bool.{true}
+use mathlib.Core.Path.{◌≡◌, sym, subst, ◌∙◌}
+use Rattle.table.specs.Tables.{within_limits}
+use Rattle.table.specs.Sound.{Shaped}
+use Rattle.table.proofs.Limits.{lent_table, lent_shape}
 use Rattle.table.proofs.Measuring.{measure_1, measure_2, measure_3, measure_fine}
 use Rattle.table.proofs.header.measure.Goals as goal
 
@@ -16,7 +20,12 @@ returns-then-table-sizes c =
     measure_3 _ _ c.header-sizes.ensures.is (omega arith)
     (sym c.within.ensures ∙ c.if-not-within.false) c.if-table-sizes.true
 
+pub invariant_of-result : goal.invariant_of-result
+invariant_of-result c =
+    record { shaped = lent_shape _ _ c.header-sizes.ensures.is (sym c.within.ensures ∙ c.if-not-within.false) c.if-table-sizes.false }
+
 pub returns : goal.returns
 returns c =
-    measure_fine _ _ c.header-sizes.ensures.is (omega arith)
-    (sym c.within.ensures ∙ c.if-not-within.false) c.if-table-sizes.false
+    let e = c.header-sizes.ensures.is in
+    measure_fine _ _ e (omega arith) (sym c.within.ensures ∙ c.if-not-within.false) c.if-table-sizes.false _
+    (lent_table c.args.table.now _ e)
