@@ -2,8 +2,8 @@
 ghost use Rattle.table.specs.Tables.{table};
 ghost use Rattle.table.specs.Sound.{Shaped};
 
-use super::kinds::fields_here;
-use super::{Fields, Sizes};
+use super::kinds::{NOTHING, fields_of};
+use super::{Field, Fields, Sizes};
 use basis::{NodeKind, UnknownKind};
 
 // The sizes, a kind for each node, and an operand of four bytes for each node.
@@ -18,7 +18,8 @@ pub struct Fleet<'a> {
 impl<'a> Fleet<'a> {
     ghost use Rattle.std.specs.Prelude.{◌≡◌, ◌<◌};
     ghost use Rattle.table.specs.Tables.{kind_at, p_at, q_at, constant_at, first_root, body_at, link_at};
-    ghost use Rattle.table.specs.Nodes.{fields_here as the_fields};
+    ghost use Rattle.table.specs.Nodes.{fields_at};
+    ghost use Rattle.table.specs.Reach.{link_root};
     ghost use Rattle.table.specs.Fleets.{table_in};
     ghost use Rattle.basis.specs.NodeKinds.{Names};
 
@@ -64,19 +65,40 @@ impl<'a> Fleet<'a> {
         basis::u32_at(self.operands, 4 * node)
     }
 
-    // What a node's fields hold.
-    pub fn fields_at(&self, node: usize) -> Fields
-        requires { node < self.now.sizes.nodes }
-        ensures { result ≡ the_fields (table_in self.now) node (kind_at (table_in self.now) node) }
-    {
-        fields_here(self.sizes, node, self.kinds[node])
-    }
-
     // The first of the last D + S + A nodes.
     pub fn first_root(&self) -> usize
         ensures { result ≡ first_root (table_in self.now) }
     {
         self.sizes.first_root()
+    }
+
+    // Whether a node is the root of a link.
+    pub fn is_link_root(&self, node: usize) -> bool
+        ensures { result ≡ link_root (table_in self.now) node }
+    {
+        let links = self.first_root() + self.sizes.definitions;
+        links <= node && node < links + self.sizes.stigmergy
+    }
+
+    // What a node's fields hold: the last nodes, and no others, are roots.
+    #[tactic(auto, unfolding(crate::specs::Nodes::fields_here))]
+    pub fn fields_at(&self, node: usize) -> Fields
+        requires { node < self.now.sizes.nodes }
+        ensures { result ≡ fields_at (table_in self.now) node }
+    {
+        let kind = self.kind_at(node);
+        if node < self.first_root() {
+            return fields_of(kind);
+        }
+        if kind != basis::kinds::ROOT {
+            return NOTHING;
+        }
+        let p = if self.is_link_root(node) {
+            Field::Guard
+        } else {
+            Field::Process
+        };
+        Fields { p, q: Field::Zero }
     }
 
     // The node that is the body of a definition.

@@ -1,10 +1,8 @@
 // The list of kinds: which sort a kind is, and what its fields hold.
-ghost use Rattle.std.specs.Prelude.{◌≡◌, List, ℕ, ◌-◌};
-ghost use Rattle.table.specs.Tables.{table, roots_of};
-ghost use Rattle.table.specs.Nodes.{is_process, is_guard, is_expression, is_node, process_rows, guard_rows, expression_rows, row_of, fields, fields_of, root_names, fields_here};
-ghost use Rattle.table.specs.Sound.{Limits};
+ghost use Rattle.std.specs.Prelude.{◌≡◌};
+ghost use Rattle.table.specs.Nodes.{is_process, is_guard, is_expression, is_node, process_rows, guard_rows, expression_rows, row_of, fields_of};
 
-use super::{Field, Fields, Sizes};
+use super::{Field, Fields};
 
 pub fn is_process(kind: u8) -> bool
     ensures { result ≡ is_process kind }
@@ -15,13 +13,13 @@ pub fn is_process(kind: u8) -> bool
 pub fn is_guard(kind: u8) -> bool
     ensures { result ≡ is_guard kind }
 {
-    (basis::kinds::TRUE <= kind) & (kind <= basis::kinds::OR)
+    matches!(kind, basis::kinds::TRUE..=basis::kinds::OR)
 }
 
 pub fn is_expression(kind: u8) -> bool
     ensures { result ≡ is_expression kind }
 {
-    (basis::kinds::CONSTANT <= kind) & (kind <= basis::kinds::REMAINDER)
+    matches!(kind, basis::kinds::CONSTANT..=basis::kinds::REMAINDER)
 }
 
 impl Field {
@@ -33,14 +31,7 @@ impl Field {
     }
 }
 
-// The same, until no crate calls it.
-pub fn is_node(field: Field) -> bool
-    ensures { result ≡ is_node field }
-{
-    field.is_node()
-}
-
-const NOTHING: Fields = Fields {
+pub const NOTHING: Fields = Fields {
     p: Field::Never,
     q: Field::Never,
 };
@@ -143,7 +134,7 @@ fn expression_fields(kind: u8) -> Fields
 }
 
 // What the fields of a kind hold, roots aside.
-fn fields_of(kind: u8) -> Fields
+pub fn fields_of(kind: u8) -> Fields
     ensures { result ≡ fields_of kind }
 {
     if kind < basis::kinds::TRUE {
@@ -153,51 +144,4 @@ fn fields_of(kind: u8) -> Fields
         return guard_fields(kind);
     }
     expression_fields(kind)
-}
-
-// The first of the last D + S + A nodes, until no crate calls it.
-pub fn first_root(sizes: Sizes) -> usize
-    requires { Limits sizes }
-    ensures { result ≡ sizes.nodes - roots_of sizes }
-{
-    sizes.first_root()
-}
-
-// What the fields of a root hold, by its place.
-fn root_fields(sizes: Sizes, node: usize) -> Fields
-    requires { Limits sizes }
-    ensures { (kinds operands : List ℕ) → result ≡ fields (root_names (table sizes kinds operands) node) Field.Zero }
-{
-    let links = first_root(sizes) + sizes.definitions;
-    if node < links {
-        return Fields {
-            p: Field::Process,
-            q: Field::Zero,
-        };
-    }
-    if node < links + sizes.stigmergy {
-        return Fields {
-            p: Field::Guard,
-            q: Field::Zero,
-        };
-    }
-    Fields {
-        p: Field::Process,
-        q: Field::Zero,
-    }
-}
-
-// What the fields of a node hold, if it has this kind: the last nodes, and no others, are roots.
-#[tactic(auto, unfolding(crate::specs::Nodes::fields_here))]
-pub fn fields_here(sizes: Sizes, node: usize, kind: u8) -> Fields
-    requires { Limits sizes }
-    ensures { (kinds operands : List ℕ) → result ≡ fields_here (table sizes kinds operands) node kind }
-{
-    if node < first_root(sizes) {
-        return fields_of(kind);
-    }
-    if kind == basis::kinds::ROOT {
-        return root_fields(sizes, node);
-    }
-    NOTHING
 }

@@ -14,8 +14,8 @@ mod wrong;
 pub use bad::lowest_bad;
 pub use fleets::Fleet;
 pub use header::{AGENTS, HEADER_BYTES, KEYS, measure};
-pub use kinds::{fields_here, first_root, is_guard, is_node, is_process};
-pub use reading::{constant_at, p_at, q_at};
+pub use kinds::{is_guard, is_process};
+pub use reading::{first_root, p_at};
 pub use refusals::Refused;
 pub use wrong::lowest_wrong;
 

@@ -66,11 +66,7 @@ pub fn own_bits(fleet: &Fleet, node: usize) -> u32
         return 0;
     }
     let party = fleet.q_at(node);
-    let bits = plus_if(
-        0,
-        NOT_PROCESS,
-        wrong_here(kind, party, Reached::BY_PROCESS),
-    );
+    let bits = plus_if(0, NOT_PROCESS, wrong_here(kind, party, Reached::BY_PROCESS));
     plus_if(bits, NOT_LINK, wrong_here(kind, party, Reached::BY_LINK))
 }
 
@@ -83,14 +79,6 @@ pub fn rising(words: &[u32], look: Look) -> u32
     RISING & (word_of(words, look.left) | word_of(words, look.right))
 }
 
-// Whether a node is the root of a link.
-fn is_link_root(fleet: &Fleet, node: usize) -> bool
-    ensures { result ≡ link_root (table_in fleet.now) node }
-{
-    let links = fleet.first_root() + fleet.sizes.definitions;
-    (links <= node) & (node < links + fleet.sizes.stigmergy)
-}
-
 // What reaches a node by itself: it is a process node, the root of a link.
 pub fn starts(fleet: &Fleet, node: usize) -> Reached
     requires { node < fleet.now.sizes.nodes }
@@ -99,7 +87,7 @@ pub fn starts(fleet: &Fleet, node: usize) -> Reached
 {
     Reached {
         process: is_process(fleet.kind_at(node)),
-        link: is_link_root(fleet, node),
+        link: fleet.is_link_root(node),
     }
 }
 
@@ -135,7 +123,11 @@ fn mark(words: &mut [u32], node: Option<usize>, by: Reached) -> bool
         return false;
     };
     let old = words[x];
-    words[x] = plus_if(plus_if(plus(old, NAMED), PROCESS, by.process), LINK, by.link);
+    words[x] = plus_if(
+        plus_if(plus(old, NAMED), PROCESS, by.process),
+        LINK,
+        by.link,
+    );
     has(old, NAMED)
 }
 

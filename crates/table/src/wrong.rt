@@ -17,7 +17,7 @@ use basis::has;
 pub fn is_key(kind: u8) -> bool
     ensures { result ≡ is_key_kind kind }
 {
-    (basis::kinds::ATTRIBUTE <= kind) & (kind <= basis::kinds::ENVIRONMENT)
+    matches!(kind, basis::kinds::ATTRIBUTE..=basis::kinds::ENVIRONMENT)
 }
 
 // Whether a node of this kind and party is wrong, by whether a process and whether a link reaches it.

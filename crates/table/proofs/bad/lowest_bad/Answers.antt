@@ -115,7 +115,7 @@ loop-node-preserved c =
     let k = looked (goal.at.loop-node-preserved c).In_ok-look in
     let done = turn (goal.at.loop-node-preserved c).After-is_doubted-doubtful in
     elim c.else-inner.branch [
-      else-inner-via-then-inner+else-mark_both w ↦
+      | else-inner-via-then-inner+else-mark_both w ↦
           next l.invariant.fine w.if-mark_both.false
           (done _ _ (rw w.scratch-is (marks_when t k false false (inner t i) (lt-ltb i (first_root t) (omega arith)) w.mark_both.ensures)))
       | else-inner-via-else-inner w ↦
