@@ -13,9 +13,8 @@ use Rattle.choice.specs.declared.Gap.{Gap}
 use Rattle.choice.specs.declared.Goal.{Goal}
 use Rattle.choice.specs.Writing.{Room, Written}
 use Rattle.choice.specs.Turns.{chosen_at, Reached}
-use Rattle.residual.specs.declared.Target.{Target}
 use Rattle.residual.specs.Moves.{Moved}
-use Rattle.residual.specs.Steps.{target_of, Choosable, going, Acting, Joining, Stands}
+use Rattle.residual.specs.Steps.{Target, goal_of, Choosable, going, Acting, Joining, Stands}
 use Rattle.residual.specs.Wholes.{Placed}
 use Rattle.residual.proofs.Moving.{moved_before, moved_after, moved_part}
 use Rattle.residual.proofs.Places.{past, begins}
@@ -100,7 +99,7 @@ module _ (t : Table) (goal : List ℕ) (room front : ℕ) (g : Target) (ws : Lis
     joins_bound = omega (arith, part_size t T g ws w.stands s.part, spot_within, s.part.place, s.part.some, s.size, s.rest)
 
     pub spot_joins : (out : List ℕ) → Moved ws h.from.at (h.from.at + after) (h.from.at + after) (h.from.at + after + n) out
-        → Spot t goal room front (target_of (record { at = h.from.at + after }) h.mode h.choice) out
+        → Spot t goal room front (goal_of (record { at = h.from.at + after }) h.mode h.choice) out
     spot_joins out v =
         record {
           long = v.same ∙ w.long;
@@ -146,7 +145,7 @@ module _ (t : Table) (goal : List ℕ) (room front : ℕ) (g : Target) (ws : Lis
           words = k.words ∙ ap₂ (λ (x : List ℕ) (y : ℕ). take front ws ++ (x ++ drop (at + y) ws)) (sym e) (sym one) ∙ w.words;
         }
 
-    pub room_node : (h : Goal) → Reached t h → going t w.term g ≡ chosen_at t h → Room t h (record { front = front; back = g.from.at + 1 }) ws
+    pub room_node : (h : Goal ℕ) → Reached t h → going t w.term g ≡ chosen_at t h → Room t h (record { front = front; back = g.from.at + 1 }) ws
     room_node h r e =
         let f = ap (λ (x : Derivation). length (words x.leaving)) e in
         record { reached = r; fits = omega (arith, w.fits); end = omega (arith, spot_within) }

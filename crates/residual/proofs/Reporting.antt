@@ -15,8 +15,7 @@ use Rattle.choice.specs.Marking.{WalkMarks, Marked}
 use Rattle.choice.specs.Outcomes.{grown_by, Walked}
 use Rattle.choice.proofs.Turning.{around_size}
 use Rattle.choice.proofs.Collecting.{marked_none, marked_join, marked_same}
-use Rattle.residual.specs.declared.Target.{Target}
-use Rattle.residual.specs.Steps.{going, Part, Acting, Joining, Stands}
+use Rattle.residual.specs.Steps.{Target, going, Part, Acting, Joining, Stands}
 use Rattle.residual.proofs.Standing.{part_size, part_stands}
 
 -- the walk to derivation d has come to a target, and its marks from ms to vs: d does what that does, leaves so many

@@ -10,9 +10,8 @@ use Rattle.table.specs.Tables.{Table, first_root}
 use Rattle.term.specs.Terms.{Term, words}
 use Rattle.term.proofs.Words.{words_some}
 use Rattle.choice.specs.Turns.{Prepared}
-use Rattle.residual.specs.declared.Target.{Target}
 use Rattle.residual.specs.Measures.{Pairs}
-use Rattle.residual.specs.Steps.{Part, Stands}
+use Rattle.residual.specs.Steps.{Target, Part, Stands}
 use Rattle.residual.proofs.Places.{past, begins, term_within}
 
 -- the words hold counts below 65,536

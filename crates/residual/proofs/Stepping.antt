@@ -29,12 +29,10 @@ use Rattle.choice.proofs.Turning.{ended_tick, around_under, around_before, aroun
 use Rattle.choice.proofs.Picking.{acting_true, SeqPicked, ParPicked, seq_picked, par_picked}
 use Rattle.residual.specs.declared.Cursor.{Cursor}
 use Rattle.residual.specs.declared.Measured.{Measured}
-use Rattle.residual.specs.declared.Target.{Target}
 use Rattle.residual.specs.declared.Step.TheVariants.{Ticked, Leaf}
-use Rattle.residual.specs.declared.Read.TheVariants.{Word}
 use Rattle.residual.specs.Reading.{read_at}
 use Rattle.residual.specs.Measures.{Found, Told}
-use Rattle.residual.specs.Steps.{beside_of, target_of, pick_step, Choosable, going, Part, Stepped, Stands}
+use Rattle.residual.specs.Steps.{Target, beside_of, goal_of, pick_step, Choosable, going, Part, Stepped, Stands}
 use Rattle.residual.proofs.Places.{first, word_is, node_plain}
 use Rattle.residual.proofs.Whole.{read_word}
 use Rattle.residual.proofs.Measures.{held_true, told_halves}
@@ -65,7 +63,7 @@ module _ (t : Table) (T p q : Term) (g : Target) (w : ℕ) (left right end : Cur
   both : (all_few t p ≡ true) × (all_few t q ≡ true)
   both = halves_few t p q (few (process t T)) all
 
-  abbrev left_part : (m : Mode) (i : ℕ) → i < count_in m (process t p) → Part t T g p (target_of left m i)
+  abbrev left_part : (m : Mode) (i : ℕ) → i < count_in m (process t p) → Part t T g p (goal_of left m i)
   left_part m i h =
       record {
         before = w ∷ [];
@@ -76,7 +74,7 @@ module _ (t : Table) (T p q : Term) (g : Target) (w : ℕ) (left right end : Cur
         choosable = record { over = over.0; few = both.0; choice = h };
       }
 
-  abbrev right_part : (m : Mode) (i : ℕ) → i < count_in m (process t q) → Part t T g q (target_of right m i)
+  abbrev right_part : (m : Mode) (i : ℕ) → i < count_in m (process t q) → Part t T g q (goal_of right m i)
   right_part m i h =
       record {
         before = w ∷ words p;
@@ -115,7 +113,7 @@ module _ (t : Table) (T p q : Term) (g : Target) (w : ℕ) (left right end : Cur
 
 -- the steps as the code finds them
 module _ (t : Table) (roots : ℕ) (small : roots ≤ 4096) (s ws : List ℕ) (g : Target) (same : first_root t ≡ roots) (counted : Counted t s)
-    (w : ℕ) (next : Cursor) (read : read_at ws g.from.at ≡ Word w next) (T : Term) (stands : Stands t T g ws) where
+    (w : ℕ) (next : Cursor) (read : read_at ws g.from.at ≡ Some (w, next)) (T : Term) (stands : Stands t T g ws) where
   abbrev at : ℕ
   at = g.from.at
 

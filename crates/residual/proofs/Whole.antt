@@ -9,33 +9,28 @@ use native.Mathlib.Omega.{arith}
 use lib.Dec.{eqb, ltb}
 use lib.ListN.{length, get_or, drop, length-drop}
 use lib.Seq.{drop-cons}
+use Rattle.std.specs.Prelude.{Some, None}
+use Rattle.std.proofs.lemmas.Option.{cond_some, none-some}
 use borrow.Author.Tests.{ltb-true, ltb-false, ne_eqb}
 use Rattle.table.specs.Tables.{Table, first_root}
 use Rattle.term.specs.Terms.{are_terms}
 use Rattle.residual.specs.declared.Cursor.{Cursor}
-use Rattle.residual.specs.declared.Read.{Read}
-use Rattle.residual.specs.declared.Read.TheVariants.{Word, End}
 use Rattle.term.specs.Terms.{is_operator}
 use Rattle.residual.specs.Reading.{read_at, leaf_word}
 use Rattle.residual.proofs.Places.{empty}
 
 -- what a reading tells
 module _ (ws : List ℕ) (at : ℕ) where
-  abbrev Answer : Bool → Read
-  Answer b = cond b (Word (get_or ws at 0) (record { at = at + 1 })) End
+  pub read_word : (w : ℕ) (next : Cursor) → read_at ws at ≡ Some (w, next) → (at < length ws) × (w ≡ get_or ws at 0) × (next.at ≡ at + 1)
+  read_word w next e =
+      let m = cond_some _ _ _ e in
+      (ltb-true at (length ws) m.0, ap (λ (p : ℕ × Cursor). p.0) (sym m.1), ap (λ (p : ℕ × Cursor). p.1.at) (sym m.1))
 
-  pub read_word : (w : ℕ) (next : Cursor) → read_at ws at ≡ Word w next → (at < length ws) × (w ≡ get_or ws at 0) × (next.at ≡ at + 1)
-  read_word w next e = by (ltb at (length ws)) refl e
-    where
-      by : (b : Bool) → ltb at (length ws) ≡ b → Answer b ≡ Word w next → (at < length ws) × (w ≡ get_or ws at 0) × (next.at ≡ at + 1)
-      by true h f = (ltb-true at (length ws) h, cc, let g : record { at = at + 1 } ≡ next = cc in ap (λ (c : Cursor). c.at) (sym g))
-      by false h f = absurd (let z : ◌≡◌ {A = ℕ} 0 1 = cc in omega arith)
-
-  pub read_end : read_at ws at ≡ End → length ws ≤ at
+  pub read_end : read_at ws at ≡ None → length ws ≤ at
   read_end e = by (ltb at (length ws)) refl e
     where
-      by : (b : Bool) → ltb at (length ws) ≡ b → Answer b ≡ End → length ws ≤ at
-      by true h f = absurd (let z : ◌≡◌ {A = ℕ} 0 1 = cc in omega arith)
+      by : (b : Bool) → ltb at (length ws) ≡ b → cond b (Some (get_or ws at 0, record { at = at + 1 })) None ≡ None → length ws ≤ at
+      by true h f = absurd (none-some _ (sym f))
       by false h f = ltb-false at (length ws) h
 
 module _ (t : Table) (ws : List ℕ) (at : ℕ) where
@@ -49,7 +44,7 @@ module _ (t : Table) (ws : List ℕ) (at : ℕ) where
   are_end n h = rw (empty (drop at ws) (length-drop at ws ∙ omega arith)) (are_nil n)
 
   -- a word has been read
-  module _ (w : ℕ) (next : Cursor) (read : read_at ws at ≡ Word w next) where
+  module _ (w : ℕ) (next : Cursor) (read : read_at ws at ≡ Some (w, next)) where
     opened : (n : ℕ) → are_terms t n (drop at ws) ≡ are_terms t n (w ∷ drop next.at ws)
     opened n =
         let r = read_word ws at w next read in

@@ -21,14 +21,14 @@ pub record Taking (t : Table) (T : Term) (c : ℕ) : Type 0 where
   pub choice : c < length (derivations (process t T))
 
 -- each subterm has few derivations, and the term has so many
-pub record Choices (t : Table) (T : Term) (count : ℕ) : Type 0 where
+pub record Choices (t : Table) (T : Term) (n : ℕ) : Type 0 where
   pub few : all_few t T ≡ true
-  pub count : count ≡ length (derivations (process t T))
+  pub count : n ≡ length (derivations (process t T))
 
 -- what is found of a residual's choices: none where a subterm has too many
 abbrev pub Offered : Table → Term → Option ℕ → Type 0
 Offered t T None = all_few t T ≡ false
-Offered t T (Some count) = Choices t T count
+Offered t T (Some n) = Choices t T n
 
 -- a bound of the words that a choice leaves: those of a node's choice, and the term's
 abbrev pub limit_of : Table → Term → ℕ
