@@ -14,7 +14,7 @@ use Rattle.basis.proofs.Numbers.{for_each_more, how_many_more, how_many_bound}
 use Rattle.basis.proofs.KeySets.{has_nothing, has_plus_all, plus_all_more}
 use Rattle.table.specs.Tables.{Table}
 use Rattle.state.specs.declared.Entry.{Entry}
-use Rattle.state.specs.Layout.{key_limit, drop_key, stamp_of}
+use Rattle.state.specs.Layout.{key_limit, stamp_of}
 use Rattle.state.specs.declared.Insertion.{Insertion}
 use Rattle.state.specs.declared.Insertion.TheVariants.{Add, Update, Discard}
 use Rattle.state.specs.Entries.{entry_of, is_add, is_update}
@@ -38,7 +38,7 @@ module _ (test : ℕ → Bool) (n : ℕ) {w : ℕ} (e : w ≡ plus_all test n 0)
 
 -- a response by tests: o and n, whether x's entry and y's is the newer one; neither is where y is x. z: whether y has none
 by_tests : (c f i l o n z : Bool) → (i ≡ true → (o ≡ false) × (n ≡ false))
-    → cond (((c && o) || ((c && f) && n)) && l) (rule_response (rule_by o z)) Ignores
+    → cond ((c && (o || (f && n))) && l) (rule_response (rule_by o z)) Ignores
     ≡ response_by (cond (c && (not i && l)) (rule_by o z) Discard) (f && ((c && (not i && l)) && n))
 by_tests false f i l o n z h = rw (and-false f)
 by_tests true f true l o n z h = rw ((h refl).0, (h refl).1, and-false f)
@@ -83,7 +83,7 @@ module _ (t : Table) (was : List ℕ) (x k : ℕ) (counts confirming : Bool) whe
         }
 
   -- of the agents below n, those who could be touched are asked, and the link reaches some of them
-  module _ (n asked : ℕ) (asks : asked ≡ touched was x k counts confirming n) where
+  module _ (n asked : ℕ) (asks : asked ≡ touched (entry_of was x k) was k counts confirming n) where
     judged : (reached : ℕ) → ((y : ℕ) → has reached y ≡ (has asked y && link_holds t was k x y)) → (y : ℕ) → y < n
         → response_in reached (entry_of was x k) (entry_of was y k) y ≡ response t was x k counts confirming y
     unfolding response inserts linked
@@ -112,7 +112,3 @@ counts_once (Takes Update) = record { added = omega arith; replaced = omega arit
 counts_once (Takes Discard) = record { added = omega arith; replaced = omega arith }
 counts_once Propagates = record { added = omega arith; replaced = omega arith }
 counts_once Ignores = record { added = omega arith; replaced = omega arith }
-
--- after all turns the agent's own set loses the key
-pub key_dropped : {answer r : Tally} {left s : List ℕ} → Passed answer left r s → (place at k : ℕ) → at ≡ place → (out : List ℕ) → out ≡ drop_key at k s → Passed answer (drop_key place k left) r out
-key_dropped turns place at k e out d = record { answer = turns.answer; state = d ∙ rw (e, turns.state) }

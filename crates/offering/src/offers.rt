@@ -2,13 +2,12 @@
 ghost use Rattle.std.specs.Prelude.{◌<◌};
 ghost use Rattle.state.specs.Layout.{key_limit};
 
+use crate::responses::tally_of;
 use basis::plus_if;
 use evaluation::links_hold;
 use state::{Entry, entry_of, newer};
 use steps::Tally;
 use table::Fleet;
-
-use crate::responses::tally_of;
 
 // An agent's entry for a key. `counts`: whether the key's link counts in this step.
 #[derive(Clone, Copy)]

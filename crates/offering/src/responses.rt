@@ -30,6 +30,7 @@ impl Offer {
     }
 
     // An agent takes the entry: it no longer has to confirm the key, and has to propagate it.
+    #[tactic(auto, unfolding(steps::specs::Offers::take_entry))]
     fn take(&self, state: &mut [u32], agent: usize)
         requires { HasBlocks state.old × (agent < agent_limit) }
         ensures { state.new ≡ take_entry self.now.key self.now.entry agent state.old }
@@ -40,6 +41,7 @@ impl Offer {
     }
 
     // What an agent's response writes.
+    #[tactic(auto, unfolding(steps::specs::Offers::responded))]
     pub fn write(&self, state: &mut [u32], agent: usize, response: Response)
         requires { HasBlocks state.old × (agent < agent_limit) }
         ensures { state.new ≡ responded self.now.key self.now.entry agent response state.old }

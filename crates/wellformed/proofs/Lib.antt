@@ -1,3 +1,3 @@
-pub mod Keys
-pub mod Blocks
+pub mod Every
+pub mod Joining
 pub mod Starting

@@ -16,19 +16,14 @@ fn start(sizes: Sizes, operands: &[u8], state: &mut [u32])
         for_each (started (table sizes kinds operands.now)) sizes.agents state.old }
 {
     let first = first_root(sizes) + sizes.definitions + sizes.stigmergy;
-    let agents = sizes.agents;
-    let mut agent: usize = 0;
-    while agent < agents {
-        let node = p_at(operands, first + agent);
-        let size = length_at(agent);
-        let word = residual_at(agent);
-        state[size] = 1;
-        state[word] = node as u32;
-        agent += 1;
+    for agent in 0..sizes.agents {
+        state[length_at(agent)] = 1;
+        state[residual_at(agent)] = p_at(operands, first + agent) as u32;
     }
 }
 
-// The state becomes what load leaves: A, each agent with the node that its root names, and 0.
+// The state becomes what load leaves: A, each agent with the node that its root names, and 0. No fleet: kinds are not
+// asked for, nor operands of a length.
 pub fn write_loaded(sizes: Sizes, operands: &[u8], state: &mut [u32])
     requires { LoadGiven sizes operands.now state.old }
     ensures { (kinds : List ℕ) → state.new ≡ loaded (table sizes kinds operands.now) }

@@ -1,42 +1,35 @@
 // The pairs of a store, of whichever kind.
-ghost use Rattle.std.specs.Prelude.{◌≡◌, ◌<◌};
-ghost use Rattle.basis.specs.Numbers.{every};
-ghost use Rattle.table.specs.Tables.{agent_limit};
-ghost use Rattle.state.specs.Layout.{key_limit};
-ghost use Rattle.state.specs.WellFormed.{pair_formed};
-ghost use Rattle.state.specs.Standing.{store_agent, Pair, HasBlocks};
-
+use super::candidates::Candidate;
 use state::{Store, mark_at, value_at};
 use table::KEYS;
 
-// One pair of a store that has so many keys and no mark above the highest.
-fn pair_formed(state: &[u32], store: Store, highest: u32, keys: usize, key: usize) -> bool
-    requires { HasBlocks state.now × Pair store key }
-    ensures { result ≡ pair_formed state.now store highest keys key }
-{
-    let at = mark_at(store, key);
-    let mark = state[at];
-    if highest < mark {
-        return false;
-    }
-    if mark == 0 {
-        let at = value_at(store, key);
-        return state[at] == 0;
-    }
-    key < keys
-}
+impl<'a> Candidate<'a> {
+    ghost use Rattle.std.specs.Prelude.{◌≡◌, ◌<◌};
+    ghost use Rattle.basis.specs.Numbers.{every};
+    ghost use Rattle.table.specs.Tables.{agent_limit};
+    ghost use Rattle.state.specs.Layout.{key_limit};
+    ghost use Rattle.state.specs.WellFormed.{pair_formed};
+    ghost use Rattle.state.specs.Standing.{store_agent, Pair};
 
-// All pairs of such a store.
-pub fn store_formed(state: &[u32], store: Store, highest: u32, keys: usize) -> bool
-    requires { HasBlocks state.now × (store_agent store < agent_limit) }
-    ensures { result ≡ every (pair_formed state.now store highest keys) key_limit }
-{
-    let mut key: usize = 0;
-    while key < KEYS {
-        if !pair_formed(state, store, highest, keys, key) {
-            return false;
+    // One pair of a store that has so many keys and no mark above the highest.
+    #[tactic(auto, unfolding(state::specs::WellFormed::pair_formed))]
+    fn pair_formed(&self, store: Store, highest: u32, keys: usize, key: usize) -> bool
+        requires { Pair store key }
+        ensures { result ≡ pair_formed self.now.state.now store highest keys key }
+    {
+        let mark = self.state[mark_at(store, key)];
+        if mark == 0 {
+            self.state[value_at(store, key)] == 0
+        } else {
+            (mark <= highest) & (key < keys)
         }
-        key += 1;
     }
-    true
+
+    // All pairs of such a store.
+    pub fn store_formed(&self, store: Store, highest: u32, keys: usize) -> bool
+        requires { store_agent store < agent_limit }
+        ensures { result ≡ every (pair_formed self.now.state.now store highest keys) key_limit }
+    {
+        (0..KEYS).all(|key| self.pair_formed(store, highest, keys, key))
+    }
 }

@@ -1,28 +1,26 @@
 // Residuals: one whole term, and 0 after it.
-ghost use Rattle.std.specs.Prelude.{◌≡◌, List, ℕ, ◌<◌};
-ghost use Rattle.table.specs.Tables.{table, agent_limit};
-ghost use Rattle.state.specs.WellFormed.{residual_formed};
-ghost use Rattle.wellformed.specs.Given.{CheckGiven};
-
-use crate::zeros::all_zero;
+use super::candidates::Candidate;
+use super::zeros::all_zero;
 use residual::reading::whole_term;
 use state::{RESIDUAL_WORDS, length_at, residual_at};
-use table::Sizes;
 
-pub fn residual_formed(sizes: Sizes, kinds: &[u8], state: &[u32], agent: usize) -> bool
-    requires { (CheckGiven sizes kinds.now state.now) × (agent < agent_limit) }
-    ensures { (operands : List ℕ) → result ≡ residual_formed (table sizes kinds.now operands) state.now agent }
-{
-    let at = length_at(agent);
-    let start = residual_at(agent);
-    let size = state[at] as usize;
-    if RESIDUAL_WORDS < size {
-        return false;
+impl<'a> Candidate<'a> {
+    ghost use Rattle.std.specs.Prelude.{◌≡◌, List, ℕ, ◌<◌};
+    ghost use Rattle.table.specs.Tables.{table, agent_limit};
+    ghost use Rattle.state.specs.WellFormed.{residual_formed};
+
+    // The residual of an agent.
+    #[tactic(auto, unfolding(state::specs::WellFormed::residual_formed))]
+    pub fn residual_formed(&self, agent: usize) -> bool
+        requires { agent < agent_limit }
+        ensures { (operands : List ℕ) → result ≡ residual_formed (table self.now.sizes self.now.kinds.now operands) self.now.state.now agent }
+    {
+        let size = self.state[length_at(agent)] as usize;
+        let start = residual_at(agent);
+        let words = &self.state[start..start + RESIDUAL_WORDS];
+        let Some((term, rest)) = words.split_at_checked(size) else {
+            return false;
+        };
+        whole_term(self.sizes, self.kinds, term) && all_zero(rest)
     }
-    let end = start + size;
-    if !whole_term(sizes, kinds, &state[start..end]) {
-        return false;
-    }
-    let last = start + RESIDUAL_WORDS;
-    all_zero(&state[end..last])
 }

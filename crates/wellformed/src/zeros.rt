@@ -6,11 +6,5 @@ ghost use Rattle.state.specs.WellFormed.{all_zero};
 pub fn all_zero(words: &[u32]) -> bool
     ensures { result ≡ all_zero words.now }
 {
-    let mut joined: u32 = 0;
-    let mut i: usize = 0;
-    while i < words.len() {
-        joined = joined | words[i];
-        i += 1;
-    }
-    joined == 0
+    words.iter().fold(0, |joined, word| joined | word) == 0
 }

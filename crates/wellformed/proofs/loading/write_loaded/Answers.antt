@@ -1,15 +1,8 @@
 -- `write_loaded` meets its contract. Assumes nothing.
-use mathlib.Core.Path.{◌∙◌}
-use lib.ListN.{length-set}
 use Rattle.basis.proofs.Writing.{cleared_whole}
 use Rattle.state.specs.WellFormed.{loaded}
 use Rattle.wellformed.proofs.loading.write_loaded.Goals as goal
 
-pub shape_of-state : goal.shape_of-state
-shape_of-state c =
-    simp length-set (c.start.auto.state ∙ c.clear.auto.words)
-
 pub returns : goal.returns
 unfolding loaded
-returns c kinds =
-    rw (c.start.ensures kinds, cleared_whole c.args.state.now c.requires.whole c.clear.ensures)
+returns c kinds = rw (c.start.ensures kinds, cleared_whole c.args.state.now c.requires.whole c.clear.ensures)
