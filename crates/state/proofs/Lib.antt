@@ -1,5 +1,4 @@
 pub mod Places
-pub mod Standing
 pub mod Frames
 pub mod Residuals
 pub mod Formed

@@ -14,13 +14,10 @@ pub fn entry_of(state: &[u32], agent: usize, key: usize) -> Entry
     requires { HasBlocks state.now × Pair (Entries agent) key }
     ensures { result ≡ entry_of state.now agent key }
 {
-    let value = state[value_at(Store::Entries(agent), key)];
-    let stamp = state[mark_at(Store::Entries(agent), key)];
-    let writer = state[writer_at(agent, key)];
     Entry {
-        value,
-        stamp,
-        writer,
+        value: state[value_at(Store::Entries(agent), key)],
+        stamp: state[mark_at(Store::Entries(agent), key)],
+        writer: state[writer_at(agent, key)],
     }
 }
 
@@ -35,13 +32,13 @@ pub fn newer(first: Entry, second: Entry) -> bool
 pub fn insertion_of(entry: Entry, there: Entry) -> Insertion
     ensures { result ≡ insertion entry there }
 {
-    if newer(entry, there) {
-        if there.stamp == 0 {
-            return Insertion::Add;
-        }
-        return Insertion::Update;
+    if !newer(entry, there) {
+        Insertion::Discard
+    } else if there.stamp == 0 {
+        Insertion::Add
+    } else {
+        Insertion::Update
     }
-    Insertion::Discard
 }
 
 // An agent's entry for a key is set.
@@ -50,8 +47,7 @@ pub fn put_entry(state: &mut [u32], agent: usize, key: usize, entry: Entry)
     ensures { state.new ≡ put_entry agent key entry state.old }
 {
     put(state, Store::Entries(agent), key, entry.value, entry.stamp);
-    let at = writer_at(agent, key);
-    state[at] = entry.writer;
+    state[writer_at(agent, key)] = entry.writer;
 }
 
 // The clock.

@@ -3,7 +3,7 @@ ghost use Rattle.std.specs.Prelude.{◌<◌, ◌≤◌};
 ghost use Rattle.table.specs.Tables.{agent_limit};
 ghost use Rattle.state.specs.declared.Store.TheVariants.{Entries};
 ghost use Rattle.state.specs.Layout.{residual_words, block_at, zc_at, zp_at, length_at, residual_at, mark_at, value_at, writer_at};
-ghost use Rattle.state.specs.Standing.{Pair, Standing};
+ghost use Rattle.state.specs.Standing.{Pair, Standing, key_at, key_words};
 
 use super::Store;
 use table::KEYS;
@@ -53,7 +53,8 @@ pub fn block_at(agent: usize) -> usize
     BLOCKS + BLOCK_WORDS * agent
 }
 
-// An agent's set of keys to confirm.
+// An agent's set of keys to confirm. This and the three below are one sum each, named as their definitions are: a
+// constant parameter for the place in the block would say no less.
 pub fn zc_at(agent: usize) -> usize
     requires { agent < agent_limit }
     ensures { Standing (zc_at agent) 1 result }
@@ -85,15 +86,26 @@ pub fn residual_at(agent: usize) -> usize
     block_at(agent) + RESIDUAL
 }
 
+// The first word of a key.
+fn key_at(store: Store, key: usize) -> usize
+    requires { Pair store key }
+    ensures { Standing (key_at store key) (key_words store) result }
+{
+    match store {
+        Store::Environment => ENVIRONMENT + PAIR_WORDS * key,
+        Store::Attributes(agent) => block_at(agent) + PAIR_WORDS * key,
+        Store::Entries(agent) => block_at(agent) + ENTRIES + ENTRY_WORDS * key,
+    }
+}
+
 // The word of a key that says whether there is a value.
 pub fn mark_at(store: Store, key: usize) -> usize
     requires { Pair store key }
     ensures { Standing (mark_at store key) 1 result }
 {
     match store {
-        Store::Environment => ENVIRONMENT + PAIR_WORDS * key,
-        Store::Attributes(agent) => block_at(agent) + PAIR_WORDS * key,
-        Store::Entries(agent) => block_at(agent) + ENTRIES + ENTRY_WORDS * key + 1,
+        Store::Entries(_) => key_at(store, key) + 1,
+        _ => key_at(store, key),
     }
 }
 
@@ -103,9 +115,8 @@ pub fn value_at(store: Store, key: usize) -> usize
     ensures { Standing (value_at store key) 1 result }
 {
     match store {
-        Store::Environment => ENVIRONMENT + PAIR_WORDS * key + 1,
-        Store::Attributes(agent) => block_at(agent) + PAIR_WORDS * key + 1,
-        Store::Entries(agent) => block_at(agent) + ENTRIES + ENTRY_WORDS * key,
+        Store::Entries(_) => key_at(store, key),
+        _ => key_at(store, key) + 1,
     }
 }
 
@@ -114,5 +125,5 @@ pub fn writer_at(agent: usize, key: usize) -> usize
     requires { Pair (Entries agent) key }
     ensures { Standing (writer_at agent key) 1 result }
 {
-    block_at(agent) + ENTRIES + ENTRY_WORDS * key + 2
+    key_at(Store::Entries(agent), key) + 2
 }

@@ -1,4 +1,5 @@
-// The state's words: where things stand, and how they are read and changed.
+// The state's words: where things stand, and how they are read and changed. Words come as a slice, agents and keys as
+// numbers: an array of STATE_WORDS, or types with a bound, would ask more of callers than a state that has all blocks.
 #![tactic(auto)]
 
 mod layout; // layout.rt: where things stand
@@ -20,8 +21,8 @@ pub enum Store {
     Entries(usize),
 }
 
-// An agent's entry for a stigmergy key: its value, its stamp, which is 0 where there is none, and the agent that wrote
-// it.
+// An agent's entry for a stigmergy key: its value, its stamp, and the agent that wrote it. Stamp 0, and not an Option, is
+// where there is none: `entry_of` and `newer` in specs/Entries say so.
 #[derive(Clone, Copy)]
 pub struct Entry {
     pub value: u32,

@@ -10,47 +10,42 @@ use table::KEYS;
 use value::Value;
 
 // The value of a key: absent where there is none, or no such key.
+#[tactic(auto, unfolding(crate::specs::Layout::value_in))]
 pub fn value_in(state: &[u32], store: Store, key: usize) -> Value
     requires { HasBlocks state.now × (store_agent store < agent_limit) }
     ensures { result ≡ value_in state.now store key }
 {
-    if KEYS <= key {
-        return None;
-    }
-    let mark = mark_at(store, key);
-    let at = value_at(store, key);
-    if state[mark] == 0 {
-        None
+    if key < KEYS && state[mark_at(store, key)] != 0 {
+        Some(state[value_at(store, key)])
     } else {
-        Some(state[at])
+        None
     }
 }
 
 // A key of a store gets a value and a mark.
+#[tactic(auto, unfolding(crate::specs::Layout::put))]
 pub fn put(state: &mut [u32], store: Store, key: usize, value: u32, mark: u32)
     requires { HasBlocks state.old × Pair store key }
     ensures { state.new ≡ put_in store key value mark state.old }
 {
-    let at = value_at(store, key);
-    let flag = mark_at(store, key);
-    state[at] = value;
-    state[flag] = mark;
+    state[value_at(store, key)] = value;
+    state[mark_at(store, key)] = mark;
 }
 
 // The set of keys at a place gets a key.
+#[tactic(auto, unfolding(crate::specs::Layout::add_key))]
 pub fn add_key(state: &mut [u32], at: usize, key: usize)
     requires { (at < length state.old) × (key < 32) }
     ensures { state.new ≡ add_key at key state.old }
 {
-    let keys = state[at];
-    state[at] = basis::plus(keys, key);
+    state[at] = basis::plus(state[at], key);
 }
 
 // It loses one.
+#[tactic(auto, unfolding(crate::specs::Layout::drop_key))]
 pub fn drop_key(state: &mut [u32], at: usize, key: usize)
     requires { (at < length state.old) × (key < 32) }
     ensures { state.new ≡ drop_key at key state.old }
 {
-    let keys = state[at];
-    state[at] = basis::minus(keys, key);
+    state[at] = basis::minus(state[at], key);
 }
