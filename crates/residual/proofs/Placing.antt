@@ -12,11 +12,10 @@ use Rattle.term.specs.Processes.{Derivation}
 use Rattle.choice.specs.declared.Gap.{Gap}
 use Rattle.choice.specs.declared.Goal.{Goal}
 use Rattle.choice.specs.Writing.{Room, Written}
-use Rattle.choice.specs.Turns.{chosen_at, Reached}
-use Rattle.residual.specs.Moves.{Moved}
-use Rattle.residual.specs.Steps.{Target, goal_of, Choosable, going, Acting, Joining, Stands}
+use Rattle.choice.specs.Turns.{goal_of, chosen_at, Reached}
+use Rattle.residual.specs.Steps.{Target, Choosable, going, Acting, Joining, Stands}
 use Rattle.residual.specs.Wholes.{Placed}
-use Rattle.residual.proofs.Moving.{moved_before, moved_after, moved_part}
+use Rattle.residual.proofs.Moving.{Moved, moved_before, moved_after, moved_part}
 use Rattle.residual.proofs.Places.{past, begins}
 use Rattle.residual.proofs.Standing.{stands_within, part_size, part_before, part_begins}
 
@@ -53,7 +52,7 @@ module _ (t : Table) (goal : List ℕ) (room front : ℕ) (g : Target) (ws : Lis
     pub acts_bound : (front ≤ g.from.at) × (g.from.at + (h.from.at - g.from.at) ≤ length ws) × (g.from.at < h.from.at)
     acts_bound = omega (arith, part_size t T g ws w.stands s.part, spot_within, s.part.place, s.part.some)
 
-    pub spot_acts : (out : List ℕ) → Moved ws g.from.at front front (front + (h.from.at - g.from.at)) out → Spot t goal room (front + (h.from.at - g.from.at)) h out
+    pub spot_acts : (out : List ℕ) → Moved ws g.from.at front (h.from.at - g.from.at) out → Spot t goal room (front + (h.from.at - g.from.at)) h out
     spot_acts out v =
         record {
           long = v.same ∙ w.long;
@@ -98,7 +97,7 @@ module _ (t : Table) (goal : List ℕ) (room front : ℕ) (g : Target) (ws : Lis
     pub joins_bound : (g.from.at < h.from.at) × (h.from.at + after + n ≤ length ws)
     joins_bound = omega (arith, part_size t T g ws w.stands s.part, spot_within, s.part.place, s.part.some, s.size, s.rest)
 
-    pub spot_joins : (out : List ℕ) → Moved ws h.from.at (h.from.at + after) (h.from.at + after) (h.from.at + after + n) out
+    pub spot_joins : (out : List ℕ) → Moved ws h.from.at (h.from.at + after) n out
         → Spot t goal room front (goal_of (record { at = h.from.at + after }) h.mode h.choice) out
     spot_joins out v =
         record {

@@ -7,6 +7,7 @@ use native.Mathlib.Nat.{zero-add}
 use native.Mathlib.Omega.{arith}
 use lib.ListN.{length, take, drop, replicate, length-append, length-drop}
 use lib.Seq.{take-add, length-take-le}
+use Rattle.std.specs.Prelude.{Option, Some, None}
 use Rattle.basis.proofs.Lists.{take_rest}
 use Rattle.table.specs.Tables.{Table, first_root}
 use Rattle.term.specs.declared.Mode.TheVariants.{Any}
@@ -22,15 +23,14 @@ use Rattle.choice.specs.Marking.{WalkMarks}
 use Rattle.choice.proofs.Chosen.{chosen_any}
 use Rattle.choice.proofs.Collecting.{marked_none}
 use Rattle.residual.specs.declared.Measured.{Measured}
-use Rattle.residual.specs.Measures.{Found}
-use Rattle.residual.specs.Moves.{Moved}
+use Rattle.residual.specs.Measures.{Told, ToldIf, Found}
 use Rattle.residual.specs.Steps.{whole_of, going, Stands}
 use Rattle.residual.specs.Wholes.{Whole, residual_term, Taking, Offered, Placed, Rewritten}
-use Rattle.residual.proofs.Moving.{moved_before, moved_part}
+use Rattle.residual.proofs.Moving.{Moved, moved_before, moved_part}
 use Rattle.residual.proofs.Places.{empty, begins}
 use Rattle.residual.proofs.Placing.{Spot}
 use Rattle.residual.proofs.Reporting.{Toward}
-use Rattle.residual.proofs.Stepping.{true_counts_lem}
+use Rattle.residual.proofs.Stepping.{told_true}
 
 -- the residual is the words from a place on
 module _ (t : Table) (s : List ℕ) (ready : Prepared t s) (at : ℕ) (ws : List ℕ) (all : Whole t (drop at ws)) where
@@ -47,14 +47,17 @@ module _ (t : Table) (s : List ℕ) (ready : Prepared t s) (at : ℕ) (ws : List
   there = sym (append-nil (words T) ∙ read.1)
 
   -- what is found of it
-  pub offered : {roots : ℕ} → first_root t ≡ roots → (r : Measured) → Found roots s ws at r → (n : ℕ) → n ≡ total_of Any r.counts
-      → Offered t (residual_term (drop at ws)) (record { few = r.few; count = n })
-  offered e r f n d =
-      let w = f.right t e ready.counted T [] read.0 there in
-      record {
-        few = w.few;
-        count = λ g. d ∙ ap (total_of Any) (true_counts_lem t T g r at w) ∙ sym (length_derivations (process t T));
-      }
+  found_there : {roots : ℕ} → first_root t ≡ roots → (r : Option Measured) → Found roots s ws at r → ToldIf t (residual_term (drop at ws)) at r
+  found_there e r f = f.right t e ready.counted T [] read.0 there
+
+  pub offered_none : {roots : ℕ} → first_root t ≡ roots → Found roots s ws at None → Offered t (residual_term (drop at ws)) None
+  offered_none e f = found_there e None f
+
+  pub offered_some : {roots : ℕ} → first_root t ≡ roots → (m : Measured) → Found roots s ws at (Some m) → (n : ℕ) → n ≡ total_of Any m.counts
+      → Offered t (residual_term (drop at ws)) (Some n)
+  offered_some e m f n d =
+      let w : Told t T at m = found_there e (Some m) f in
+      record { few = w.few; count = d ∙ ap (total_of Any) (told_true t T at m w) ∙ sym (length_derivations (process t T)) }
 
   module _ (c : ℕ) (k : Taking t (residual_term (drop at ws)) c) where
     stands_whole : Stands t (residual_term (drop at ws)) (whole_of at c) ws
@@ -96,7 +99,7 @@ module _ (t : Table) (s : List ℕ) (ready : Prepared t s) (at : ℕ) (ws : List
         }
 
 -- it has been moved up to the end of the words
-pub moved_up : (size : ℕ) (ws vs : List ℕ) → size ≤ length ws → Moved ws 0 (length ws - size) (length ws - size) (length ws - size + size) vs → drop (length ws - size) vs ≡ take size ws
+pub moved_up : (size : ℕ) (ws vs : List ℕ) → size ≤ length ws → Moved ws 0 (length ws - size) size vs → drop (length ws - size) vs ≡ take size ws
 moved_up size ws vs h m =
     let e : length vs - (length ws - size) ≡ size = omega (arith, m.same) in
     sym (take_rest vs (length ws - size)) ∙ ap (λ (n : ℕ). take n (drop (length ws - size) vs)) e ∙
@@ -111,7 +114,7 @@ module _ (goal out : List ℕ) (gap : Gap) (room : ℕ) (w : Placed goal room ga
       let e = sym (ap length w.words) ∙ length-append (take gap.front out) (drop gap.back out) in
       omega (arith, w.same)
 
-  pub rewritten : (ws : List ℕ) → room ≡ length ws → (n : ℕ) → n ≡ room - gap.back → (two : List ℕ) → Moved out gap.back gap.front gap.front (gap.front + n) two
+  pub rewritten : (ws : List ℕ) → room ≡ length ws → (n : ℕ) → n ≡ room - gap.back → (two : List ℕ) → Moved out gap.back gap.front n two
       → (three : List ℕ) → three ≡ take (gap.front + n) two ++ replicate (length two - (gap.front + n)) 0 → Rewritten goal ws (gap.front + n) three
   rewritten ws l n e two m three f = record { size = omega (arith, goal_size); words = f ∙ ap₂ (λ (x : List ℕ) (y : ℕ). x ++ replicate y 0) front zeros }
     where

@@ -6,6 +6,7 @@ use mathlib.Core.Path.{◌≡◌, refl, sym, ap, ap₂, ◌∙◌}
 use mathlib.Core.List.{List, [], ◌∷◌, ◌++◌, append-nil}
 use native.Mathlib.Omega.{arith}
 use lib.ListN.{length}
+use Rattle.std.specs.Prelude.{Some, None}
 use borrow.Author.Tests.{leb-true}
 use Rattle.basis.proofs.Tests.{not_both, and_left, and_right}
 use Rattle.table.specs.Tables.{Table, first_root}
@@ -32,10 +33,10 @@ use Rattle.residual.specs.declared.Measured.{Measured}
 use Rattle.residual.specs.declared.Step.TheVariants.{Ticked, Leaf}
 use Rattle.residual.specs.Reading.{read_at}
 use Rattle.residual.specs.Measures.{Found, Told}
-use Rattle.residual.specs.Steps.{Target, beside_of, goal_of, pick_step, Choosable, going, Part, Stepped, Stands}
-use Rattle.residual.proofs.Places.{first, word_is, node_plain}
+use Rattle.residual.specs.Steps.{Target, beside_of, pick_step, Choosable, going, Part, Stepped, Stands}
+use Rattle.residual.proofs.Places.{first, others, word_is, node_plain}
 use Rattle.residual.proofs.Whole.{read_word}
-use Rattle.residual.proofs.Measures.{held_true, told_halves}
+use Rattle.residual.proofs.Measures.{held_true, told_left, told_right}
 
 module _ (t : Table) where
   -- few derivations of every subterm, and so of the term
@@ -47,9 +48,9 @@ module _ (t : Table) where
   few_term Idle e = refl
   few_term (Node n) e = e
 
-  pub true_counts_lem : (T : Term) → all_few t T ≡ true → (r : Measured) (at : ℕ) → Told t T at r → r.counts ≡ true_counts (process t T)
-  true_counts_lem T e r at w =
-      w.counts ∙ held_true (process t T) (leb-true (action_count (process t T) + tick_count (process t T)) 65535 (sym (few_count (process t T)) ∙ few_term T e))
+  pub told_true : (T : Term) (at : ℕ) (m : Measured) → Told t T at m → m.counts ≡ true_counts (process t T)
+  told_true T at m w =
+      w.counts ∙ held_true (process t T) (leb-true (action_count (process t T) + tick_count (process t T)) 65535 (sym (few_count (process t T)) ∙ few_term T w.few))
 
   halves_few : (p q : Term) (b : Bool) → (b && (all_few t p && all_few t q)) ≡ true → (all_few t p ≡ true) × (all_few t q ≡ true)
   halves_few p q b e =
@@ -111,6 +112,10 @@ module _ (t : Table) (T p q : Term) (g : Target) (w : ℕ) (left right end : Cur
   by_par f (RightTicks j i) (h, k, u) =
       record { term = p; part = left_part g.mode i k; size = omega arith; rest = omega arith; ticking = q; tick = right_part Ticks j h; around = around_under d _ _ u }
 
+-- where nothing is found stands no term with a choice
+pub none_stands : (t : Table) {roots : ℕ} {s ws : List ℕ} {g : Target} → first_root t ≡ roots → Counted t s → Found roots s ws g.from.at None → (T : Term) → Stands t T g ws → ⊥
+none_stands t same counted f T st = not_both st.choosable.few (f.right t same counted T _ st.choosable.over st.begins)
+
 -- the steps as the code finds them
 module _ (t : Table) (roots : ℕ) (small : roots ≤ 4096) (s ws : List ℕ) (g : Target) (same : first_root t ≡ roots) (counted : Counted t s)
     (w : ℕ) (next : Cursor) (read : read_at ws g.from.at ≡ Some (w, next)) (T : Term) (stands : Stands t T g ws) where
@@ -126,7 +131,7 @@ module _ (t : Table) (roots : ℕ) (small : roots ≤ 4096) (s ws : List ℕ) (g
   word : w ≡ first T
   word = (read_word ws at w next read).1 ∙ word_is ws at T _ stands.begins
 
-  pub on_operator : is_operator w ≡ true → (a b : Measured) → Found roots s ws next.at a → Found roots s ws a.next.at b
+  pub on_operator : is_operator w ≡ true → (a b : Measured) → Found roots s ws next.at (Some a) → Found roots s ws a.next.at (Some b)
       → (x : Pick) → x ≡ pick_of g.mode g.choice (beside_of w g.mode b.counts) a.counts b.counts → Stepped t T g (pick_step g.mode next a.next b.next x)
   unfolding beside_of process words all_few
   on_operator e a b left right x f = by T stands word
@@ -134,26 +139,27 @@ module _ (t : Table) (roots : ℕ) (small : roots ≤ 4096) (s ws : List ℕ) (g
       place : next.at ≡ at + 1
       place = (read_word ws at w next read).2
 
-      l : Found roots s ws (at + 1) a
-      l = rw place at left
+      -- what is told of the parts
+      told : (T p q : Term) → others T ≡ words p ++ words q → Over t p × Over t q → Stands t T g ws → Told t p (at + 1) a × Told t q a.next.at b
+      told T p q o over st =
+          let l : Told t p (at + 1) a = told_left t same counted ws at T p q _ o over st.begins (Some a) (rw place at left) in
+          (l, told_right t same counted ws at T p q _ o over st.begins a (Some b) l right)
 
       by : (T : Term) → Stands t T g ws → w ≡ first T → Stepped t T g (pick_step m next a.next b.next x)
       by (Seq p q) st v =
           let k = st.choosable in
-          let h = told_halves t same counted ws at a b l right (Seq p q) p q _ refl k.over st.begins in
-          let n = halves_few t p q (few (process t (Seq p q))) k.few in
+          let h = told (Seq p q) p q refl k.over st in
           let y : x ≡ pick_of m c 0 (true_counts (process t p)) (true_counts (process t q)) =
           f ∙ ap (λ (u : ℕ). pick_of m c (beside_of u m b.counts) a.counts b.counts) v ∙
-          ap₂ (pick_of m c 0) (true_counts_lem t p n.0 a (at + 1) h.0) (true_counts_lem t q n.1 b a.next.at h.1) in
+          ap₂ (pick_of m c 0) (told_true t p (at + 1) a h.0) (told_true t q a.next.at b h.1) in
           by_seq t (Seq p q) p q g w next a.next b.next (ap (λ (u : ℕ). u ∷ (words p ++ words q)) (sym v)) k.over k.few place h.0.next h.1.next v x
           (rw y (seq_picked m (process t p) (process t q) q c k.choice))
       by (Par p q) st v =
           let k = st.choosable in
-          let h = told_halves t same counted ws at a b l right (Par p q) p q _ refl k.over st.begins in
-          let n = halves_few t p q (few (process t (Par p q))) k.few in
+          let h = told (Par p q) p q refl k.over st in
           let y : x ≡ pick_of m c (actions_of m (process t q)) (true_counts (process t p)) (true_counts (process t q)) =
           f ∙ ap (λ (u : ℕ). pick_of m c (beside_of u m b.counts) a.counts b.counts) v ∙
-          ap₂ (λ (P Q : Counts). pick_of m c (acting_of m Q) P Q) (true_counts_lem t p n.0 a (at + 1) h.0) (true_counts_lem t q n.1 b a.next.at h.1) ∙
+          ap₂ (λ (P Q : Counts). pick_of m c (acting_of m Q) P Q) (told_true t p (at + 1) a h.0) (told_true t q a.next.at b h.1) ∙
           ap (λ (u : ℕ). pick_of m c u (true_counts (process t p)) (true_counts (process t q))) (acting_true m (process t q)) in
           by_par t (Par p q) p q g w next a.next b.next (ap (λ (u : ℕ). u ∷ (words p ++ words q)) (sym v)) k.over k.few place h.0.next h.1.next v x
           (rw y (par_picked m (process t p) p (process t q) q c k.choice))

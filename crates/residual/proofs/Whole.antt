@@ -9,7 +9,7 @@ use native.Mathlib.Omega.{arith}
 use lib.Dec.{eqb, ltb}
 use lib.ListN.{length, get_or, drop, length-drop}
 use lib.Seq.{drop-cons}
-use Rattle.std.specs.Prelude.{Some, None}
+use Rattle.std.specs.Prelude.{Option, Some, None}
 use Rattle.std.proofs.lemmas.Option.{cond_some, none-some}
 use borrow.Author.Tests.{ltb-true, ltb-false, ne_eqb}
 use Rattle.table.specs.Tables.{Table, first_root}
@@ -29,7 +29,7 @@ module _ (ws : List ℕ) (at : ℕ) where
   pub read_end : read_at ws at ≡ None → length ws ≤ at
   read_end e = by (ltb at (length ws)) refl e
     where
-      by : (b : Bool) → ltb at (length ws) ≡ b → cond b (Some (get_or ws at 0, record { at = at + 1 })) None ≡ None → length ws ≤ at
+      by : (b : Bool) → ltb at (length ws) ≡ b → cond {A = Option (ℕ × Cursor)} b (Some (get_or ws at 0, record { at = at + 1 })) None ≡ None → length ws ≤ at
       by true h f = absurd (none-some _ (sym f))
       by false h f = ltb-false at (length ws) h
 

@@ -46,7 +46,8 @@ pub fn place(accepted: &Accepted, words: &mut [u32], at: usize, c: u64) -> Gap
                 let next = part.from.at;
                 let to = next + after;
                 words.copy_within(next..next + size, to);
-                target = Goal::new(Cursor { at: to }, part.mode, part.choice);
+                let from = Cursor { at: to };
+                target = Goal { from, ..part };
             }
         }
     }
