@@ -82,3 +82,7 @@ module _ (limit : ℕ) (test : ℕ → Bool) where
   pub line_refuses : (number x : ℕ) → x < limit → x ≡ lowest test limit → refuses number x ≡ first_of (refuse_at number limit (lowest test limit) ∷ [])
   line_refuses number x h e =
       ap (refuses number) e ∙ sym (first_refuses (refuse_at number limit (lowest test limit)) [] (lt-ltb (lowest test limit) limit (omega arith)))
+
+  -- what a line that passes leaves
+  pub line_none : (number : ℕ) → first_of (refuse_at number limit (lowest test limit) ∷ []) ≡ passes → (k : ℕ) → k < limit → test k ≡ false
+  line_none number e = lowest_passes (first_passes (refuse_at number limit (lowest test limit)) [] e).0

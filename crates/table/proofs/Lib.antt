@@ -1,5 +1,6 @@
 pub mod Checks
 pub mod Conditions
+pub mod Refusing
 pub mod Rows
 pub mod Fitting
 pub mod Rules
