@@ -5,14 +5,11 @@ use mathlib.Core.Path.{◌≡◌, refl, sym, ap, subst, ◌∙◌}
 use mathlib.Core.List.{List, [], ◌∷◌, ◌++◌, append_assoc}
 use native.Mathlib.Omega.{arith}
 use lib.ListN.{length, take, drop, length-append, length-drop}
-use lib.Seq.{take_at, drop_at, drop-drop, length-take-le, paste, paste-zero, take-length}
+use lib.Seq.{take_at, drop_at, drop-drop, length-take-le, paste-zero}
 use Rattle.lines.specs.Text.{spaced, line}
-use Rattle.lines.specs.Writing.{Room, Wrote}
+use Rattle.lines.specs.Writing.{Wrote}
 
 -- of an equal text
-pub room_same : {t u : List ℕ} {at : ℕ} {out : List ℕ} → t ≡ u → Room t at out → Room u at out
-room_same {at = at} {out = out} e f = subst (λ (s : List ℕ). Room s at out) e f
-
 pub wrote_same : {t u : List ℕ} {at : ℕ} {was out : List ℕ} {r : ℕ} → t ≡ u → Wrote t at was out r → Wrote u at was out r
 wrote_same {at = at} {was = was} {out = out} {r = r} e w = subst (λ (s : List ℕ). Wrote s at was out r) e w
 
@@ -62,12 +59,6 @@ module _ {t u : List ℕ} {at : ℕ} {was mid out : List ℕ} {m r : ℕ} (v : W
         ∙ ap (λ (l : List ℕ). take at was ++ t ++ u ++ l) after
         ∙ ap (λ (l : List ℕ). l ++ drop (at + length (t ++ u)) was) (append_assoc (take at was) t u);
   }
-
--- a whole list, copied
-pub wrote_all : {at : ℕ} {was out : List ℕ} (text : List ℕ) {n : ℕ} → Room text at was → length text ≤ n → n ≤ length text → out ≡ paste was at text n → Wrote text at was out (at + n)
-wrote_all {at} {was} text {n} f h l e =
-    let k : n ≡ length text = omega arith in
-    record { room = f; ends = ap (λ (m : ℕ). at + m) k; is = e ∙ ap (λ (m : ℕ). paste was at text m) k ∙ ap (λ (s : List ℕ). take at was ++ s ++ drop (at + length text) was) (take-length text) }
 
 -- how long a line is: each part has a space before it, and there is a newline
 abbrev pub sizes : List (List ℕ) → ℕ

@@ -2,3 +2,4 @@ pub mod Text
 pub mod Lines
 pub mod Sizes
 pub mod Writing
+pub mod Pages

@@ -1,46 +1,43 @@
 // The lines of agents and of a state.
+#![tactic(auto, using(crate::proofs::Parts::joined), unfolding(crate::proofs::Parts::states))]
+
 ghost use Rattle.std.specs.Prelude.{◌<◌, ◌≤◌};
 ghost use Rattle.table.specs.Tables.{agent_limit};
 ghost use Rattle.state.specs.Standing.{HasBlocks};
 ghost use Rattle.lines.specs.Text.{each_below};
 ghost use Rattle.lines.specs.Lines.{agent_lines, state_lines};
-ghost use Rattle.lines.specs.Writing.{Room, Wrote, Fleet};
+ghost use Rattle.lines.specs.Writing.{Fleet};
+ghost use Rattle.lines.specs.Pages.{HasRoom, Writes};
 
+use crate::page::Page;
 use crate::rows::clock_line;
 use crate::stores::{pending_lines, store_lines};
 use state::{AGENTS, Store, clock_of, zc_at, zp_at};
 
-fn agent_lines(state: &[u32], agent: usize, out: &mut [u8], at: usize) -> usize
-    requires { HasBlocks state.now × (agent < agent_limit) × Room (agent_lines state.now agent) at out.old }
-    ensures { Wrote (agent_lines state.now agent) at out.old out.new result }
+fn agent_lines(page: &mut Page, state: &[u32], agent: usize)
+    requires { HasBlocks state.now × (agent < agent_limit) × HasRoom (agent_lines state.now agent) page.old }
+    ensures { Writes (agent_lines state.now agent) page.old page.new }
 {
-    let zc = state[zc_at(agent)];
-    let zp = state[zp_at(agent)];
-    let next = store_lines(state, Store::Attributes(agent), out, at);
-    let next = store_lines(state, Store::Entries(agent), out, next);
-    let next = pending_lines(b"c", agent, zc, out, next);
-    pending_lines(b"p", agent, zp, out, next)
+    store_lines(page, state, Store::Attributes(agent));
+    store_lines(page, state, Store::Entries(agent));
+    pending_lines(page, b"c", agent, state[zc_at(agent)]);
+    pending_lines(page, b"p", agent, state[zp_at(agent)]);
 }
 
-fn fleet_lines(state: &[u32], agents: usize, out: &mut [u8], at: usize) -> usize
-    requires { HasBlocks state.now × (agents ≤ agent_limit) × Room (each_below (agent_lines state.now) agents) at out.old }
-    ensures { Wrote (each_below (agent_lines state.now) agents) at out.old out.new result }
+fn fleet_lines(page: &mut Page, state: &[u32], agents: usize)
+    requires { HasBlocks state.now × (agents ≤ agent_limit) × HasRoom (each_below (agent_lines state.now) agents) page.old }
+    ensures { Writes (each_below (agent_lines state.now) agents) page.old page.new }
 {
-    let mut next = at;
-    let mut agent = 0;
-    while agent < agents {
-        next = agent_lines(state, agent, out, next);
-        agent += 1;
+    for agent in 0..agents {
+        agent_lines(page, state, agent);
     }
-    next
 }
 
-pub fn state_lines(state: &[u32], out: &mut [u8], at: usize) -> usize
-    requires { Fleet state.now × Room (state_lines state.now) at out.old }
-    ensures { Wrote (state_lines state.now) at out.old out.new result }
+pub fn state_lines(page: &mut Page, state: &[u32])
+    requires { Fleet state.now × HasRoom (state_lines state.now) page.old }
+    ensures { Writes (state_lines state.now) page.old page.new }
 {
-    let agents = state[AGENTS] as usize;
-    let next = clock_line(clock_of(state), out, at);
-    let next = store_lines(state, Store::Environment, out, next);
-    fleet_lines(state, agents, out, next)
+    clock_line(page, clock_of(state));
+    store_lines(page, state, Store::Environment);
+    fleet_lines(page, state, state[AGENTS] as usize);
 }

@@ -1,7 +1,7 @@
 // What labs_show prints, rendered into a lent buffer: a line for each total, value, entry and pending key.
 #![tactic(auto)]
 
-mod text; // text.rt: bytes, numbers, the end of a line
+mod page; // page.rt: a lent buffer; bytes, numbers, the end of a line
 mod rows; // rows.rt: a line of each kind
 mod stores; // stores.rt: the lines of a store's values and of pending keys
 mod fleet; // fleet.rt: the lines of agents and of a state
@@ -10,6 +10,7 @@ ghost use Rattle.std.specs.Prelude.{◌≡◌, length};
 ghost use Rattle.lines.specs.Sizes.{shown_bytes};
 
 pub use fleet::state_lines;
+pub use page::Page;
 pub use rows::{refused_line, totals_line};
 
 const SHOWN_BYTES: usize = 73210;

@@ -1,86 +1,88 @@
-// A line of each kind. Each function answers the place after it.
+// A line of each kind.
+#![tactic(auto, using(crate::proofs::Parts::sizes), unfolding(crate::proofs::Parts::texts))]
+
 ghost use Rattle.lines.specs.Text.{spaced};
 ghost use Rattle.lines.specs.Lines.{tally_parts, totals_line, refused_line, clock_line, environment_line, attribute_line, entry_line, pending_line};
-ghost use Rattle.lines.specs.Writing.{Room, Wrote};
+ghost use Rattle.lines.specs.Pages.{HasRoom, Writes};
 
-use crate::text::{end_line, put_named, put_number, put_value};
+use crate::page::Page;
 use machine::{Totals, taken};
 use state::Entry;
 use steps::Tally;
 
 // The end of the first line: how often an entry was taken, added and replaced.
-fn tally_end(tally: Tally, out: &mut [u8], at: usize) -> usize
-    requires { Room (spaced (tally_parts tally)) at out.old }
-    ensures { Wrote (spaced (tally_parts tally)) at out.old out.new result }
+fn tally_end(page: &mut Page, tally: Tally)
+    requires { HasRoom (spaced (tally_parts tally)) page.old }
+    ensures { Writes (spaced (tally_parts tally)) page.old page.new }
 {
-    let next = put_named(b" taken", taken(tally), out, at);
-    let next = put_named(b" added", tally.added as usize, out, next);
-    let next = put_named(b" replaced", tally.replaced as usize, out, next);
-    end_line(out, next)
+    page.named(b" taken", taken(tally));
+    page.named(b" added", tally.added as usize);
+    page.named(b" replaced", tally.replaced as usize);
+    page.end_line();
 }
 
-pub fn totals_line(totals: Totals, out: &mut [u8], at: usize) -> usize
-    requires { Room (totals_line totals) at out.old }
-    ensures { Wrote (totals_line totals) at out.old out.new result }
+pub fn totals_line(page: &mut Page, totals: Totals)
+    requires { HasRoom (totals_line totals) page.old }
+    ensures { Writes (totals_line totals) page.old page.new }
 {
-    let next = put_named(b"done", totals.done as usize, out, at);
-    let next = put_named(b" refused", totals.refused as usize, out, next);
-    tally_end(totals.tally, out, next)
+    page.named(b"done", totals.done as usize);
+    page.named(b" refused", totals.refused as usize);
+    tally_end(page, totals.tally);
 }
 
-pub fn refused_line(number: u8, place: usize, out: &mut [u8], at: usize) -> usize
-    requires { Room (refused_line number place) at out.old }
-    ensures { Wrote (refused_line number place) at out.old out.new result }
+pub fn refused_line(page: &mut Page, number: u8, place: usize)
+    requires { HasRoom (refused_line number place) page.old }
+    ensures { Writes (refused_line number place) page.old page.new }
 {
-    let next = put_named(b"refused", number as usize, out, at);
-    let next = put_number(place, out, next);
-    end_line(out, next)
+    page.named(b"refused", usize::from(number));
+    page.number(place);
+    page.end_line();
 }
 
-pub fn clock_line(clock: u32, out: &mut [u8], at: usize) -> usize
-    requires { Room (clock_line clock) at out.old }
-    ensures { Wrote (clock_line clock) at out.old out.new result }
+pub fn clock_line(page: &mut Page, clock: u32)
+    requires { HasRoom (clock_line clock) page.old }
+    ensures { Writes (clock_line clock) page.old page.new }
 {
-    let next = put_named(b"clock", clock as usize, out, at);
-    end_line(out, next)
+    page.named(b"clock", clock as usize);
+    page.end_line();
 }
 
-pub fn environment_line(key: usize, word: u32, out: &mut [u8], at: usize) -> usize
-    requires { Room (environment_line key word) at out.old }
-    ensures { Wrote (environment_line key word) at out.old out.new result }
+pub fn environment_line(page: &mut Page, key: usize, word: u32)
+    requires { HasRoom (environment_line key word) page.old }
+    ensures { Writes (environment_line key word) page.old page.new }
 {
-    let next = put_named(b"e", key, out, at);
-    let next = put_value(word, out, next);
-    end_line(out, next)
+    page.named(b"e", key);
+    page.value(word);
+    page.end_line();
 }
 
-pub fn attribute_line(agent: usize, key: usize, word: u32, out: &mut [u8], at: usize) -> usize
-    requires { Room (attribute_line agent key word) at out.old }
-    ensures { Wrote (attribute_line agent key word) at out.old out.new result }
+pub fn attribute_line(page: &mut Page, agent: usize, key: usize, word: u32)
+    requires { HasRoom (attribute_line agent key word) page.old }
+    ensures { Writes (attribute_line agent key word) page.old page.new }
 {
-    let next = put_named(b"a", agent, out, at);
-    let next = put_number(key, out, next);
-    let next = put_value(word, out, next);
-    end_line(out, next)
+    page.named(b"a", agent);
+    page.number(key);
+    page.value(word);
+    page.end_line();
 }
 
-pub fn entry_line(agent: usize, key: usize, entry: Entry, out: &mut [u8], at: usize) -> usize
-    requires { Room (entry_line agent key entry) at out.old }
-    ensures { Wrote (entry_line agent key entry) at out.old out.new result }
+pub fn entry_line(page: &mut Page, agent: usize, key: usize, entry: Entry)
+    requires { HasRoom (entry_line agent key entry) page.old }
+    ensures { Writes (entry_line agent key entry) page.old page.new }
 {
-    let next = put_named(b"s", agent, out, at);
-    let next = put_number(key, out, next);
-    let next = put_value(entry.value, out, next);
-    let next = put_number(entry.stamp as usize, out, next);
-    let next = put_number(entry.writer as usize, out, next);
-    end_line(out, next)
+    page.named(b"s", agent);
+    page.number(key);
+    page.value(entry.value);
+    page.number(entry.stamp as usize);
+    page.number(entry.writer as usize);
+    page.end_line();
 }
 
-pub fn pending_line(name: &[u8], agent: usize, key: usize, out: &mut [u8], at: usize) -> usize
-    requires { Room (pending_line name.now agent key) at out.old }
-    ensures { Wrote (pending_line name.now agent key) at out.old out.new result }
+pub fn pending_line(page: &mut Page, name: &[u8], agent: usize, key: usize)
+    requires { HasRoom (pending_line name.now agent key) page.old }
+    ensures { Writes (pending_line name.now agent key) page.old page.new }
 {
-    let next = put_named(name, agent, out, at);
-    let next = put_number(key, out, next);
-    end_line(out, next)
+    page.named(name, agent);
+    page.number(key);
+    page.end_line();
 }

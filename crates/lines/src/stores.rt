@@ -1,83 +1,63 @@
 // The lines of a store's values that are present, and of an agent's pending keys.
+#![tactic(auto, using(crate::proofs::Pages::writes_nothing), unfolding(crate::proofs::Parts::members))]
+
 ghost use Rattle.std.specs.Prelude.{◌<◌};
 ghost use Rattle.table.specs.Tables.{agent_limit, key_limit};
 ghost use Rattle.state.specs.Standing.{Pair, HasBlocks, store_agent};
 ghost use Rattle.lines.specs.Lines.{value_line, key_line, store_lines, member_line, pending_lines};
-ghost use Rattle.lines.specs.Writing.{Room, Wrote};
+ghost use Rattle.lines.specs.Pages.{HasRoom, Writes};
 
+use crate::page::Page;
 use crate::rows::{attribute_line, entry_line, environment_line, pending_line};
 use state::{Store, entry_of, value_in};
 use table::KEYS;
-use value::Value;
 
 // The line of a value.
-fn value_line(
-    state: &[u32],
-    store: Store,
-    key: usize,
-    word: u32,
-    out: &mut [u8],
-    at: usize,
-) -> usize
-    requires { HasBlocks state.now × Pair store key × Room (value_line state.now store key word) at out.old }
-    ensures { Wrote (value_line state.now store key word) at out.old out.new result }
+fn value_line(page: &mut Page, state: &[u32], store: Store, key: usize, word: u32)
+    requires { HasBlocks state.now × Pair store key × HasRoom (value_line state.now store key word) page.old }
+    ensures { Writes (value_line state.now store key word) page.old page.new }
 {
     match store {
-        Store::Environment => environment_line(key, word, out, at),
-        Store::Attributes(agent) => attribute_line(agent, key, word, out, at),
-        Store::Entries(agent) => {
-            let entry = entry_of(state, agent, key);
-            entry_line(agent, key, entry, out, at)
-        }
+        Store::Environment => environment_line(page, key, word),
+        Store::Attributes(agent) => attribute_line(page, agent, key, word),
+        Store::Entries(agent) => entry_line(page, agent, key, entry_of(state, agent, key)),
     }
 }
 
 // The line of a key that is present.
-fn key_line(state: &[u32], store: Store, key: usize, out: &mut [u8], at: usize) -> usize
-    requires { HasBlocks state.now × Pair store key × Room (key_line state.now store key) at out.old }
-    ensures { Wrote (key_line state.now store key) at out.old out.new result }
+fn key_line(page: &mut Page, state: &[u32], store: Store, key: usize)
+    requires { HasBlocks state.now × Pair store key × HasRoom (key_line state.now store key) page.old }
+    ensures { Writes (key_line state.now store key) page.old page.new }
 {
-    let value = value_in(state, store, key);
-    match value {
-        Some(word) => value_line(state, store, key, word, out, at),
-        None => at,
+    if let Some(word) = value_in(state, store, key) {
+        value_line(page, state, store, key, word);
     }
 }
 
-pub fn store_lines(state: &[u32], store: Store, out: &mut [u8], at: usize) -> usize
-    requires { HasBlocks state.now × (store_agent store < agent_limit) × Room (store_lines state.now store) at out.old }
-    ensures { Wrote (store_lines state.now store) at out.old out.new result }
+pub fn store_lines(page: &mut Page, state: &[u32], store: Store)
+    requires { HasBlocks state.now × (store_agent store < agent_limit) × HasRoom (store_lines state.now store) page.old }
+    ensures { Writes (store_lines state.now store) page.old page.new }
 {
-    let mut next = at;
-    let mut key = 0;
-    while key < KEYS {
-        next = key_line(state, store, key, out, next);
-        key += 1;
+    for key in 0..KEYS {
+        key_line(page, state, store, key);
     }
-    next
 }
 
 // The line of a key that a set has.
-fn member_line(name: &[u8], agent: usize, keys: u32, key: usize, out: &mut [u8], at: usize) -> usize
-    requires { (key < key_limit) × Room (member_line name.now agent keys key) at out.old }
-    ensures { Wrote (member_line name.now agent keys key) at out.old out.new result }
+fn member_line(page: &mut Page, name: &[u8], agent: usize, keys: u32, key: usize)
+    requires { (key < key_limit) × HasRoom (member_line name.now agent keys key) page.old }
+    ensures { Writes (member_line name.now agent keys key) page.old page.new }
 {
     if basis::has(keys, key) {
-        pending_line(name, agent, key, out, at)
-    } else {
-        at
+        pending_line(page, name, agent, key);
     }
 }
 
-pub fn pending_lines(name: &[u8], agent: usize, keys: u32, out: &mut [u8], at: usize) -> usize
-    requires { Room (pending_lines name.now agent keys) at out.old }
-    ensures { Wrote (pending_lines name.now agent keys) at out.old out.new result }
+pub fn pending_lines(page: &mut Page, name: &[u8], agent: usize, keys: u32)
+    requires { HasRoom (pending_lines name.now agent keys) page.old }
+    ensures { Writes (pending_lines name.now agent keys) page.old page.new }
 {
-    let mut next = at;
-    let mut key = 0;
-    while key < KEYS {
-        next = member_line(name, agent, keys, key, out, next);
-        key += 1;
+    for key in 0..KEYS {
+        member_line(page, name, agent, keys, key);
     }
-    next
 }

@@ -1,38 +1,11 @@
 -- `lines::rows::entry_line` meets its contract.
 -- Assumes nothing.
-use native.Mathlib.Omega.{arith}
-use Rattle.lines.specs.Text.{line, spaced}
-use Rattle.lines.specs.Lines.{entry_line}
-use Rattle.lines.proofs.Writing.{wrote_then, line_size}
+use Rattle.lines.proofs.Parts.{texts}
+use Rattle.lines.proofs.Pages.{writes_then}
 use Rattle.lines.proofs.rows.entry_line.Goals as goal
 
-pub put_named-next-requires : goal.put_named-next-requires
-unfolding entry_line
-put_named-next-requires c = let h = simp line_size at c.requires.fits in omega arith
-
-pub put_number-next-requires : goal.put_number-next-requires
-unfolding entry_line
-put_number-next-requires c = let h = simp line_size at c.requires.fits in omega arith
-
-pub put_value-next-requires : goal.put_value-next-requires
-unfolding entry_line
-put_value-next-requires c = let h = simp line_size at c.requires.fits in omega arith
-
-pub put_number-next-requires-2 : goal.put_number-next-requires-2
-unfolding entry_line
-put_number-next-requires-2 c = let h = simp line_size at c.requires.fits in omega arith
-
-pub put_number-next-requires-3 : goal.put_number-next-requires-3
-unfolding entry_line
-put_number-next-requires-3 c = let h = simp line_size at c.requires.fits in omega arith
-
-pub end_line-requires : goal.end_line-requires
-unfolding entry_line
-end_line-requires c = let h = simp line_size at c.requires.fits in omega arith
-
 pub returns : goal.returns
-unfolding entry_line line spaced
+unfolding texts
 returns c =
-    wrote_then c.put_named-next.ensures (wrote_then c.put_number-next.ensures (wrote_then c.put_value-next.ensures
-    (wrote_then c.put_number-next-2.ensures (wrote_then c.put_number-next-3.ensures
-    c.end_line.ensures))))
+    writes_then c.named.ensures (writes_then c.number.ensures (writes_then c.value.ensures
+    (writes_then c.number-2.ensures (writes_then c.number-3.ensures c.end_line.ensures))))

@@ -1,24 +1,9 @@
 -- `lines::rows::environment_line` meets its contract.
 -- Assumes nothing.
-use native.Mathlib.Omega.{arith}
-use Rattle.lines.specs.Text.{line, spaced}
-use Rattle.lines.specs.Lines.{environment_line}
-use Rattle.lines.proofs.Writing.{wrote_then, line_size}
+use Rattle.lines.proofs.Parts.{texts}
+use Rattle.lines.proofs.Pages.{writes_then}
 use Rattle.lines.proofs.rows.environment_line.Goals as goal
 
-pub put_named-next-requires : goal.put_named-next-requires
-unfolding environment_line
-put_named-next-requires c = let h = simp line_size at c.requires.fits in omega arith
-
-pub put_value-next-requires : goal.put_value-next-requires
-unfolding environment_line
-put_value-next-requires c = let h = simp line_size at c.requires.fits in omega arith
-
-pub end_line-requires : goal.end_line-requires
-unfolding environment_line
-end_line-requires c = let h = simp line_size at c.requires.fits in omega arith
-
 pub returns : goal.returns
-unfolding environment_line line spaced
-returns c =
-    wrote_then c.put_named-next.ensures (wrote_then c.put_value-next.ensures c.end_line.ensures)
+unfolding texts
+returns c = writes_then c.named.ensures (writes_then c.value.ensures c.end_line.ensures)

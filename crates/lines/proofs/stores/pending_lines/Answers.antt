@@ -1,22 +1,14 @@
 -- `lines::stores::pending_lines` meets its contract: the lines of the keys below the loop's have been written.
 -- Assumes nothing.
-use Prim.Native.Nat.{◌-◌}
-use Rattle.lines.proofs.Writing.{wrote_length}
-use Rattle.lines.proofs.Each.{each_none, each_room, each_more, each_all}
 use borrow.Author.Rules.{rules}
+use Rattle.lines.proofs.Each.{each_none, each_room, each_more}
 use Rattle.lines.proofs.stores.pending_lines.Goals as goal
 
 pub loop-key-init : goal.loop-key-init
-loop-key-init c = each_none c.requires
+loop-key-init c = each_none _ _ c.requires
 
-pub member_line-next-requires : goal.member_line-next-requires
-member_line-next-requires c = (search rules, each_room c.loop-key.invariant (search rules))
+pub member_line-requires : goal.member_line-requires
+member_line-requires c = (search rules, each_room _ _ _ c.requires c.loop-key.invariant (search rules))
 
 pub loop-key-preserved : goal.loop-key-preserved
-loop-key-preserved c = each_more c.loop-key.invariant (search rules) c.member_line-next.ensures
-
-pub shape_of-out : goal.shape_of-out
-shape_of-out c = wrote_length c.loop-key.invariant.wrote
-
-pub returns : goal.returns
-returns c = each_all c.loop-key.invariant (search rules)
+loop-key-preserved c = each_more _ _ c.loop-key.invariant c.member_line.ensures

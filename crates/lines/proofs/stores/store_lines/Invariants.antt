@@ -1,12 +1,8 @@
 -- `lines::stores::store_lines` meets its contract: the lines of the keys below the loop's have been written.
-use Prim.Native.Nat.{◌-◌}
-use Rattle.table.specs.Tables.{key_limit}
+use Rattle.lines.specs.Text.{each_below}
 use Rattle.lines.specs.Lines.{key_line}
-use Rattle.lines.proofs.Each.{Each}
+use Rattle.lines.specs.Pages.{Writes}
 use Rattle.lines.proofs.stores.store_lines.Given as goal
 
 abbrev pub invariant-loop-key : goal.invariant-loop-key
-invariant-loop-key l = Each (key_line l.state l.store) key_limit l.at l.initial.out l.out l.next l.key
-
-abbrev pub decreases-loop-key : goal.decreases-loop-key
-decreases-loop-key l = key_limit - l.key
+invariant-loop-key l = Writes (each_below (key_line l.state l.store) l.key) l.initial.page l.page

@@ -1,0 +1,22 @@
+-- Laws of texts on a page: nothing written, an equal text, and one text after another.
+-- Assumes nothing.
+use Prim.Native.Nat.{ℕ, ◌≤◌}
+use mathlib.Core.Path.{◌≡◌, refl, subst, ◌∙◌}
+use mathlib.Core.List.{List, [], ◌++◌}
+use lib.ListN.{length}
+use Rattle.lines.specs.declared.page.Page.{Page}
+use Rattle.lines.specs.Pages.{HasRoom, Writes}
+use Rattle.lines.proofs.Writing.{wrote_same, wrote_nothing, wrote_then}
+
+-- an equal text has as much room
+pub room_same : {t u : List ℕ} {p : Page} → t ≡ u → HasRoom t p → HasRoom u p
+room_same {p = p} e h = subst (λ (s : List ℕ). HasRoom s p) e h
+
+pub writes_same : {t u : List ℕ} {was now : Page} → t ≡ u → Writes t was now → Writes u was now
+writes_same e w = record { wrote = wrote_same e w.wrote; buffer = w.buffer }
+
+pub writes_nothing : {p : Page} → p.len ≤ length p.bytes.now → Writes [] p p
+writes_nothing h = record { wrote = wrote_nothing h; buffer = refl }
+
+pub writes_then : {t u : List ℕ} {was mid now : Page} → Writes t was mid → Writes u mid now → Writes (t ++ u) was now
+writes_then v w = record { wrote = wrote_then v.wrote w.wrote; buffer = w.buffer ∙ v.buffer }
