@@ -6,7 +6,7 @@ ghost use Rattle.lines.specs.Lines.{tally_parts, totals_line, refused_line, cloc
 ghost use Rattle.lines.specs.Pages.{HasRoom, Writes};
 
 use crate::page::Page;
-use machine::{Totals, taken};
+use machine::Totals;
 use state::Entry;
 use steps::Tally;
 
@@ -15,7 +15,7 @@ fn tally_end(page: &mut Page, tally: Tally)
     requires { HasRoom (spaced (tally_parts tally)) page.old }
     ensures { Writes (spaced (tally_parts tally)) page.old page.new }
 {
-    page.named(b" taken", taken(tally));
+    page.named(b" taken", tally.taken());
     page.named(b" added", tally.added as usize);
     page.named(b" replaced", tally.replaced as usize);
     page.end_line();

@@ -12,14 +12,14 @@ ghost use Rattle.steps.specs.Runs.{run_of};
 ghost use Rattle.steps.specs.Points.{save_of, restore_of, drop_of};
 ghost use Rattle.rehearsal.specs.Packing.{LoadPacked, StepPacked, RunPacked, ChangePacked};
 
-use packing::{pack_answer, pack_run, pack_step};
-use results::{totals_of, write_totals};
+use packing::{pack, pack_tally};
+use results::write_totals;
 
 // The state becomes that of a fleet which has not stepped yet. Reports 0.
 pub fn labs_load(table: &[u8], state: &mut [u32], scratch: &mut [u32]) -> u64
     ensures { LoadPacked (load_of table.now state.old (length scratch.old)) result state.new }
 {
-    pack_answer(machine::load(table, state, scratch))
+    pack(machine::load(table, state, scratch), |_| 0)
 }
 
 // One step: act (kind 0; number is a choice), propagate (1) or confirm (2; number is a key). Reports how many agents
@@ -35,7 +35,10 @@ pub fn labs_step(
     ensures { StepPacked (step_of table.now state.old (length scratch.old) kind agent number)
         result state.new }
 {
-    pack_step(machine::step(table, state, scratch, kind, agent, number))
+    pack(
+        machine::step(table, state, scratch, kind, agent, number),
+        pack_tally,
+    )
 }
 
 // What the same step would do: the state after it goes to a second buffer, which a refusal leaves as it came. Reports
@@ -53,7 +56,10 @@ pub fn labs_preview(
         (preview_of table.now state.now (length scratch.old) kind agent number next.old)
         result next.new }
 {
-    pack_step(machine::preview(table, state, scratch, kind, agent, number, next))
+    pack(
+        machine::preview(table, state, scratch, kind, agent, number, next),
+        pack_tally,
+    )
 }
 
 // The steps of a schedule, each in turn, with an answer byte for each: 0, or its refusal. The totals go to a buffer,
@@ -71,8 +77,8 @@ pub fn labs_run(
         totals.old result state.new answers.new totals.new }
 {
     let answer = machine::run(table, state, scratch, schedule, answers);
-    write_totals(totals, totals_of(answer));
-    pack_run(answer)
+    write_totals(totals, answer.unwrap_or_default());
+    pack(answer, |_| 0)
 }
 
 // The state goes to the shelf under a name, 1 to 255: to the place that the name holds, or else to the lowest free one.
@@ -87,7 +93,7 @@ pub fn labs_save(
     ensures { ChangePacked
         (save_of table.now state.now (length scratch.old) shelf.old name) result shelf.new }
 {
-    pack_answer(shelf::save(table, state, scratch, shelf, name))
+    pack(shelf::save(table, state, scratch, shelf, name), |_| 0)
 }
 
 // The state becomes the one that the shelf holds under a name. Reports 0.
@@ -101,12 +107,12 @@ pub fn labs_restore(
     ensures { ChangePacked
         (restore_of table.now state.old (length scratch.old) shelf.now name) result state.new }
 {
-    pack_answer(shelf::restore(table, state, scratch, shelf, name))
+    pack(shelf::restore(table, state, scratch, shelf, name), |_| 0)
 }
 
 // The place that a name holds becomes free: its name word becomes 0, and no other word changes. Reports 0.
 pub fn labs_drop(table: &[u8], scratch: &mut [u32], shelf: &mut [u32], name: u32) -> u64
     ensures { ChangePacked (drop_of table.now (length scratch.old) shelf.old name) result shelf.new }
 {
-    pack_answer(shelf::drop(table, scratch, shelf, name))
+    pack(shelf::drop(table, scratch, shelf, name), |_| 0)
 }
