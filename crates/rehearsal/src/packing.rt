@@ -1,5 +1,5 @@
 // Answers as one number.
-ghost use Rattle.std.specs.Prelude.{◌≡◌, ◌≤◌, MatchResult};
+ghost use Rattle.std.specs.Prelude.{ℕ, ◌≡◌, ◌≤◌, MatchResult};
 ghost use Rattle.table.specs.Checks.{place_of};
 ghost use Rattle.table.specs.Refusals.{check_of, result_check};
 ghost use Rattle.rehearsal.specs.Packing.{packed, packed_tally};
@@ -13,7 +13,7 @@ const REFUSED: u64 = 0x8000_0000_0000_0000;
 // A refusal and its place.
 fn pack_refusal(refused: Refused) -> u64
     requires { place_of (check_of refused) ≤ 4096 }
-    ensures { result ≡ packed (check_of refused) 0 }
+    ensures { (report : ℕ) → result ≡ packed (check_of refused) report }
 {
     REFUSED + 65536 * refused.place() as u64 + u64::from(refused.number())
 }
@@ -22,7 +22,7 @@ fn pack_refusal(refused: Refused) -> u64
 pub fn pack<T, F: FnOnce(T) -> u64>(answer: Result<T, Refused>, report: F) -> u64
     requires reports { F.IsAlwaysCallable report }
     requires near { place_of (result_check answer) ≤ 4096 }
-    ensures { MatchResult answer (λ done. F.post report done result) (λ refused. result ≡ packed (check_of refused) 0) }
+    ensures { MatchResult answer (λ done. F.post report done result) (λ refused. (report : ℕ) → result ≡ packed (check_of refused) report) }
 {
     match answer {
         Ok(done) => report(done),

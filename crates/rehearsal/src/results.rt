@@ -8,13 +8,12 @@ use machine::Totals;
 pub fn write_totals(out: &mut [u32], totals: Totals)
     ensures { out.new ≡ written (total_numbers totals) out.old }
 {
-    let Totals {
-        done,
-        refused,
-        tally,
-    } = totals;
-    let numbers = [done, refused, tally.added, tally.replaced];
-    for (word, number) in out.iter_mut().zip(numbers) {
-        *word = number;
-    }
+    let numbers = [
+        totals.done,
+        totals.refused,
+        totals.tally.added,
+        totals.tally.replaced,
+    ];
+    let size = out.len().min(numbers.len());
+    out[..size].copy_from_slice(&numbers[..size]);
 }
