@@ -65,8 +65,8 @@ module _ (t : Table) where
     pub key_past : key_limit ≤ p_at t n → Adds (is_key t n) w w
     key_past h = adds_none (λ k l. rw (ne_eqb (p_at t n) k (λ e. omega arith)) (and-false (eqb (kind_at t n) 34)))
 
-    pub key_there : kind_at t n ≡ 34 → p_at t n < key_limit → Adds (is_key t n) w (plus w (p_at t n))
-    key_there e l = adds_same (λ k. rw e) (adds_one w (p_at t n) l)
+    pub key_there : {r : ℕ} → r ≡ plus w (p_at t n) → kind_at t n ≡ 34 → p_at t n < key_limit → Adds (is_key t n) w r
+    key_there is e l = rw is (adds_same (λ k. rw e) (adds_one w (p_at t n) l))
 
   -- WHAT IT READS
   reads_out : (limit n k : ℕ) → limit ≤ n → reads_below t limit n k ≡ false

@@ -93,6 +93,7 @@ impl<'a> Sender<'a> {
 }
 
 // Whether a guard holds.
+#[tactic(auto, using(crate::proofs::Sets::alone))]
 pub fn holds(fleet: &Fleet, state: &[u32], sender: usize, receiver: usize, node: usize) -> bool
     requires { Situated state.now sender receiver }
     ensures { result ≡ holds_of (table_in fleet.now) state.now sender receiver node }

@@ -9,18 +9,17 @@ ghost use Rattle.evaluation.specs.Reading.{Adds, reads_below, is_key};
 use table::{Fleet, KEYS};
 
 // The set with the key that a node is, if it is one.
+#[tactic(auto, using(crate::proofs::Adding::key_none, crate::proofs::Adding::key_past, crate::proofs::Adding::key_there))]
 fn own_key(fleet: &Fleet, node: usize, keys: u32) -> u32
     requires { node < fleet.now.sizes.nodes }
     ensures { Adds (is_key (table_in fleet.now) node) keys result }
 {
-    if fleet.kind_at(node) != basis::kinds::STIGMERGY {
-        return keys;
-    }
     let key = fleet.p_at(node);
-    if KEYS <= key {
-        return keys;
+    if fleet.kind_at(node) == basis::kinds::STIGMERGY && key < KEYS {
+        basis::plus(keys, key)
+    } else {
+        keys
     }
-    basis::plus(keys, key)
 }
 
 // The set with the keys that a node below the limit reads.
@@ -43,6 +42,7 @@ fn keys_below(fleet: &Fleet, limit: usize, node: usize, keys: u32) -> u32
 }
 
 // The set with the stigmergy keys that a node reads.
+#[tactic(auto, using(crate::proofs::Adding::adds_all))]
 pub fn keys_read(fleet: &Fleet, node: usize, keys: u32) -> u32
     requires { keys < 2 ^ key_limit }
     ensures { result ≡ plus_all (reads (table_in fleet.now) node) key_limit keys }

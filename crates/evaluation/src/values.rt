@@ -24,6 +24,7 @@ impl<'a> Sender<'a> {
     ghost use Rattle.state.specs.Walks.{value_below};
 
     // The value of a node below the limit; absent where it is not below.
+    #[tactic(auto, using(crate::proofs::Steps::value_out, crate::proofs::Steps::value_at_lem), unfolding(state::specs::Evaluation::value_step))]
     pub fn value_below(&self, receiver: usize, limit: usize, node: usize) -> Value
         requires { (receiver < agent_limit) × (limit ≤ self.now.fleet.sizes.nodes) }
         ensures { result ≡ value_below (table_in self.now.fleet) self.now.state.now self.now.agent receiver limit node }
