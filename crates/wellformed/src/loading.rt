@@ -7,7 +7,7 @@ ghost use Rattle.wellformed.specs.Given.{LoadGiven};
 
 use basis::words::clear;
 use state::{AGENTS, length_at, residual_at};
-use table::{Sizes, first_root, p_at};
+use table::Sizes;
 
 // Each agent's residual becomes the node that its root names.
 fn start(sizes: Sizes, operands: &[u8], state: &mut [u32])
@@ -15,10 +15,10 @@ fn start(sizes: Sizes, operands: &[u8], state: &mut [u32])
     ensures { (kinds : List ℕ) → state.new ≡
         for_each (started (table sizes kinds operands.now)) sizes.agents state.old }
 {
-    let first = first_root(sizes) + sizes.definitions + sizes.stigmergy;
+    let first = sizes.first_root() + sizes.definitions + sizes.stigmergy;
     for agent in 0..sizes.agents {
         state[length_at(agent)] = 1;
-        state[residual_at(agent)] = p_at(operands, first + agent) as u32;
+        state[residual_at(agent)] = basis::u16_at(operands, 4 * (first + agent)) as u32;
     }
 }
 

@@ -12,7 +12,7 @@ loop-agent-init c = λ t e f. refl
 
 pub loop-agent-preserved : goal.loop-agent-preserved
 loop-agent-preserved c =
-    λ t e f. started_more t _ _ _ _ _ _ c.length_at.ensures.is c.residual_at.ensures.is (rw (e, f) c.p_at.ensures.is) (c.loop-agent.invariant t e f)
+    λ t e f. started_more t _ _ _ _ _ _ c.length_at.ensures.is c.residual_at.ensures.is (rw (e, f) c.u16_at.ensures.is) (c.loop-agent.invariant t e f)
 
 pub returns : goal.returns
 returns c kinds =
