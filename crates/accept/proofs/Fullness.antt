@@ -2,17 +2,19 @@
 -- Assumes nothing.
 use Prim.Native.Nat.{ℕ, ◌+◌, ◌≤◌, ◌<◌}
 use mathlib.Core.Bool.{true, false, not}
-use mathlib.Core.Path.{◌≡◌, sym, ap, subst, ◌∙◌}
+use mathlib.Core.Path.{◌≡◌, refl, sym, ap, subst, ◌∙◌}
 use mathlib.Core.Logic.{⊎_elim}
 use mathlib.Core.List.{List}
 use native.Mathlib.Omega.{arith}
 use lib.Dec.{leb}
 use borrow.Author.Tests.{leb-true, le-leb, lt-leb}
-use Rattle.basis.specs.Numbers.{lowest}
+use Rattle.std.specs.Prelude.{Ok, Err}
 use Rattle.basis.proofs.Tests.{not_both, either, lt_or_le}
-use Rattle.basis.proofs.Numbers.{lowest_none, lowest_at}
+use Rattle.basis.proofs.Numbers.{lowest_at}
+use Rattle.table.specs.declared.refusals.Refused.TheVariants.{NodeDerivations}
 use Rattle.table.specs.Tables.{Table, kind_at, first_root}
 use Rattle.table.specs.Nodes.{is_process}
+use Rattle.table.proofs.Checks.{refused, line_passes, line_refuses}
 use Rattle.table.proofs.Promises.{root_kind}
 use Rattle.term.specs.Processes.{Process, process_at, node_process, few}
 use Rattle.term.specs.Choices.{action_count, tick_count}
@@ -23,8 +25,9 @@ use Rattle.term.proofs.Exposed.{node_calls}
 use Rattle.term.proofs.Acceptance.{no_process, nodes_few}
 use Rattle.accept.specs.Counts.{Capped, capped, counts, true_counts, counts_of}
 use Rattle.accept.specs.Scratch.{pair_at, stored, is_counted, Held, Counted}
-use Rattle.accept.specs.Calls.{Visits, CountsAt}
-use Rattle.accept.specs.declared.Visit.TheVariants.{Done, High}
+use Rattle.accept.specs.Calls.{Visits, CountsAt, NodesJudged}
+use Rattle.accept.specs.declared.Visit.{Visit}
+use Rattle.accept.specs.declared.Visit.TheVariants.{Done, Part, High}
 use Rattle.accept.specs.declared.Counts.{Counts}
 use Rattle.accept.proofs.Caps.{counts_idle, counts_small}
 use Rattle.accept.proofs.Cells.{node_room, stored_at, stored_others, stored_counted, kept_counted, held_more}
@@ -50,6 +53,12 @@ module _ {t : Table} {s : List ℕ} (held : Held t t.sizes.definitions s) where
   pub none_high : (n : ℕ) → Visits t t.sizes.definitions s n High → ⊥
   unfolding node_process
   none_high n v = not_both (node_calls t held.sound n) v
+
+  -- where the nodes below n are counted, a visit of n finds its counts
+  pub is_done : (n : ℕ) → ((k : ℕ) → k < n → is_counted s k ≡ true) → (v : Visit) → Visits t t.sizes.definitions s n v → ((c : Counts) → v ≡ Done c → ⊥) → ⊥
+  is_done n f (Done c) x g = g c refl
+  is_done n f (Part m) x g = not_both (f m x.0) x.1
+  is_done n f High x g = none_high n x
 
   -- a node whose counts a visit has found is counted now
   pub count_more : {n : ℕ} {c : Counts} → n < first_root t → Visits t t.sizes.definitions s n (Done c) → CountsAt t n s (stored s n c) c
@@ -88,13 +97,25 @@ module _ {t : Table} {s : List ℕ} (held : Held t t.sizes.definitions s) where
   pub overfull_no : (n : ℕ) (c : Counts) → n < first_root t → is_counted s n ≡ true → c ≡ pair_at s n → c.actions + c.ticks ≤ 65535 → overfull t n ≡ false
   overfull_no n c h k e l = overfull_held n h k ∙ ap (λ (x : Counts). not (leb (sum x) 65535)) (sym e) ∙ ap not (le-leb (sum c) 65535 l)
 
-  pub lowest_full : (n : ℕ) → n < first_root t → overfull t n ≡ true → ((k : ℕ) → k < n → overfull t k ≡ false) → n ≡ lowest (overfull t) t.sizes.nodes
-  lowest_full n h e f = sym (lowest_at (overfull t) t.sizes.nodes n (omega arith) e f)
+  -- refusal 7, where it is found and where it is not
+  pub full_found : (n : ℕ) (words : List ℕ) → n < first_root t → overfull t n ≡ true → ((k : ℕ) → k < n → overfull t k ≡ false)
+      → Held t t.sizes.definitions words → NodesJudged t words (Err (NodeDerivations n))
+  full_found n words h e f w =
+      record {
+        check = line_refuses t.sizes.nodes (overfull t) 7 n (omega arith) (sym (lowest_at (overfull t) t.sizes.nodes n (omega arith) e f));
+        held = w;
+        all = λ g. absurd (refused g);
+      }
 
-  -- roots are no processes
-  pub none_full : ((k : ℕ) → k < first_root t → overfull t k ≡ false) → t.sizes.nodes ≡ lowest (overfull t) t.sizes.nodes
-  none_full f = sym (lowest_none (overfull t) t.sizes.nodes (λ k h. ⊎_elim (λ (l : k < first_root t). f k l) (root k h) (lt_or_le k (first_root t))))
+  pub none_full : ((k : ℕ) → k < first_root t → is_counted s k ≡ true) → ((k : ℕ) → k < first_root t → overfull t k ≡ false) → NodesJudged t s (Ok tt)
+  none_full g f =
+      record {
+        check = line_passes t.sizes.nodes (overfull t) 7 (λ k h. ⊎_elim (λ (l : k < first_root t). f k l) (root k h) (lt_or_le k (first_root t)));
+        held = held;
+        all = λ e. g;
+      }
     where
+      -- roots are no processes
       root : (k : ℕ) → k < t.sizes.nodes → first_root t ≤ k → overfull t k ≡ false
       root k h l = rw (root_kind t held.sound k h l)
 

@@ -3,13 +3,14 @@
 use Prim.Native.Nat.{ℕ, zero, suc, ◌+◌, ◌*◌, ◌≤◌, ◌<◌}
 use mathlib.Core.Bool.{Bool, true, false, not, ◌&&◌, ◌||◌}
 use mathlib.Core.Path.{◌≡◌, refl, sym, ap, ap₂, ◌∙◌}
+use mathlib.Core.Logic.{⊎_elim}
 use mathlib.Core.List.{List}
 use native.Mathlib.Nat.{zero-mul}
 use native.Mathlib.Omega.{arith}
 use lib.Dec.{ltb, eqb}
-use lib.ListN.{get_or}
+use lib.ListN.{get_or, get_or-eq_default}
 use borrow.Author.Tests.{eqb-true, ne_eqb, lt-ltb, le-ltb}
-use Rattle.basis.proofs.Tests.{and_left, and_right, cond_cases}
+use Rattle.basis.proofs.Tests.{and_left, and_right, cond_cases, lt_or_le}
 use Rattle.table.specs.Tables.{Table, kind_at, p_at, q_at, first_root, body_at}
 use Rattle.table.proofs.Promises.{body_process}
 use Rattle.term.specs.Terms.{Node}
@@ -88,24 +89,30 @@ module _ {t : Table} {level n : ℕ} {s : List ℕ} (held : Held t level s) (low
   unfolding calls_below
   tick_found e = found 1 (counts 0 1) e counts_tick refl
 
-  pub act_found : (k : ℕ) → kind_at t n ≡ k → form k ≡ form 2 → Finds (Done (counts 1 0))
+  pub act_found : 2 ≤ kind_at t n → kind_at t n ≤ 4 → Finds (Done (counts 1 0))
   unfolding calls_below
-  act_found k e f = found k (counts 1 0) e (ap counts_of f ∙ counts_act n) (ap (calls_below level) f)
+  act_found a b = by (kind_at t n) refl a b
+    where
+      act : (k : ℕ) → kind_at t n ≡ k → form k ≡ form 2 → Finds (Done (counts 1 0))
+      act k e f = found k (counts 1 0) e (ap counts_of f ∙ counts_act n) (ap (calls_below level) f)
 
-  pub none_found : (k : ℕ) → kind_at t n ≡ k → (k ≡ 1 → ⊥) → (k ≡ 2 → ⊥) → (k ≡ 3 → ⊥) → (k ≡ 4 → ⊥) → (k ≡ 5 → ⊥) → (k ≡ 6 → ⊥) → (k ≡ 7 → ⊥) → (k ≡ 8 → ⊥) → (k ≡ 9 → ⊥)
-      → Finds (Done (counts 0 0))
+      by : (k : ℕ) → kind_at t n ≡ k → 2 ≤ k → k ≤ 4 → Finds (Done (counts 1 0))
+      by zero e h g = absurd (omega arith)
+      by (suc zero) e h g = absurd (omega arith)
+      by (suc (suc zero)) e h g = act 2 e refl
+      by (suc (suc (suc zero))) e h g = act 3 e refl
+      by (suc (suc (suc (suc zero)))) e h g = act 4 e refl
+      by (suc (suc (suc (suc (suc k))))) e h g = absurd (omega arith)
+
+  pub none_found : (1 ≤ kind_at t n → kind_at t n ≤ 9 → ⊥) → Finds (Done (counts 0 0))
   unfolding calls_below
-  none_found zero e n1 n2 n3 n4 n5 n6 n7 n8 n9 = found 0 (counts 0 0) e counts_idle refl
-  none_found (suc zero) e n1 n2 n3 n4 n5 n6 n7 n8 n9 = absurd (n1 refl)
-  none_found (suc (suc zero)) e n1 n2 n3 n4 n5 n6 n7 n8 n9 = absurd (n2 refl)
-  none_found (suc (suc (suc zero))) e n1 n2 n3 n4 n5 n6 n7 n8 n9 = absurd (n3 refl)
-  none_found (suc (suc (suc (suc zero)))) e n1 n2 n3 n4 n5 n6 n7 n8 n9 = absurd (n4 refl)
-  none_found (suc (suc (suc (suc (suc zero))))) e n1 n2 n3 n4 n5 n6 n7 n8 n9 = absurd (n5 refl)
-  none_found (suc (suc (suc (suc (suc (suc zero)))))) e n1 n2 n3 n4 n5 n6 n7 n8 n9 = absurd (n6 refl)
-  none_found (suc (suc (suc (suc (suc (suc (suc zero))))))) e n1 n2 n3 n4 n5 n6 n7 n8 n9 = absurd (n7 refl)
-  none_found (suc (suc (suc (suc (suc (suc (suc (suc zero)))))))) e n1 n2 n3 n4 n5 n6 n7 n8 n9 = absurd (n8 refl)
-  none_found (suc (suc (suc (suc (suc (suc (suc (suc (suc zero))))))))) e n1 n2 n3 n4 n5 n6 n7 n8 n9 = absurd (n9 refl)
-  none_found (suc (suc (suc (suc (suc (suc (suc (suc (suc (suc k)))))))))) e n1 n2 n3 n4 n5 n6 n7 n8 n9 = found _ (counts 0 0) e counts_idle refl
+  none_found f =
+      let e : form (kind_at t n) ≡ idle =
+      ⊎_elim (λ (h : kind_at t n < 1). let z : kind_at t n ≡ 0 = omega arith in rw z)
+      (λ (h : 1 ≤ kind_at t n).
+      get_or-eq_default (by_kind (defined t level) (process_at t level) n p q) idle (⊎_elim (λ (g : kind_at t n < 10). absurd (f h (omega arith))) (λ (g : 10 ≤ kind_at t n). g) (lt_or_le (kind_at t n) 10)))
+      (lt_or_le (kind_at t n) 1) in
+      found (kind_at t n) (counts 0 0) refl (ap counts_of e ∙ counts_idle) (ap (calls_below level) e)
 
   -- a sequence, a choice or a parallel
   record Joins (k : ℕ) : Type 0 where
@@ -142,18 +149,23 @@ module _ {t : Table} {level n : ℕ} {s : List ℕ} (held : Held t level s) (low
       (λ v. (j.lower.1, v, λ z. j.calls ∙ rw (a, sym h ∙ u, z)))))
       (λ e. (j.lower.0, e, λ z. j.calls ∙ rw z))
 
-  pub seq_found : kind_at t n ≡ 5 → Finds (pair_visit s 5 p q)
+  pub joined_found : 5 ≤ kind_at t n → kind_at t n ≤ 8 → (kind_at t n ≡ 7 → ⊥) → Finds (pair_visit s (kind_at t n) p q)
   unfolding joined_counts calls_below
-  seq_found e =
-      pair_found 5 (joins 5 e (omega arith) (omega arith) (counts_seq (N p) (N q) (Node q)) (ap (λ (b : Bool). A p && (b || A q)) (no_tick (N p))))
-
-  pub choice_found : kind_at t n ≡ 6 → Finds (pair_visit s 6 p q)
-  unfolding joined_counts calls_below
-  choice_found e = pair_found 6 (joins 6 e (omega arith) (omega arith) (counts_choice (N p) (N q)) refl)
-
-  pub par_found : kind_at t n ≡ 8 → Finds (pair_visit s 8 p q)
-  unfolding joined_counts calls_below
-  par_found e = pair_found 8 (joins 8 e (omega arith) (omega arith) (counts_par (N p) (Node p) (N q) (Node q)) refl)
+  joined_found a b c = by (kind_at t n) refl a b c
+    where
+      by : (k : ℕ) → kind_at t n ≡ k → 5 ≤ k → k ≤ 8 → (k ≡ 7 → ⊥) → Finds (pair_visit s k p q)
+      by zero e a b c = absurd (omega arith)
+      by (suc zero) e a b c = absurd (omega arith)
+      by (suc (suc zero)) e a b c = absurd (omega arith)
+      by (suc (suc (suc zero))) e a b c = absurd (omega arith)
+      by (suc (suc (suc (suc zero)))) e a b c = absurd (omega arith)
+      by (suc (suc (suc (suc (suc zero))))) e a b c =
+          pair_found 5 (joins 5 e a b (counts_seq (N p) (N q) (Node q)) (ap (λ (b : Bool). A p && (b || A q)) (no_tick (N p))))
+      by (suc (suc (suc (suc (suc (suc zero)))))) e a b c = pair_found 6 (joins 6 e a b (counts_choice (N p) (N q)) refl)
+      by (suc (suc (suc (suc (suc (suc (suc zero))))))) e a b c = absurd (c refl)
+      by (suc (suc (suc (suc (suc (suc (suc (suc zero)))))))) e a b c =
+          pair_found 8 (joins 8 e a b (counts_par (N p) (Node p) (N q) (Node q)) refl)
+      by (suc (suc (suc (suc (suc (suc (suc (suc (suc k))))))))) e a b c = absurd (omega arith)
 
   -- a guarded node has the counts of its process
   guarded : kind_at t n ≡ 7 → A n ≡ A q

@@ -5,8 +5,7 @@ ghost use Rattle.table.specs.Fleets.{table_in};
 ghost use Rattle.table.specs.Sound.{Sound};
 ghost use Rattle.term.specs.Acceptance.{scratch_words};
 ghost use Rattle.accept.specs.Scratch.{is_counted, Held};
-ghost use Rattle.accept.specs.declared.Visit.TheVariants.{Done};
-ghost use Rattle.accept.specs.Calls.{Visits, Settles, CallsJudged, CountsAt, NodesJudged};
+ghost use Rattle.accept.specs.Calls.{Settles, CallsJudged, CountsAt, NodesJudged};
 
 use crate::nodes::visit;
 use crate::words::{discard, is_counted, lead, leads_to, pair, store};
@@ -26,8 +25,7 @@ fn settle(fleet: &Fleet, scratch: &mut [u32], level: usize, top: usize) -> bool
     }
     let mut n = top;
     loop {
-        let found = visit(fleet, scratch, level, n);
-        match found {
+        match visit(fleet, scratch, level, n) {
             Visit::Done(c) => {
                 let before = leads_to(scratch, n);
                 store(scratch, n, c);
@@ -88,21 +86,8 @@ pub fn lowest_bad_call(fleet: &Fleet, scratch: &mut [u32]) -> Result<(), Refused
     Ok(())
 }
 
-// The counts of node n, where the nodes below it and the bodies of all definitions are counted: a visit finds them.
-fn counts_of(fleet: &Fleet, scratch: &[u32], n: usize) -> Counts
-    requires held { Held (table_in fleet.now) fleet.now.sizes.definitions scratch.now }
-    requires n_bound { n < first_root (table_in fleet.now) }
-    requires by_index { (k : ℕ) → k < n → is_counted scratch.now k ≡ true }
-    ensures { Visits (table_in fleet.now) fleet.now.sizes.definitions scratch.now n (Done result) }
-{
-    match visit(fleet, scratch, fleet.sizes.definitions, n) {
-        Visit::Done(c) => c,
-        Visit::Part(_) => unreachable!(),
-        Visit::High => unreachable!(),
-    }
-}
-
-// Counts node n, if it is not counted yet.
+// Counts node n, if it is not counted yet. The nodes below it and the bodies of all definitions are, so a visit finds its
+// counts.
 fn count_at(fleet: &Fleet, scratch: &mut [u32], n: usize) -> Counts
     requires held { Held (table_in fleet.now) fleet.now.sizes.definitions scratch.old }
     requires n_bound { n < first_root (table_in fleet.now) }
@@ -112,7 +97,9 @@ fn count_at(fleet: &Fleet, scratch: &mut [u32], n: usize) -> Counts
     if is_counted(scratch, n) {
         return pair(scratch, n);
     }
-    let c = counts_of(fleet, scratch, n);
+    let Visit::Done(c) = visit(fleet, scratch, fleet.sizes.definitions, n) else {
+        unreachable!()
+    };
     store(scratch, n, c);
     c
 }

@@ -13,6 +13,7 @@ use crate::words::{is_counted, pair};
 use table::Fleet;
 
 // A sequence, a choice or a parallel. The right of a sequence is exposed where the left can tick.
+#[tactic(auto, unfolding(crate::specs::Calls::pair_visit))]
 fn visit_pair(scratch: &[u32], kind: u8, p: usize, q: usize) -> Visit
     requires p_in_bounds { (2 * p + 1 < length scratch.now) × (2 * q + 1 < length scratch.now) }
     requires capped { is_counted scratch.now p ≡ true → Capped (pair_at scratch.now p) }
@@ -44,26 +45,15 @@ pub fn visit(fleet: &Fleet, scratch: &[u32], level: usize, n: usize) -> Visit
     let q = fleet.q_at(n);
     match kind {
         basis::kinds::TICK => Visit::Done(TICK),
-        basis::kinds::SET_ATTRIBUTE => Visit::Done(ACTION),
-        basis::kinds::SET_STIGMERGY => Visit::Done(ACTION),
-        basis::kinds::SET_ENVIRONMENT => Visit::Done(ACTION),
-        basis::kinds::SEQUENCE => visit_pair(scratch, kind, p, q),
-        basis::kinds::CHOICE => visit_pair(scratch, kind, p, q),
-        basis::kinds::GUARDED => {
-            if is_counted(scratch, q) {
-                Visit::Done(pair(scratch, q))
-            } else {
-                Visit::Part(q)
-            }
+        basis::kinds::SET_ATTRIBUTE | basis::kinds::SET_STIGMERGY | basis::kinds::SET_ENVIRONMENT =>
+            { Visit::Done(ACTION) }
+        basis::kinds::SEQUENCE | basis::kinds::CHOICE | basis::kinds::PARALLEL => {
+            visit_pair(scratch, kind, p, q)
         }
-        basis::kinds::PARALLEL => visit_pair(scratch, kind, p, q),
-        basis::kinds::CALL => {
-            if p < level {
-                Visit::Done(pair(scratch, fleet.body_at(p)))
-            } else {
-                Visit::High
-            }
-        }
+        basis::kinds::GUARDED if is_counted(scratch, q) => Visit::Done(pair(scratch, q)),
+        basis::kinds::GUARDED => Visit::Part(q),
+        basis::kinds::CALL if p < level => Visit::Done(pair(scratch, fleet.body_at(p))),
+        basis::kinds::CALL => Visit::High,
         _ => Visit::Done(NONE),
     }
 }

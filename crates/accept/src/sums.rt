@@ -36,6 +36,7 @@ fn times(x: u64, y: u64) -> u64
     x * y
 }
 
+#[tactic(auto, unfolding(crate::specs::Counts::choice_counts))]
 pub fn choice(p: Counts, q: Counts) -> Counts
     requires fact_1 { Capped p }
     requires fact_2 { Capped q }
@@ -47,6 +48,7 @@ pub fn choice(p: Counts, q: Counts) -> Counts
 }
 
 // The right part counts once for each tick of the left.
+#[tactic(auto, unfolding(crate::specs::Counts::seq_counts))]
 pub fn sequence(p: Counts, q: Counts) -> Counts
     requires fact_1 { Capped p }
     requires fact_2 { Capped q }
@@ -58,6 +60,7 @@ pub fn sequence(p: Counts, q: Counts) -> Counts
 }
 
 // Each part counts, and once more for each tick of the other.
+#[tactic(auto, unfolding(crate::specs::Counts::par_counts))]
 pub fn parallel(p: Counts, q: Counts) -> Counts
     requires fact_1 { Capped p }
     requires fact_2 { Capped q }
@@ -70,6 +73,7 @@ pub fn parallel(p: Counts, q: Counts) -> Counts
 }
 
 // Of a sequence, a choice or a parallel, by its kind.
+#[tactic(auto, unfolding(crate::specs::Calls::joined_counts))]
 pub fn joined(kind: u8, p: Counts, q: Counts) -> Counts
     requires fact_1 { Capped p }
     requires fact_2 { Capped q }
