@@ -1,6 +1,7 @@
 // A visit of a node: its counts, from those of the nodes and the definitions that it names, or what is to be counted
 // first.
 ghost use Rattle.std.specs.Prelude.{true, ◌≡◌, ◌+◌, ◌*◌, ◌<◌, length};
+ghost use Rattle.basis.specs.NodeKinds.{number_of};
 ghost use Rattle.table.specs.Tables.{first_root};
 ghost use Rattle.table.specs.Fleets.{table_in};
 ghost use Rattle.accept.specs.Counts.{Capped};
@@ -10,21 +11,22 @@ ghost use Rattle.accept.specs.Calls.{pair_visit, Visits};
 use crate::Visit;
 use crate::sums::{ACTION, NONE, TICK, joined};
 use crate::words::{is_counted, pair};
+use basis::NodeKind;
 use table::Fleet;
 
 // A sequence, a choice or a parallel. The right of a sequence is exposed where the left can tick.
 #[tactic(auto, unfolding(crate::specs::Calls::pair_visit))]
-fn visit_pair(scratch: &[u32], kind: u8, p: usize, q: usize) -> Visit
+fn visit_pair(scratch: &[u32], kind: NodeKind, p: usize, q: usize) -> Visit
     requires p_in_bounds { (2 * p + 1 < length scratch.now) × (2 * q + 1 < length scratch.now) }
     requires capped { is_counted scratch.now p ≡ true → Capped (pair_at scratch.now p) }
     requires capped_2 { is_counted scratch.now q ≡ true → Capped (pair_at scratch.now q) }
-    ensures { result ≡ pair_visit scratch.now kind p q }
+    ensures { result ≡ pair_visit scratch.now (number_of kind) p q }
 {
     if !is_counted(scratch, p) {
         return Visit::Part(p);
     }
     let left = pair(scratch, p);
-    if (kind == basis::kinds::SEQUENCE) & (left.ticks == 0) {
+    if (kind == NodeKind::Sequence) & (left.ticks == 0) {
         return Visit::Done(left);
     }
     if !is_counted(scratch, q) {
@@ -40,20 +42,20 @@ pub fn visit(fleet: &Fleet, scratch: &[u32], level: usize, n: usize) -> Visit
     requires n_bound { n < first_root (table_in fleet.now) }
     ensures { Visits (table_in fleet.now) level scratch.now n result }
 {
-    let kind = fleet.kind_at(n);
     let p = fleet.p_at(n);
     let q = fleet.q_at(n);
-    match kind {
-        basis::kinds::TICK => Visit::Done(TICK),
-        basis::kinds::SET_ATTRIBUTE | basis::kinds::SET_STIGMERGY | basis::kinds::SET_ENVIRONMENT =>
-            { Visit::Done(ACTION) }
-        basis::kinds::SEQUENCE | basis::kinds::CHOICE | basis::kinds::PARALLEL => {
+    match fleet.node_kind(n) {
+        Ok(NodeKind::Tick) => Visit::Done(TICK),
+        Ok(NodeKind::SetAttribute | NodeKind::SetStigmergy | NodeKind::SetEnvironment) => {
+            Visit::Done(ACTION)
+        }
+        Ok(kind @ (NodeKind::Sequence | NodeKind::Choice | NodeKind::Parallel)) => {
             visit_pair(scratch, kind, p, q)
         }
-        basis::kinds::GUARDED if is_counted(scratch, q) => Visit::Done(pair(scratch, q)),
-        basis::kinds::GUARDED => Visit::Part(q),
-        basis::kinds::CALL if p < level => Visit::Done(pair(scratch, fleet.body_at(p))),
-        basis::kinds::CALL => Visit::High,
+        Ok(NodeKind::Guarded) if is_counted(scratch, q) => Visit::Done(pair(scratch, q)),
+        Ok(NodeKind::Guarded) => Visit::Part(q),
+        Ok(NodeKind::Call) if p < level => Visit::Done(pair(scratch, fleet.body_at(p))),
+        Ok(NodeKind::Call) => Visit::High,
         _ => Visit::Done(NONE),
     }
 }

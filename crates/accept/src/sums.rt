@@ -1,9 +1,11 @@
 // Sums and products of counts, held at 65,536.
 ghost use Rattle.std.specs.Prelude.{◌≡◌, ◌*◌, ◌≤◌};
+ghost use Rattle.basis.specs.NodeKinds.{number_of};
 ghost use Rattle.accept.specs.Counts.{capped, Capped, choice_counts, seq_counts, par_counts};
 ghost use Rattle.accept.specs.Calls.{joined_counts};
 
 use crate::Counts;
+use basis::NodeKind;
 
 // What a count is held at.
 pub const COUNT_LIMIT: u32 = 65536;
@@ -74,14 +76,14 @@ pub fn parallel(p: Counts, q: Counts) -> Counts
 
 // Of a sequence, a choice or a parallel, by its kind.
 #[tactic(auto, unfolding(crate::specs::Calls::joined_counts))]
-pub fn joined(kind: u8, p: Counts, q: Counts) -> Counts
+pub fn joined(kind: NodeKind, p: Counts, q: Counts) -> Counts
     requires fact_1 { Capped p }
     requires fact_2 { Capped q }
-    ensures { result ≡ joined_counts kind p q }
+    ensures { result ≡ joined_counts (number_of kind) p q }
 {
     match kind {
-        basis::kinds::SEQUENCE => sequence(p, q),
-        basis::kinds::CHOICE => choice(p, q),
+        NodeKind::Sequence => sequence(p, q),
+        NodeKind::Choice => choice(p, q),
         _ => parallel(p, q),
     }
 }
