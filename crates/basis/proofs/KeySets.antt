@@ -3,13 +3,17 @@
 use Prim.Native.Nat.{ℕ, zero, suc, ◌+◌, ◌-◌, ◌/◌, ◌%◌, ◌^◌, ◌<◌, ◌≤◌}
 use native.Mathlib.Nat.{pow-succ', div-div-eq-div-mul}
 use native.Mathlib.Omega.{arith}
-use mathlib.Core.Bool.{Bool, true, false, cond, not, ◌&&◌, ◌||◌, and-true, and-false}
+use mathlib.Core.Bool.{Bool, true, false, cond, not, ◌&&◌, ◌||◌, and-true, and-false, or-false, or_comm, and_comm}
 use mathlib.Core.Path.{◌≡◌, refl, sym, ap, ◌∙◌}
 use mathlib.Core.Logic.{⊎_elim}
 use lib.Pow.{pow_pos}
-use lib.Bits.{bit_and, bit_or, bit_xor, and_shr, or_shr, xor_shr, and_mod, or_mod, xor_mod}
 use lib.Count.{count_trailing_zeros, under}
+use lib.Bits.{bit_and, bit_or, bit_xor, and_shr, or_shr, xor_shr, and_mod, or_mod, xor_mod}
 use lib.Dec.{eqb, ltb, eqb-zero-suc, eqb-suc-zero, eqb-suc-suc}
+use Rattle.std.specs.Int.{w32}
+use Rattle.std.proofs.lemmas.Nat.{and_le_l, or_of_32, pow_below}
+use Rattle.std.proofs.lemmas.Nat.Bits.{bit_at_not}
+use native.Mathlib.Nat.{zero-add}
 use borrow.Author.Tests.{eqb-true, eqb-false, eq-eqb, ne_eqb, lt-ltb, le-ltb}
 use Rattle.basis.specs.Numbers.{for_each}
 use Rattle.basis.specs.KeySets.{has, plus, plus_if, minus, plus_all}
@@ -231,3 +235,26 @@ below_lowest (suc n) w k h = by (w % 2) refl k h (below_lowest n (w / 2))
     by zero e zero h lower = has_zero w ∙ rw e
     by zero e (suc j) h lower = has_suc w j ∙ lower j (omega arith)
     by (suc d) e k h lower = absurd (omega arith)
+
+-- the set with k, and without it, by operations digit by digit
+has_power : (k j : ℕ) → has (2 ^ k) j ≡ eqb k j
+has_power k j = rw (zero-add (2 ^ k), has_nothing j, or-false (eqb k j)) at (has_added k j 0 (has_nothing k))
+
+has_rest : (k j : ℕ) → k < 32 → j < 32 → has (2 ^ 32 - 1 - 2 ^ k) j ≡ not (eqb k j)
+unfolding has
+has_rest k j h l = rw (bit_at_not w32 (2 ^ k) j (pow_below k 32 h) l) (turned (2 ^ k / 2 ^ j % 2) (omega arith) ∙ ap not (has_power k j))
+  where
+    turned : (b : ℕ) → b < 2 → eqb (1 - b) 1 ≡ not (eqb b 1)
+    turned zero h = refl
+    turned (suc zero) h = refl
+    turned (suc (suc b)) h = absurd (omega arith)
+
+pub plus_either : (w k : ℕ) → w < 2 ^ 32 → k < 32 → bit_or w (2 ^ k) ≡ plus w k
+plus_either w k h l =
+    same_keys 32 (bit_or w (2 ^ k)) (plus w k) (or_of_32 w (2 ^ k) h (pow_below k 32 l)) (plus_small 32 w k l h)
+    (λ j i. has_either w (2 ^ k) j ∙ rw (has_power k j) (or_comm (has w j) (eqb k j)) ∙ sym (has_plus w k j))
+
+pub minus_both : (w k : ℕ) → w < 2 ^ 32 → k < 32 → bit_and w (2 ^ 32 - 1 - 2 ^ k) ≡ minus w k
+minus_both w k h l =
+    same_keys 32 (bit_and w (2 ^ 32 - 1 - 2 ^ k)) (minus w k) (omega (arith, and_le_l w (2 ^ 32 - 1 - 2 ^ k))) (minus_small 32 w k h)
+    (λ j i. has_both w (2 ^ 32 - 1 - 2 ^ k) j ∙ rw (has_rest k j l i) (and_comm (has w j) (not (eqb k j))) ∙ sym (has_minus w k j))

@@ -12,19 +12,12 @@ ghost use Rattle.basis.specs.KeySets.{has as has_key, plus as plus_key, plus_if,
 
 pub use node_kinds::{NodeKind, UnknownKind};
 
-// A byte as a number that more bytes can be added to.
-fn wide(b: u8) -> usize
-    ensures { (result ≡ b) × (result < 256) }
-{
-    b as usize
-}
-
 // The 16-bit number at a place of a byte slice, low byte first.
 pub fn u16_at(bytes: &[u8], at: usize) -> usize
     requires { at + 1 < length bytes.now }
     ensures { U16 bytes.now at result }
 {
-    wide(bytes[at]) + 256 * wide(bytes[at + 1])
+    u16::from_le_bytes([bytes[at], bytes[at + 1]]).into()
 }
 
 // The 32-bit number at a place, low half first.
@@ -32,7 +25,7 @@ pub fn u32_at(bytes: &[u8], at: usize) -> u32
     requires { at + 3 < length bytes.now }
     ensures { result ≡ u32_at bytes.now at }
 {
-    (u16_at(bytes, at) + 65536 * u16_at(bytes, at + 2)) as u32
+    u32::from_le_bytes([bytes[at], bytes[at + 1], bytes[at + 2], bytes[at + 3]])
 }
 
 // The word of the set of one key.
@@ -40,15 +33,16 @@ fn power(key: usize) -> u32
     requires { key < 32 }
     ensures { result ≡ 2 ^ key }
 {
-    1u32 << key
+    1 << key
 }
 
 // Whether a key is in a set.
+#[tactic(auto, using(std::proofs::lemmas::Nat::Bits::shr_and_one), unfolding(crate::specs::KeySets::has))]
 pub fn has(keys: u32, key: usize) -> bool
     requires { key < 32 }
     ensures { result ≡ has_key keys key }
 {
-    keys / power(key) % 2 == 1
+    keys >> key & 1 == 1
 }
 
 // The set with a key.
@@ -56,14 +50,11 @@ pub fn plus(keys: u32, key: usize) -> u32
     requires { key < 32 }
     ensures { result ≡ plus_key keys key }
 {
-    if has(keys, key) {
-        keys
-    } else {
-        keys + power(key)
-    }
+    keys | power(key)
 }
 
 // The set with a key, if asked to.
+#[tactic(auto, unfolding(crate::specs::KeySets::plus_if))]
 pub fn plus_if(keys: u32, key: usize, on: bool) -> u32
     requires { key < 32 }
     ensures { result ≡ plus_if keys key on }
@@ -76,11 +67,7 @@ pub fn minus(keys: u32, key: usize) -> u32
     requires { key < 32 }
     ensures { result ≡ minus_key keys key }
 {
-    if has(keys, key) {
-        keys - power(key)
-    } else {
-        keys
-    }
+    keys & !power(key)
 }
 
 // The lowest key of a set that has one.
@@ -88,5 +75,5 @@ pub fn lowest(keys: u32) -> usize
     requires { 0 < keys }
     ensures { (result < 32) × (has_key keys result ≡ true) × ((k : ℕ) → k < result → has_key keys k ≡ false) }
 {
-    u32::trailing_zeros(keys) as usize
+    keys.trailing_zeros() as usize
 }
