@@ -32,8 +32,8 @@ pub fn total(mode: Mode, c: Counts) -> u64
 // Derivation c of a sequence or a parallel; `beside` actions of the right part come before the joined ones: none in a
 // sequence.
 pub fn pick(mode: Mode, c: u64, beside: u64, left: Counts, right: Counts) -> Pick
-    requires fact_1 { Capped left }
-    requires fact_2 { Capped right }
+    requires left { Capped left }
+    requires right { Capped right }
     ensures { result ≡ pick_of mode c beside left right }
 {
     let first = acting(mode, left);

@@ -4,18 +4,16 @@ use Prim.Native.Nat.{ℕ, ◌+◌, ◌-◌, ◌≤◌, ◌<◌}
 use mathlib.Core.Path.{◌≡◌, sym, ap, ap₂, ◌∙◌}
 use mathlib.Core.List.{List, ◌++◌, append_assoc, append-nil}
 use native.Mathlib.Omega.{arith}
-use lib.ListN.{length, take, drop, length-append, take-append-drop}
-use lib.Seq.{drop-drop, take-add, take-append_seam}
+use lib.ListN.{length, take, drop, length-append, length-drop}
+use lib.Seq.{paste, length-paste, take-paste, drop-paste, take-append_seam}
+use Rattle.std.specs.List.{copy_within}
 use Rattle.table.specs.Tables.{Table}
 use Rattle.term.specs.Terms.{Term, words}
-use Rattle.term.specs.Processes.{Derivation}
-use Rattle.choice.specs.declared.Gap.{Gap}
+use Rattle.choice.specs.Turns.{goal_of}
 use Rattle.choice.specs.declared.Goal.{Goal}
-use Rattle.choice.specs.Writing.{Room, Written}
-use Rattle.choice.specs.Turns.{goal_of, chosen_at, Reached}
-use Rattle.residual.specs.Steps.{Target, Choosable, going, Acting, Joining, Stands}
-use Rattle.residual.specs.Wholes.{Placed}
-use Rattle.residual.proofs.Moving.{Moved, moved_before, moved_after, moved_part}
+use Rattle.residual.specs.declared.Cursor.{Cursor}
+use Rattle.residual.specs.Steps.{Choosable, going, Acting, Joining, Stands}
+use Rattle.residual.proofs.Moving.{paste_before, paste_from, paste_after}
 use Rattle.residual.proofs.Places.{past, begins}
 use Rattle.residual.proofs.Standing.{stands_within, part_size, part_before, part_begins}
 
@@ -23,7 +21,7 @@ regroup : (a b x q r : List ℕ) → (a ++ b) ++ (x ++ (q ++ r)) ≡ a ++ ((b ++
 regroup a b x q r = simp append_assoc
 
 -- the walk has come to a target: what that leaves, between the words before the front and those after the term, is to be left, and fits
-pub record Spot (t : Table) (goal : List ℕ) (room front : ℕ) (g : Target) (ws : List ℕ) : Type 0 where
+pub record Spot (t : Table) (goal : List ℕ) (room front : ℕ) (g : Goal Cursor) (ws : List ℕ) : Type 0 where
   pub long : length ws ≡ room
   pub term : Term
   pub stands : Stands t term g ws
@@ -31,7 +29,7 @@ pub record Spot (t : Table) (goal : List ℕ) (room front : ℕ) (g : Target) (w
   pub fits : front + length (words (going t term g).leaving) ≤ g.from.at + length (words term)
   pub words : take front ws ++ (words (going t term g).leaving ++ drop (g.from.at + length (words term)) ws) ≡ goal
 
-module _ (t : Table) (goal : List ℕ) (room front : ℕ) (g : Target) (ws : List ℕ) (w : Spot t goal room front g ws) where
+module _ (t : Table) (goal : List ℕ) (room front : ℕ) (g : Goal Cursor) (ws : List ℕ) (w : Spot t goal room front g ws) where
   abbrev T : Term
   T = w.term
 
@@ -45,17 +43,17 @@ module _ (t : Table) (goal : List ℕ) (room front : ℕ) (g : Target) (ws : Lis
   spot_within = (w.order, stands_within t T g ws w.stands)
 
   -- the words up to an acting part have been moved down to the front
-  module _ (h : Target) (after : ℕ) (s : Acting t w.term g h after) where
+  module _ (h : Goal Cursor) (after : ℕ) (s : Acting t w.term g h after) where
     abbrev n : ℕ
     n = h.from.at - at
 
     pub acts_bound : (front ≤ g.from.at) × (g.from.at + (h.from.at - g.from.at) ≤ length ws) × (g.from.at < h.from.at)
     acts_bound = omega (arith, part_size t T g ws w.stands s.part, spot_within, s.part.place, s.part.some)
 
-    pub spot_acts : (out : List ℕ) → Moved ws g.from.at front (h.from.at - g.from.at) out → Spot t goal room (front + (h.from.at - g.from.at)) h out
+    pub spot_acts : (out : List ℕ) → out ≡ copy_within ws g.from.at h.from.at front → Spot t goal room (front + (h.from.at - g.from.at)) h out
     spot_acts out v =
         record {
-          long = v.same ∙ w.long;
+          long = rw v (length-paste ws front (drop at ws) n (omega (arith, b)) room_there) ∙ w.long;
           term = s.term;
           stands = record { choosable = s.part.choosable; begins = begins out h.from.at (words s.term) tail there };
           order = omega (arith, b);
@@ -67,6 +65,9 @@ module _ (t : Table) (goal : List ℕ) (room front : ℕ) (g : Target) (ws : Lis
       where
         b : (front ≤ at) × (at + n ≤ length ws) × (at < h.from.at)
         b = acts_bound
+
+        room_there : n ≤ length (drop at ws)
+        room_there = rw length-drop (omega (arith, b))
 
         size : n ≡ length s.part.before
         size = omega (arith, s.part.place)
@@ -81,40 +82,45 @@ module _ (t : Table) (goal : List ℕ) (room front : ℕ) (g : Target) (ws : Lis
         x = ap length s.around.words ∙ length-append s.part.before (left ++ s.part.after)
 
         there : drop h.from.at out ≡ words s.term ++ tail
-        there = moved_after ws at front n out v h.from.at (omega (arith, b)) ∙ part_begins t T g ws w.stands s.part
+        there = rw v (paste_after ws front (drop at ws) n (omega (arith, b)) room_there h.from.at (omega (arith, b))) ∙ part_begins t T g ws w.stands s.part
 
         before : take (front + n) out ≡ take front ws ++ s.part.before
         before =
-            take-add front n out ∙
-            ap₂ (λ x y. x ++ y) (moved_before ws at front n out v front (omega arith))
-            (moved_part ws at front n out v (omega (arith, b)) (omega (arith, b)) ∙ ap (λ (k : ℕ). take k (drop at ws)) size ∙ part_before t T g ws w.stands s.part)
+            rw v (take-paste ws front (drop at ws) n (omega (arith, b)) room_there) ∙
+            ap (λ (l : List ℕ). take front ws ++ l) (ap (λ (k : ℕ). take k (drop at ws)) size ∙ part_before t T g ws w.stands s.part)
 
   -- the joined part's n words have been moved up to the term's end
-  module _ (h : Target) (n after : ℕ) (k : Target) (s : Joining t w.term g h n after k) where
+  module _ (h : Goal Cursor) (n after : ℕ) (k : Goal Cursor) (s : Joining t w.term g h n after k) where
     abbrev to : ℕ
     to = h.from.at + after
 
     pub joins_bound : (g.from.at < h.from.at) × (h.from.at + after + n ≤ length ws)
     joins_bound = omega (arith, part_size t T g ws w.stands s.part, spot_within, s.part.place, s.part.some, s.size, s.rest)
 
-    pub spot_joins : (out : List ℕ) → Moved ws h.from.at (h.from.at + after) n out
+    pub spot_joins : (out : List ℕ) → out ≡ copy_within ws h.from.at (h.from.at + n) (h.from.at + after)
         → Spot t goal room front (goal_of (record { at = h.from.at + after }) h.mode h.choice) out
     spot_joins out v =
         record {
-          long = v.same ∙ w.long;
+          long = rw put (length-paste ws to (drop h.from.at ws) n (omega (arith, b)) room_there) ∙ w.long;
           term = s.term;
           stands = record { choosable = record { over = c.over; few = c.few; choice = c.choice }; begins = begins out to (words s.term) (drop (to + n) out) there };
           order = omega (arith, w.order, b);
           fits = omega (arith, w.fits, ends, ap length leaves);
           words =
               ap₂ (λ (f e : List ℕ). f ++ (words (going t s.term h).leaving ++ e))
-              (moved_before ws h.from.at to n out v front (omega (arith, w.order, b)))
-              (moved_after ws h.from.at to n out v (to + length (words s.term)) (omega (arith, s.size)) ∙ ap (λ (i : ℕ). drop i ws) ends) ∙
+              (rw put (paste_before ws to (drop h.from.at ws) n (omega (arith, b)) room_there front (omega (arith, w.order, b))))
+              (rw put (paste_after ws to (drop h.from.at ws) n (omega (arith, b)) room_there (to + length (words s.term)) (omega (arith, s.size))) ∙ ap (λ (i : ℕ). drop i ws) ends) ∙
               ap (λ (l : List ℕ). take front ws ++ (l ++ rest)) (sym leaves) ∙ w.words;
         }
       where
         b : (at < h.from.at) × (to + n ≤ length ws)
         b = joins_bound
+
+        room_there : n ≤ length (drop h.from.at ws)
+        room_there = rw length-drop (omega (arith, b))
+
+        put : out ≡ paste ws to (drop h.from.at ws) n
+        put = let e : h.from.at + n - h.from.at ≡ n = omega arith in v ∙ ap (λ (k : ℕ). paste ws to (drop h.from.at ws) k) e
 
         c : Choosable t s.term h
         c = s.part.choosable
@@ -125,26 +131,10 @@ module _ (t : Table) (goal : List ℕ) (room front : ℕ) (g : Target) (ws : Lis
         leaves : words (going t T g).leaving ≡ words (going t s.term h).leaving
         leaves = s.around.words ∙ append-nil (words (going t s.term h).leaving)
 
+        joined : take n (drop h.from.at ws) ≡ words s.term
+        joined = ap₂ (λ (i : ℕ) (l : List ℕ). take i l) s.size (part_begins t T g ws w.stands s.part) ∙ take-append_seam (words s.term) _
+
         there : drop to out ≡ words s.term ++ drop (to + n) out
         there =
-            sym (take-append-drop n (drop to out)) ∙
-            ap₂ (λ x y. x ++ y)
-            (moved_part ws h.from.at to n out v (omega (arith, b)) (omega (arith, b)) ∙
-            ap₂ (λ (i : ℕ) (l : List ℕ). take i l) s.size (part_begins t T g ws w.stands s.part) ∙ take-append_seam (words s.term) _)
-            (drop-drop n to out)
-
-  -- a term of one word
-  module _ (one : length (words w.term) ≡ 1) where
-    pub placed : (l : List ℕ) → words (going t w.term g).leaving ≡ l → (r : Gap) (out : List ℕ) → Written ws front (g.from.at + 1) l r out → Placed goal room r out
-    placed l e r out k =
-        record {
-          same = k.same ∙ w.long;
-          order = k.order;
-          end = omega (arith, k.end, w.long);
-          words = k.words ∙ ap₂ (λ (x : List ℕ) (y : ℕ). take front ws ++ (x ++ drop (at + y) ws)) (sym e) (sym one) ∙ w.words;
-        }
-
-    pub room_node : (h : Goal ℕ) → Reached t h → going t w.term g ≡ chosen_at t h → Room t h (record { front = front; back = g.from.at + 1 }) ws
-    room_node h r e =
-        let f = ap (λ (x : Derivation). length (words x.leaving)) e in
-        record { reached = r; fits = omega (arith, w.fits); end = omega (arith, spot_within) }
+            rw put (paste_from ws to (drop h.from.at ws) n (omega (arith, b)) room_there ∙ ap (λ (l : List ℕ). l ++ drop (to + n) ws) joined ∙
+            ap (λ (l : List ℕ). words s.term ++ l) (sym (drop-paste ws to (drop h.from.at ws) n (omega (arith, b)) room_there)))

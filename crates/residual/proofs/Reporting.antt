@@ -15,12 +15,14 @@ use Rattle.choice.specs.Marking.{WalkMarks, Marked}
 use Rattle.choice.specs.Outcomes.{grown_by, Walked}
 use Rattle.choice.proofs.Turning.{around_size}
 use Rattle.choice.proofs.Collecting.{marked_none, marked_join, marked_same}
-use Rattle.residual.specs.Steps.{Target, going, Part, Acting, Joining, Stands}
+use Rattle.choice.specs.declared.Goal.{Goal}
+use Rattle.residual.specs.declared.Cursor.{Cursor}
+use Rattle.residual.specs.Steps.{going, Part, Acting, Joining, Stands}
 use Rattle.residual.proofs.Standing.{part_size, part_stands}
 
 -- the walk to derivation d has come to a target, and its marks from ms to vs: d does what that does, leaves so many
 -- words more, and the guards passed are marked
-pub record Toward (t : Table) (ws : List ℕ) (d : Derivation) (ms : List ℕ) (g : Target) (more : ℕ) (vs : List ℕ) : Type 0 where
+pub record Toward (t : Table) (ws : List ℕ) (d : Derivation) (ms : List ℕ) (g : Goal Cursor) (more : ℕ) (vs : List ℕ) : Type 0 where
   pub term : Term
   pub stands : Stands t term g ws
   pub label : d.label ≡ (going t term g).label
@@ -30,8 +32,8 @@ pub record Toward (t : Table) (ws : List ℕ) (d : Derivation) (ms : List ℕ) (
   pub guards : d.guards ≡ passed ++ (going t term g).guards
   pub marked : Marked t passed ms vs
 
-module _ (t : Table) (ws : List ℕ) (d : Derivation) (ms : List ℕ) (marks : WalkMarks t ms) (g : Target) (more : ℕ) (vs : List ℕ) (w : Toward t ws d ms g more vs) where
-  toward_on : (h : Target) (X : Term) → Part t w.term g X h → (us front back : List ℕ) → Around (going t w.term g) (going t X h) us front back
+module _ (t : Table) (ws : List ℕ) (d : Derivation) (ms : List ℕ) (marks : WalkMarks t ms) (g : Goal Cursor) (more : ℕ) (vs : List ℕ) (w : Toward t ws d ms g more vs) where
+  toward_on : (h : Goal Cursor) (X : Term) → Part t w.term g X h → (us front back : List ℕ) → Around (going t w.term g) (going t X h) us front back
       → length front + length back + length (words X) ≤ length (words w.term) → (k : ℕ) → k ≡ more + (length front + length back)
       → (out : List ℕ) → Marked t us vs out → Toward t ws d ms h k out
   toward_on h X p us front back a l k e out m =
@@ -47,12 +49,12 @@ module _ (t : Table) (ws : List ℕ) (d : Derivation) (ms : List ℕ) (marks : W
         marked = marked_join t ms marks w.passed us vs out w.marked m;
       }
 
-  pub toward_acts : (h : Target) (after : ℕ) → Acting t w.term g h after → Toward t ws d ms h (more + (h.from.at - g.from.at + after)) vs
+  pub toward_acts : (h : Goal Cursor) (after : ℕ) → Acting t w.term g h after → Toward t ws d ms h (more + (h.from.at - g.from.at + after)) vs
   toward_acts h after s =
       let z = part_size t w.term g ws w.stands s.part in
       toward_on h s.term s.part _ _ _ s.around (omega arith) _ (omega (arith, s.size, s.part.place)) vs (marked_none t vs w.marked.marks)
 
-  pub toward_joins : (h : Target) (n after : ℕ) (k : Target) (s : Joining t w.term g h n after k)
+  pub toward_joins : (h : Goal Cursor) (n after : ℕ) (k : Goal Cursor) (s : Joining t w.term g h n after k)
       → (out : List ℕ) → Marked t (going t s.ticking k).guards vs out → Toward t ws d ms h more out
   toward_joins h n after k s out m =
       let z = part_size t w.term g ws w.stands s.part in

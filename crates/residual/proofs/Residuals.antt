@@ -1,14 +1,12 @@
 -- A whole residual in the words that hold it: where it stands, its choices, and what it becomes.
 -- Assumes nothing.
 use Prim.Native.Nat.{ℕ, ◌+◌, ◌-◌, ◌<◌, ◌≤◌}
-use mathlib.Core.Path.{◌≡◌, refl, sym, ap, ap₂, subst, ◌∙◌}
+use mathlib.Core.Path.{◌≡◌, refl, sym, ap, subst, ◌∙◌}
 use mathlib.Core.List.{List, [], ◌++◌, append-nil}
 use native.Mathlib.Nat.{zero-add}
 use native.Mathlib.Omega.{arith}
-use lib.ListN.{length, take, drop, replicate, length-append, length-drop}
-use lib.Seq.{take-add, length-take-le}
+use lib.ListN.{length, drop, length-drop}
 use Rattle.std.specs.Prelude.{Option, Some, None}
-use Rattle.basis.proofs.Lists.{take_rest}
 use Rattle.table.specs.Tables.{Table, first_root}
 use Rattle.term.specs.declared.Mode.TheVariants.{Any}
 use Rattle.term.specs.Terms.{Term, words}
@@ -16,7 +14,6 @@ use Rattle.term.specs.Accepted.{Over}
 use Rattle.term.specs.Processes.{Derivation, process, derivation_at}
 use Rattle.term.proofs.Counting.{length_derivations}
 use Rattle.term.proofs.Words.{whole_read}
-use Rattle.choice.specs.declared.Gap.{Gap}
 use Rattle.choice.specs.Picks.{total_of}
 use Rattle.choice.specs.Turns.{Prepared}
 use Rattle.choice.specs.Marking.{WalkMarks}
@@ -25,8 +22,7 @@ use Rattle.choice.proofs.Collecting.{marked_none}
 use Rattle.residual.specs.declared.Measured.{Measured}
 use Rattle.residual.specs.Measures.{Told, ToldIf, Found}
 use Rattle.residual.specs.Steps.{whole_of, going, Stands}
-use Rattle.residual.specs.Wholes.{Whole, residual_term, Taking, Offered, Placed, Rewritten}
-use Rattle.residual.proofs.Moving.{Moved, moved_before, moved_part}
+use Rattle.residual.specs.Wholes.{Whole, residual_term, Taking, Offered}
 use Rattle.residual.proofs.Places.{empty, begins}
 use Rattle.residual.proofs.Placing.{Spot}
 use Rattle.residual.proofs.Reporting.{Toward}
@@ -97,39 +93,3 @@ module _ (t : Table) (s : List ℕ) (ready : Prepared t s) (at : ℕ) (ws : List
           fits = omega (arith, term_size);
           words = rw (empty (drop (at + length (words T)) ws) (length-drop (at + length (words T)) ws ∙ omega (arith, term_size))) (append-nil _ ∙ sym e);
         }
-
--- it has been moved up to the end of the words
-pub moved_up : (size : ℕ) (ws vs : List ℕ) → size ≤ length ws → Moved ws 0 (length ws - size) size vs → drop (length ws - size) vs ≡ take size ws
-moved_up size ws vs h m =
-    let e : length vs - (length ws - size) ≡ size = omega (arith, m.same) in
-    sym (take_rest vs (length ws - size)) ∙ ap (λ (n : ℕ). take n (drop (length ws - size) vs)) e ∙
-    moved_part ws 0 (length ws - size) size vs m (omega arith) (omega arith)
-
--- the gap that is left is closed, and the rest cleared
-module _ (goal out : List ℕ) (gap : Gap) (room : ℕ) (w : Placed goal room gap out) where
-  goal_size : length goal ≡ gap.front + (room - gap.back)
-  goal_size =
-      let a = length-take-le gap.front out (omega (arith, w.order, w.end, w.same)) in
-      let b = length-drop gap.back out in
-      let e = sym (ap length w.words) ∙ length-append (take gap.front out) (drop gap.back out) in
-      omega (arith, w.same)
-
-  pub rewritten : (ws : List ℕ) → room ≡ length ws → (n : ℕ) → n ≡ room - gap.back → (two : List ℕ) → Moved out gap.back gap.front n two
-      → (three : List ℕ) → three ≡ take (gap.front + n) two ++ replicate (length two - (gap.front + n)) 0 → Rewritten goal ws (gap.front + n) three
-  rewritten ws l n e two m three f = record { size = omega (arith, goal_size); words = f ∙ ap₂ (λ (x : List ℕ) (y : ℕ). x ++ replicate y 0) front zeros }
-    where
-      g : (gap.front ≤ gap.back) × (gap.back ≤ room) × (length out ≡ room)
-      g = (w.order, w.end, w.same)
-
-      zeros : length two - (gap.front + n) ≡ length ws - length goal
-      zeros = omega (arith, goal_size, m.same, g)
-
-      rest : n ≡ length out - gap.back
-      rest = omega (arith, g)
-
-      front : take (gap.front + n) two ≡ goal
-      front =
-          take-add gap.front n two ∙
-          ap₂ (λ x y. x ++ y) (moved_before out gap.back gap.front n two m gap.front (omega arith))
-          (moved_part out gap.back gap.front n two m (omega (arith, g)) (omega (arith, g)) ∙ ap (λ (k : ℕ). take k (drop gap.back out)) rest ∙ take_rest out gap.back) ∙
-          w.words

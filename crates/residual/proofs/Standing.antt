@@ -10,8 +10,10 @@ use Rattle.table.specs.Tables.{Table, first_root}
 use Rattle.term.specs.Terms.{Term, words}
 use Rattle.term.proofs.Words.{words_some}
 use Rattle.choice.specs.Turns.{Prepared}
+use Rattle.choice.specs.declared.Goal.{Goal}
+use Rattle.residual.specs.declared.Cursor.{Cursor}
 use Rattle.residual.specs.Measures.{Pairs}
-use Rattle.residual.specs.Steps.{Target, Part, Stands}
+use Rattle.residual.specs.Steps.{Part, Stands}
 use Rattle.residual.proofs.Places.{past, begins, term_within}
 
 -- the words hold counts below 65,536
@@ -23,7 +25,7 @@ pairs_ready t s r roots e =
       small = λ n h. let f = r.counted.few n (omega arith) in record { actions = omega arith; ticks = omega arith };
     }
 
-module _ (t : Table) (T : Term) (g : Target) (ws : List ℕ) (stands : Stands t T g ws) where
+module _ (t : Table) (T : Term) (g : Goal Cursor) (ws : List ℕ) (stands : Stands t T g ws) where
   abbrev at : ℕ
   at = g.from.at
 
@@ -37,7 +39,7 @@ module _ (t : Table) (T : Term) (g : Target) (ws : List ℕ) (stands : Stands t 
   stands_here = let w = stands_within in let n = words_some T in omega arith
 
   -- a part of it
-  module _ {X : Term} {h : Target} (p : Part t T g X h) where
+  module _ {X : Term} {h : Goal Cursor} (p : Part t T g X h) where
     pub part_size : length (words T) ≡ length p.before + length (words X) + length p.after
     part_size = ap length p.term ∙ length-append p.before (words X ++ p.after) ∙ (let e = length-append (words X) p.after in omega arith)
 

@@ -28,12 +28,13 @@ use Rattle.choice.specs.Turns.{goal_of, Around}
 use Rattle.choice.proofs.Chosen.{no_idle, chosen_tick}
 use Rattle.choice.proofs.Turning.{ended_tick, around_under, around_before, around_right, around_left}
 use Rattle.choice.proofs.Picking.{acting_true, SeqPicked, ParPicked, seq_picked, par_picked}
+use Rattle.choice.specs.declared.Goal.{Goal}
 use Rattle.residual.specs.declared.Cursor.{Cursor}
 use Rattle.residual.specs.declared.Measured.{Measured}
 use Rattle.residual.specs.declared.Step.TheVariants.{Ticked, Leaf}
 use Rattle.residual.specs.Reading.{read_at}
 use Rattle.residual.specs.Measures.{Found, Told}
-use Rattle.residual.specs.Steps.{Target, beside_of, pick_step, Choosable, going, Part, Stepped, Stands}
+use Rattle.residual.specs.Steps.{beside_of, pick_step, Choosable, going, Part, Stepped, Stands}
 use Rattle.residual.proofs.Places.{first, others, word_is, node_plain}
 use Rattle.residual.proofs.Whole.{read_word}
 use Rattle.residual.proofs.Measures.{held_true, told_left, told_right}
@@ -58,7 +59,7 @@ module _ (t : Table) where
       (and_left (all_few t p) (all_few t q) f, and_right (all_few t p) (all_few t q) f)
 
 -- at an operator's term T, whose word is w
-module _ (t : Table) (T p q : Term) (g : Target) (w : ℕ) (left right end : Cursor) (term : words T ≡ w ∷ (words p ++ words q)) (over : Over t p × Over t q)
+module _ (t : Table) (T p q : Term) (g : Goal Cursor) (w : ℕ) (left right end : Cursor) (term : words T ≡ w ∷ (words p ++ words q)) (over : Over t p × Over t q)
     (all : (few (process t T) && (all_few t p && all_few t q)) ≡ true) (l : left.at ≡ g.from.at + 1) (r : right.at ≡ g.from.at + 1 + length (words p))
     (e : end.at ≡ right.at + length (words q)) where
   both : (all_few t p ≡ true) × (all_few t q ≡ true)
@@ -113,11 +114,11 @@ module _ (t : Table) (T p q : Term) (g : Target) (w : ℕ) (left right end : Cur
       record { term = p; part = left_part g.mode i k; size = omega arith; rest = omega arith; ticking = q; tick = right_part Ticks j h; around = around_under d _ _ u }
 
 -- where nothing is found stands no term with a choice
-pub none_stands : (t : Table) {roots : ℕ} {s ws : List ℕ} {g : Target} → first_root t ≡ roots → Counted t s → Found roots s ws g.from.at None → (T : Term) → Stands t T g ws → ⊥
+pub none_stands : (t : Table) {roots : ℕ} {s ws : List ℕ} {g : Goal Cursor} → first_root t ≡ roots → Counted t s → Found roots s ws g.from.at None → (T : Term) → Stands t T g ws → ⊥
 none_stands t same counted f T st = not_both st.choosable.few (f.right t same counted T _ st.choosable.over st.begins)
 
 -- the steps as the code finds them
-module _ (t : Table) (roots : ℕ) (small : roots ≤ 4096) (s ws : List ℕ) (g : Target) (same : first_root t ≡ roots) (counted : Counted t s)
+module _ (t : Table) (roots : ℕ) (small : roots ≤ 4096) (s ws : List ℕ) (g : Goal Cursor) (same : first_root t ≡ roots) (counted : Counted t s)
     (w : ℕ) (next : Cursor) (read : read_at ws g.from.at ≡ Some (w, next)) (T : Term) (stands : Stands t T g ws) where
   abbrev at : ℕ
   at = g.from.at

@@ -23,11 +23,8 @@ use Rattle.residual.specs.declared.Step.TheVariants.{Ticked, Leaf, Acts, Joins}
 unfoldable pub beside_of : ℕ → Mode → Counts → ℕ
 beside_of w m Q = cond (eqb w seq_word) 0 (acting_of m Q)
 
-abbrev pub Target : Type 0
-Target = Goal Cursor
-
 -- choice c of all derivations of the term at a place
-abbrev pub whole_of : ℕ → ℕ → Target
+abbrev pub whole_of : ℕ → ℕ → Goal Cursor
 whole_of at c = goal_of (record { at = at }) Any c
 
 -- at an operator's term, by the cursors of its parts and of its end
@@ -38,22 +35,22 @@ pick_step m left right end (LeftTicks j i) = Joins (goal_of right m i) (end.at -
 pick_step m left right end (RightTicks j i) = Joins (goal_of left m i) (right.at - left.at) (end.at - right.at) (goal_of right Ticks j)
 
 -- the target's choice of a term over process nodes is there, and each subterm has few derivations
-pub record Choosable (t : Table) (T : Term) (g : Target) : Type 0 where
+pub record Choosable (t : Table) (T : Term) (g : Goal Cursor) : Type 0 where
   pub over : Over t T
   pub few : all_few t T ≡ true
   pub choice : g.choice < count_in g.mode (process t T)
 
 -- the derivation that the choice is
-abbrev pub going : Table → Term → Target → Derivation
+abbrev pub going : Table → Term → Goal Cursor → Derivation
 going t T g = chosen_in g.mode (process t T) g.choice
 
 -- the term stands at the target's place of ws, and its choice is there
-pub record Stands (t : Table) (T : Term) (g : Target) (ws : List ℕ) : Type 0 where
+pub record Stands (t : Table) (T : Term) (g : Goal Cursor) (ws : List ℕ) : Type 0 where
   pub choosable : Choosable t T g
   pub begins : drop g.from.at ws ≡ words T ++ drop (g.from.at + length (words T)) ws
 
 -- the term X, target h's, is a part of the term T, target g's: it stands between some words
-pub record Part (t : Table) (T : Term) (g : Target) (X : Term) (h : Target) : Type 0 where
+pub record Part (t : Table) (T : Term) (g : Goal Cursor) (X : Term) (h : Goal Cursor) : Type 0 where
   pub before : List ℕ
   pub after : List ℕ
   pub term : words T ≡ before ++ (words X ++ after)
@@ -62,14 +59,14 @@ pub record Part (t : Table) (T : Term) (g : Target) (X : Term) (h : Target) : Ty
   pub choosable : Choosable t X h
 
 -- an action of a part: the words around the part stay
-pub record Acting (t : Table) (T : Term) (g h : Target) (after : ℕ) : Type 0 where
+pub record Acting (t : Table) (T : Term) (g h : Goal Cursor) (after : ℕ) : Type 0 where
   pub term : Term
   pub part : Part t T g term h
   pub size : after ≡ length part.after
   pub around : Around (going t T g) (going t term h) [] part.before part.after
 
 -- a tick of one part joins a derivation of the other, whose words alone stay
-pub record Joining (t : Table) (T : Term) (g h : Target) (n after : ℕ) (k : Target) : Type 0 where
+pub record Joining (t : Table) (T : Term) (g h : Goal Cursor) (n after : ℕ) (k : Goal Cursor) : Type 0 where
   pub term : Term
   pub part : Part t T g term h
   pub size : n ≡ length (words term)
@@ -79,13 +76,13 @@ pub record Joining (t : Table) (T : Term) (g h : Target) (n after : ℕ) (k : Ta
   pub around : Around (going t T g) (going t term h) (going t ticking k).guards [] []
 
 -- what a step says of the target's choice of the term T
-abbrev pub Stepped : Table → Term → Target → Step → Type 0
+abbrev pub Stepped : Table → Term → Goal Cursor → Step → Type 0
 Stepped t T g Ticked = (length (words T) ≡ 1) × Ended (going t T g) Ticking idle_word
 Stepped t T g (Leaf h) = (length (words T) ≡ 1) × Reached t h × (going t T g ≡ chosen_at t h)
 Stepped t T g (Acts h after) = Acting t T g h after
 Stepped t T g (Joins h n after k) = Joining t T g h n after k
 
 -- there is a step, and so much is said of it
-abbrev pub SteppedIf : Table → Term → Target → Option Step → Type 0
+abbrev pub SteppedIf : Table → Term → Goal Cursor → Option Step → Type 0
 SteppedIf t T g None = ⊥
 SteppedIf t T g (Some r) = Stepped t T g r

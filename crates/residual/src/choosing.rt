@@ -19,7 +19,7 @@ use basis::words::clear;
 use choice::marking::mark_node;
 use choice::picks::total;
 use choice::{Effect, Gap};
-use table::{Sizes, first_root};
+use table::Sizes;
 use term::{Label, Mode};
 
 // How many derivations the residual has; nothing where some subterm has too many (refusals 12 and 13).
@@ -29,7 +29,7 @@ pub fn count_choices(sizes: Sizes, counts: &[u32], words: &[u32]) -> Option<u64>
     ensures { (t : Table) → t.sizes ≡ sizes → Prepared t counts.now →
         Whole t words.now → Offered t (residual_term words.now) result }
 {
-    let all = measure(first_root(sizes), counts, words, Cursor::start())?;
+    let all = measure(sizes.first_root(), counts, words, Cursor::start())?;
     Some(total(Mode::Any, all.counts))
 }
 

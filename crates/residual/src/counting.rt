@@ -22,8 +22,8 @@ fn leaf(roots: usize, counts: &[u32], word: u32) -> Counts
 
 // The counts of an operator's term, from those of its parts.
 fn combined(word: u32, left: Counts, right: Counts) -> Counts
-    requires fact_1 { Capped left }
-    requires fact_2 { Capped right }
+    requires left { Capped left }
+    requires right { Capped right }
     ensures { result ≡ operator_counts word left right }
 {
     if word == term::SEQ_WORD {

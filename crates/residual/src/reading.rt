@@ -6,7 +6,7 @@ ghost use Rattle.term.specs.Terms.{are_terms, is_operator};
 ghost use Rattle.residual.specs.Reading.{read_at, leaf_word};
 
 use crate::Cursor;
-use table::{Sizes, first_root, is_process};
+use table::{Sizes, is_process};
 
 impl Cursor {
     pub fn start() -> Self
@@ -50,7 +50,7 @@ pub fn whole_term(sizes: Sizes, kinds: &[u8], words: &[u32]) -> bool
     requires { (Limits sizes) × (sizes.nodes ≤ length kinds.now) }
     ensures { (operands : List ℕ) → result ≡ are_terms (table sizes kinds.now operands) 1 words.now }
 {
-    let roots = first_root(sizes);
+    let roots = sizes.first_root();
     let mut cursor = Cursor::start();
     let mut more: usize = 1;
     while let Some((word, next)) = cursor.read(words) {

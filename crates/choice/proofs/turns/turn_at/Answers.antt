@@ -42,7 +42,7 @@ pub pick-which-requires : goal.pick-which-requires
 pick-which-requires c =
     let a = (goal.at.pick-which-requires c).After-node_kind in
     let w = lower a 5 (rw c.in-Ok-Sequence.field-0-is at c.in-Ok-Sequence.ensures) (omega arith) (omega arith) in
-    record { fact_1 = subst Capped (sym c.counts_at.ensures) (lower_small (here a) _ w.0); fact_2 = subst Capped (sym c.counts_at-in-Ok-Sequence.ensures) (lower_small (here a) _ w.1) }
+    record { left = subst Capped (sym c.counts_at.ensures) (lower_small (here a) _ w.0); right = subst Capped (sym c.counts_at-in-Ok-Sequence.ensures) (lower_small (here a) _ w.1) }
 
 pub counts_at-requires-in-Ok-Choice : goal.counts_at-requires-in-Ok-Choice
 counts_at-requires-in-Ok-Choice c = let a = (goal.at.counts_at-requires-in-Ok-Choice c).After-node_kind in lower_low (here a) (lower a 6 (rw c.in-Ok-Choice.field-0-is at c.in-Ok-Choice.ensures) (omega arith) (omega arith)).0
@@ -62,7 +62,7 @@ pub pick-which-requires-in-Ok-Parallel : goal.pick-which-requires-in-Ok-Parallel
 pick-which-requires-in-Ok-Parallel c =
     let a = (goal.at.pick-which-requires-in-Ok-Parallel c).After-node_kind in
     let w = lower a 8 (rw c.in-Ok-Parallel.field-0-is at c.in-Ok-Parallel.ensures) (omega arith) (omega arith) in
-    record { fact_1 = subst Capped (sym c.counts_at-in-Ok-Parallel.ensures) (lower_small (here a) _ w.0); fact_2 = subst Capped (sym c.counts_at-right.ensures) (lower_small (here a) _ w.1) }
+    record { left = subst Capped (sym c.counts_at-in-Ok-Parallel.ensures) (lower_small (here a) _ w.0); right = subst Capped (sym c.counts_at-right.ensures) (lower_small (here a) _ w.1) }
 
 pub body_at-requires : goal.body_at-requires
 body_at-requires c = let a = (goal.at.body_at-requires c).After-node_kind in call_definition (here a) (kind a 9 (rw c.in-Ok-Call.field-0-is at c.in-Ok-Call.ensures))

@@ -4,14 +4,16 @@ use native.Mathlib.Omega.{arith}
 use lib.ListN.{length}
 use Rattle.accept.specs.Accepted.{accepted_table}
 use Rattle.term.specs.Terms.{Term}
-use Rattle.residual.specs.Steps.{Target, Part, Stands}
+use Rattle.choice.specs.declared.Goal.{Goal}
+use Rattle.residual.specs.declared.Cursor.{Cursor}
+use Rattle.residual.specs.Steps.{Part, Stands}
 use Rattle.choice.proofs.Collecting.{marked_none, marked_join, marked_same}
 use Rattle.residual.proofs.Standing.{stands_here, part_stands}
 use Rattle.residual.proofs.marking.+mark_tick_at.Goals as goal
 use Rattle.residual.proofs.marking.+mark_tick_at.Goals.{After-step_at}
 
 -- a part of the term that stands there
-module _ (t : ℕ) (c : After-step_at t) {T X : Term} {h : Target} (st : Stands (accepted_table c.args.accepted.now) T c.args.target c.args.words.now)
+module _ (t : ℕ) (c : After-step_at t) {T X : Term} {h : Goal Cursor} (st : Stands (accepted_table c.args.accepted.now) T c.args.target c.args.words.now)
     (p : Part (accepted_table c.args.accepted.now) T c.args.target X h) where
   stands : Stands (accepted_table c.args.accepted.now) X h c.args.words.now
   stands = part_stands (accepted_table c.args.accepted.now) T c.args.target c.args.words.now st p

@@ -1,9 +1,7 @@
 -- `place` meets its contract: the loop steps towards choice c (`Spot`), and the words before the gap are what it leaves of those passed.
 -- Assumes nothing.
-use mathlib.Core.Path.{refl}
 use native.Mathlib.Omega.{arith}
 use Rattle.accept.specs.Accepted.{accepted_table}
-use Rattle.residual.proofs.Moving.{moved}
 use Rattle.residual.proofs.Standing.{stands_here}
 use Rattle.residual.proofs.Placing.{spot_acts, spot_joins}
 use Rattle.residual.proofs.Residuals.{spot_whole}
@@ -21,11 +19,9 @@ overflow_add-back c = let i = c.loop-words.invariant in record { fits = omega (a
 pub loop-words-preserved-in-Acts : goal.loop-words-preserved-in-Acts
 loop-words-preserved-in-Acts c =
     let i = c.loop-words.invariant in
-    let e = c.copy_within.ensures in
-    spot_acts _ _ _ _ _ _ i _ _ (c.in-Acts.ensures i.term i.stands) _ (moved _ _ _ _ _ _ refl e.len e.by_index)
+    spot_acts _ _ _ _ _ _ i _ _ (c.in-Acts.ensures i.term i.stands) _ c.copy_within.ensures.after
 
 pub loop-words-preserved : goal.loop-words-preserved
 loop-words-preserved c =
     let i = c.loop-words.invariant in
-    let e = c.copy_within-in-Joins.ensures in
-    spot_joins _ _ _ _ _ _ i _ _ _ _ (c.in-Joins.ensures i.term i.stands) _ (moved _ _ _ _ _ _ (omega arith) e.len e.by_index)
+    spot_joins _ _ _ _ _ _ i _ _ _ _ (c.in-Joins.ensures i.term i.stands) _ c.copy_within-in-Joins.ensures.after
