@@ -1,8 +1,10 @@
 // The list of kinds: which sort a kind is, and what its fields hold.
 ghost use Rattle.std.specs.Prelude.{◌≡◌};
-ghost use Rattle.table.specs.Nodes.{is_process, is_guard, is_expression, is_node, process_rows, guard_rows, expression_rows, row_of, fields_of};
+ghost use Rattle.basis.specs.NodeKinds.{number_of};
+ghost use Rattle.table.specs.Nodes.{is_process, is_guard, is_expression, is_node, fields_of};
 
 use super::{Field, Fields};
+use basis::NodeKind;
 
 pub fn is_process(kind: u8) -> bool
     ensures { result ≡ is_process kind }
@@ -56,92 +58,69 @@ const EXPRESSIONS: Fields = Fields {
     q: Field::Expression,
 };
 
-#[tactic(auto, unfolding(crate::specs::Nodes::process_rows, crate::specs::Nodes::row_of))]
-fn process_fields(kind: u8) -> Fields
-    ensures { result ≡ row_of process_rows kind }
+// What the fields of a kind hold. Those of a root go by its place.
+#[tactic(auto, unfolding(crate::specs::Nodes::process_rows, crate::specs::Nodes::guard_rows, crate::specs::Nodes::expression_rows, crate::specs::Nodes::row_of))]
+fn kind_fields(kind: NodeKind) -> Fields
+    ensures { result ≡ fields_of (number_of kind) }
 {
     match kind {
-        basis::kinds::IDLE | basis::kinds::TICK => ZEROS,
-        basis::kinds::SET_ATTRIBUTE => Fields {
+        NodeKind::Idle | NodeKind::Tick | NodeKind::True => ZEROS,
+        NodeKind::SetAttribute => Fields {
             p: Field::Attribute,
             q: Field::Expression,
         },
-        basis::kinds::SET_STIGMERGY => Fields {
+        NodeKind::SetStigmergy => Fields {
             p: Field::Stigmergy,
             q: Field::Expression,
         },
-        basis::kinds::SET_ENVIRONMENT => Fields {
+        NodeKind::SetEnvironment => Fields {
             p: Field::Environment,
             q: Field::Expression,
         },
-        basis::kinds::SEQUENCE | basis::kinds::CHOICE | basis::kinds::PARALLEL => PROCESSES,
-        basis::kinds::GUARDED => Fields {
+        NodeKind::Sequence | NodeKind::Choice | NodeKind::Parallel => PROCESSES,
+        NodeKind::Guarded => Fields {
             p: Field::Guard,
             q: Field::Process,
         },
-        basis::kinds::CALL => Fields {
+        NodeKind::Call => Fields {
             p: Field::Definition,
             q: Field::Zero,
         },
-        _ => NOTHING,
-    }
-}
-
-#[tactic(auto, unfolding(crate::specs::Nodes::guard_rows, crate::specs::Nodes::row_of))]
-fn guard_fields(kind: u8) -> Fields
-    ensures { result ≡ row_of guard_rows kind }
-{
-    match kind {
-        basis::kinds::TRUE => ZEROS,
-        basis::kinds::EQUAL | basis::kinds::LESS | basis::kinds::GREATER => EXPRESSIONS,
-        basis::kinds::NOT => Fields {
+        NodeKind::Not => Fields {
             p: Field::Guard,
             q: Field::Zero,
         },
-        basis::kinds::AND | basis::kinds::OR => GUARDS,
-        _ => NOTHING,
-    }
-}
-
-#[tactic(auto, unfolding(crate::specs::Nodes::expression_rows, crate::specs::Nodes::row_of))]
-fn expression_fields(kind: u8) -> Fields
-    ensures { result ≡ row_of expression_rows kind }
-{
-    match kind {
-        basis::kinds::CONSTANT => Fields {
+        NodeKind::And | NodeKind::Or => GUARDS,
+        NodeKind::Constant => Fields {
             p: Field::Value,
             q: Field::Value,
         },
-        basis::kinds::ATTRIBUTE => Fields {
+        NodeKind::Attribute => Fields {
             p: Field::Attribute,
             q: Field::Party,
         },
-        basis::kinds::STIGMERGY => Fields {
+        NodeKind::Stigmergy => Fields {
             p: Field::Stigmergy,
             q: Field::Party,
         },
-        basis::kinds::ENVIRONMENT => Fields {
+        NodeKind::Environment => Fields {
             p: Field::Environment,
             q: Field::Zero,
         },
-        basis::kinds::PLUS
-        | basis::kinds::MINUS
-        | basis::kinds::TIMES
-        | basis::kinds::DIVIDE
-        | basis::kinds::REMAINDER => EXPRESSIONS,
-        _ => NOTHING,
+        NodeKind::Equal | NodeKind::Less | NodeKind::Greater => EXPRESSIONS,
+        NodeKind::Plus | NodeKind::Minus | NodeKind::Times => EXPRESSIONS,
+        NodeKind::Divide | NodeKind::Remainder => EXPRESSIONS,
+        NodeKind::Root => NOTHING,
     }
 }
 
-// What the fields of a kind hold, roots aside.
+// What the fields of a kind hold, roots aside. Nothing fits where a byte names no kind.
+#[tactic(auto, unfolding(crate::specs::Nodes::process_rows, crate::specs::Nodes::guard_rows, crate::specs::Nodes::expression_rows, crate::specs::Nodes::row_of))]
 pub fn fields_of(kind: u8) -> Fields
     ensures { result ≡ fields_of kind }
 {
-    if kind < basis::kinds::TRUE {
-        return process_fields(kind);
+    match NodeKind::try_from(kind) {
+        Ok(kind) => kind_fields(kind),
+        Err(_) => NOTHING,
     }
-    if kind < basis::kinds::CONSTANT {
-        return guard_fields(kind);
-    }
-    expression_fields(kind)
 }
