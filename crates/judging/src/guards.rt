@@ -7,12 +7,7 @@ use choice::marking::next_guard;
 use evaluation::{holds, keys_read};
 use table::{Fleet, Refused};
 
-pub fn ask_guards(
-    fleet: &Fleet,
-    state: &[u32],
-    marks: &[u32],
-    agent: usize,
-) -> Result<u32, Refused>
+pub fn ask_guards(fleet: &Fleet, state: &[u32], marks: &[u32], agent: usize) -> Result<u32, Refused>
     requires { GuardsGiven (table_in fleet.now) state.now agent marks.now }
     ensures { (gs : List ℕ) → GuardsMarked (table_in fleet.now) gs marks.now
         → result ≡ asked_of (table_in fleet.now) state.now agent gs }

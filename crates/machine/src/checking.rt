@@ -21,7 +21,12 @@ pub enum Planned {
 }
 
 // 18.
-fn judge_offer(state: &[u32], agent: usize, key: usize, confirming: bool) -> Result<Planned, Refused>
+fn judge_offer(
+    state: &[u32],
+    agent: usize,
+    key: usize,
+    confirming: bool,
+) -> Result<Planned, Refused>
     requires { HasBlocks state.now × Pair (Entries agent) key }
     ensures { result ≡ judged_offer state.now agent key confirming }
 {

@@ -48,12 +48,7 @@ pub fn restore(
 }
 
 // The place that a name holds becomes free.
-pub fn drop(
-    table: &[u8],
-    scratch: &mut [u32],
-    shelf: &mut [u32],
-    name: u32,
-) -> Result<(), Refused>
+pub fn drop(table: &[u8], scratch: &mut [u32], shelf: &mut [u32], name: u32) -> Result<(), Refused>
     ensures { Changes (drop_of table.now (length scratch.old) shelf.old name) result shelf.new }
 {
     let accepted = accept::accept(table, shelf.len() == SHELF_WORDS, scratch);
