@@ -1,52 +1,47 @@
 -- Which place a name has, and what is read and written there, as code finds it.
 -- Assumes nothing.
-use Prim.Native.Nat.{ℕ, ◌+◌, ◌-◌, ◌≤◌, ◌<◌}
-use mathlib.Core.Bool.{Bool, true, false, ◌&&◌, ◌||◌}
-use mathlib.Core.Path.{◌≡◌, ap, ◌∙◌}
-use mathlib.Core.List.{List, ◌++◌}
-use native.Mathlib.Omega.{arith}
-use lib.Dec.{eqb}
-use lib.ListN.{set, take, drop}
+use Rattle.std.proofs.Common.{ℕ, ◌+◌, ◌-◌, ◌≤◌, ◌<◌, Bool, true, false, ◌≡◌, refl, sym, ap, ◌∙◌, cond, List, ◌++◌, Option, Some, None, Result, Ok, Err, length, get_or, set, take, drop, eqb, ltb, arith}
+use Rattle.std.specs.List.{position, position_or_len}
+use Rattle.std.specs.Prelude.{ok_or}
+use Rattle.std.proofs.lemmas.List.{get_or-take, length-take-le, length-drop}
+use Rattle.std.proofs.lemmas.List.Sums.{position_or_len_is}
 use lib.Seq.{drop-drop}
-use Rattle.basis.proofs.Numbers.{some_at, some_none, lowest_passes, lowest_before}
-use Rattle.basis.proofs.Tests.{and_both, or_left}
+use borrow.Author.Tests.{ltb-true, ltb-false}
+use Rattle.basis.proofs.Numbers.{some_at, some_none, lowest_bound, lowest_passes, lowest_before}
+use Rattle.table.specs.declared.refusals.Refused.{Refused}
 use Rattle.state.specs.Layout.{state_words}
-use Rattle.steps.specs.Shelves.{place_limit, saved_at, is_name, name_of, saved_of, is_held, place_of, save_place, put_saved, put_name}
+use Rattle.steps.specs.Shelves.{place_limit, saved_at, shelf_words, name_of, saved_of, is_held, place_of, put_saved, put_name}
 use Rattle.shelf.specs.Shelving.{Found}
 
-module _ (shelf : List ℕ) (name : ℕ) where
+-- the first of the names that is this one
+module _ (shelf : List ℕ) (name : ℕ) (room : place_limit ≤ length shelf) where
   abbrev named : ℕ → Bool
   named i = eqb (name_of shelf i) name
 
-  below_held : place_of shelf name < place_limit → is_held shelf name ≡ true
-  below_held h = some_at named place_limit (place_of shelf name) h (lowest_passes named place_limit h)
+  abbrev names : List ℕ
+  names = take place_limit shelf
 
-  past_new : place_limit ≤ place_of shelf name → is_held shelf name ≡ false
-  past_new h = some_none named place_limit (λ k l. lowest_before named place_limit k (omega arith))
+  first_is : position_or_len (λ w. eqb w name) names ≡ place_of shelf name
+  first_is =
+      let n = length-take-le place_limit shelf room in
+      let l = lowest_bound named place_limit in
+      position_or_len_is (λ w. eqb w name) names (place_of shelf name) 0 (omega arith)
+      (λ k h. rw (get_or-take place_limit shelf k 0 (omega arith)) (lowest_before named place_limit k h))
+      (λ h. rw (get_or-take place_limit shelf (place_of shelf name) 0 (omega arith)) (lowest_passes named place_limit (omega arith)))
 
-  -- of a restore or a drop
-  pub no_name : is_name name ≡ false → Found (is_name name && is_held shelf name) (place_of shelf name) place_limit
-  no_name e = record { found = λ h. absurd (omega arith); none = λ h. rw e }
+  pub first_found : (r : Option ℕ) → r ≡ position (λ w. eqb w name) names → Found (is_held shelf name) (place_of shelf name) r
+  first_found r e = by (ltb (place_of shelf name) place_limit) refl
+    where
+      is : r ≡ cond (ltb (place_of shelf name) place_limit) (Some (place_of shelf name)) None
+      is = e ∙ rw (first_is, length-take-le place_limit shelf room)
 
-  pub held_found : {r : ℕ} → is_name name ≡ true → r ≡ place_of shelf name → Found (is_name name && is_held shelf name) (place_of shelf name) r
-  held_found e f =
-      record {
-        found = λ h. (and_both (is_name name) (is_held shelf name) e (below_held (omega arith)), f);
-        none = λ h. rw (e, past_new (omega arith));
-      }
-
-  -- of a save: the name keeps its place
-  pub keeps_place : {r : ℕ} → r ≡ place_of shelf name → r < place_limit → Found (is_held shelf name || is_held shelf 0) (save_place shelf name) r
-  keeps_place f l =
-      let e = below_held (omega arith) in
-      record { found = λ h. (or_left (is_held shelf name) (is_held shelf 0) e, f ∙ rw e); none = λ h. absurd (omega arith) }
-
--- or takes a free one
-module _ (shelf : List ℕ) (name : ℕ) {held r : ℕ} where
-  pub takes_place : held ≡ place_of shelf name → place_limit ≤ held → r ≡ place_of shelf 0 → Found (is_held shelf name || is_held shelf 0) (save_place shelf name) r
-  takes_place f l g =
-      let e = past_new shelf name (omega arith) in
-      record { found = λ h. (rw e (below_held shelf 0 (omega arith)), g ∙ rw e); none = λ h. rw e (past_new shelf 0 (omega arith)) }
+      by : (b : Bool) → ltb (place_of shelf name) place_limit ≡ b → Found (is_held shelf name) (place_of shelf name) r
+      by true l =
+          let h = ltb-true (place_of shelf name) place_limit l in
+          rw (is, l) (h, some_at named place_limit (place_of shelf name) h (lowest_passes named place_limit h), refl)
+      by false l =
+          let h = ltb-false (place_of shelf name) place_limit l in
+          rw (is, l) (some_none named place_limit (λ k m. lowest_before named place_limit k (omega arith)))
 
 -- the part of a shelf where the state of a place stands, as code lends it
 module _ (shelf : List ℕ) (place : ℕ) {at : ℕ} (e : at ≡ saved_at place) where
@@ -62,3 +57,15 @@ module _ (shelf : List ℕ) (place : ℕ) {at : ℕ} (e : at ≡ saved_at place)
   unfolding put_saved put_name
   put_back {out} {state} name f =
       rw (whole, e, f) (ap (λ (rest : List ℕ). set (take (saved_at place) shelf ++ (state ++ rest)) place name) (drop-drop state_words (saved_at place) shelf))
+
+pub length-saved : (shelf : List ℕ) (place : ℕ) → length shelf ≡ shelf_words → place < place_limit → length (saved_of shelf place) ≡ state_words
+length-saved shelf place e h = length-take-le state_words (drop (saved_at place) shelf) (omega (arith, length-drop (saved_at place) shelf))
+
+-- a place that is looked for, or a refusal
+pub is_missing : (there : Bool) (place : ℕ) (o : Option ℕ) → Found there place o → (e d : Refused) → Err d ≡ ok_or o e → (there ≡ false) × (d ≡ e)
+is_missing there place None f e d w = (f, cc)
+is_missing there place (Some r) f e d w = cc
+
+pub is_found : (there : Bool) (place : ℕ) (o : Option ℕ) → Found there place o → (e : Refused) (r : ℕ) → Ok r ≡ ok_or o e → Found there place (Some r)
+is_found there place None f e r w = cc
+is_found there place (Some q) f e r w = let same : q ≡ r = cc in rw (← same) f

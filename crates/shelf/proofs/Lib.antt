@@ -1,4 +1,2 @@
 pub mod Finding
 pub mod Changing
-pub mod Judging
-pub mod Given
