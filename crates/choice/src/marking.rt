@@ -65,7 +65,8 @@ fn only_tick(mode: Mode, c: Counts) -> bool
     mode == Mode::Ticks && c.ticks == 1
 }
 
-// Marks the guards that a turn collects besides.
+// Marks the guards that a turn collects besides. What marks keep is asked of them here and below, and is no struct's
+// ghost field: a struct would have to be built anew after each mark.
 #[cycle(mark)]
 fn mark_side(accepted: &Accepted, marks: &mut [u32], side: Side)
     requires sided { Sided (accepted_table accepted.now) side }
@@ -102,7 +103,8 @@ pub fn mark_tick(accepted: &Accepted, marks: &mut [u32], goal: Goal<usize>)
 }
 
 // Marks the guards step by step, with those of each tick that joins, and tells what is done and how many words are
-// left.
+// left. `write_node` walks in the same way: one walk that takes what is done at a turn would need a trait for what that
+// asks and keeps, longer than both loops.
 pub fn mark_node(accepted: &Accepted, marks: &mut [u32], goal: Goal<usize>) -> Effect
     requires reached { Reached (accepted_table accepted.now) goal }
     requires walk_marks { WalkMarks (accepted_table accepted.now) marks.old }

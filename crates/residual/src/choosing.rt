@@ -29,11 +29,12 @@ pub fn count_choices(sizes: Sizes, counts: &[u32], words: &[u32]) -> Option<u64>
     ensures { (t : Table) → t.sizes ≡ sizes → Prepared t counts.now →
         Whole t words.now → Offered t (residual_term words.now) result }
 {
-    let all = measure(sizes.first_root(), counts, words, Cursor::start())?;
+    let all = measure(sizes.first_root(), counts, words, Cursor::default())?;
     Some(total(Mode::Any, all.counts))
 }
 
-// Marks the guards of choice c of the residual, and tells what it does and how many words it leaves.
+// Marks the guards of choice c of the residual, and tells what it does and how many words it leaves. `place` walks in
+// the same way: as with choice's two walks, one for both would be longer.
 pub fn collect(accepted: &Accepted, marks: &mut [u32], words: &[u32], c: u64) -> Effect
     requires whole { Whole (accepted_table accepted.now) words.now }
     requires taking { Taking (accepted_table accepted.now) (residual_term words.now) c }

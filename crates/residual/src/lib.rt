@@ -12,7 +12,7 @@ use accept::Counts;
 use choice::Goal;
 
 // A place among words.
-#[derive(Clone, Copy)]
+#[derive(Clone, Copy, Default)]
 pub struct Cursor {
     pub at: usize,
 }

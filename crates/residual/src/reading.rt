@@ -9,12 +9,6 @@ use crate::Cursor;
 use table::{Sizes, is_process};
 
 impl Cursor {
-    pub fn start() -> Self
-        ensures { result.at ≡ 0 }
-    {
-        Cursor { at: 0 }
-    }
-
     // The word there, with the cursor after it; nothing at the end.
     pub fn read(self, words: &[u32]) -> Option<(u32, Cursor)>
         ensures { result ≡ read_at words.now self.at }
@@ -51,7 +45,7 @@ pub fn whole_term(sizes: Sizes, kinds: &[u8], words: &[u32]) -> bool
     ensures { (operands : List ℕ) → result ≡ are_terms (table sizes kinds.now operands) 1 words.now }
 {
     let roots = sizes.first_root();
-    let mut cursor = Cursor::start();
+    let mut cursor = Cursor::default();
     let mut more: usize = 1;
     while let Some((word, next)) = cursor.read(words) {
         if more == 0 {

@@ -9,7 +9,7 @@ pub enum Mode {
     Ticks,
 }
 
-// What a derivation does: it ticks, or does the action at a node.
+// What a derivation does: it ticks, or does the action at a node. No Option: a tick is something that is done.
 #[derive(Clone, Copy)]
 pub enum Label {
     Ticking,

@@ -13,8 +13,8 @@ root_is c t e = ap (λ (n : Sizes). n.nodes - roots_of n) e ∙ sym c.first_root
 pub returns-in_err-all : goal.returns-in_err-all
 returns-in_err-all c t e r w =
     rw c.from_residual.ensures
-    (offered_none t c.args.counts.now r 0 c.args.words.now w (root_is (goal.at.returns-in_err-all c).After-first_root t e) (rw c.start.ensures at c.in_err-all.ensures))
+    (offered_none t c.args.counts.now r 0 c.args.words.now w (root_is (goal.at.returns-in_err-all c).After-first_root t e) (rw c.default.ensures at c.in_err-all.ensures))
 
 pub returns : goal.returns
 returns c t e r w =
-    offered_some t c.args.counts.now r 0 c.args.words.now w (root_is (goal.at.returns c).After-first_root t e) _ (rw c.start.ensures at c.in_ok-all.ensures) _ c.total.ensures.0
+    offered_some t c.args.counts.now r 0 c.args.words.now w (root_is (goal.at.returns c).After-first_root t e) _ (rw c.default.ensures at c.in_ok-all.ensures) _ c.total.ensures.0
