@@ -10,12 +10,11 @@ use native.Mathlib.Omega.{arith}
 use borrow.Author.Tests.{le-ltb, lt-ltb}
 use lib.IntN.{ℤ, pos, negsuc, neg_ℤ, ◌+ℤ◌, ◌-ℤ◌, ◌*ℤ◌, neg_ℤ-neg_ℤ, neg_ℤ-+ℤ, +ℤ_comm, +ℤ-neg_ℤ_cancel, *ℤ-zero, *ℤ-negsuc, *ℤ_comm}
 use lib.Signed.{mag, lt_z, rem_z, shr_z}
-use mir.Syntax.{w64}
+use mir.Syntax.{w32}
 use mir.Val.{SFits}
 use Rattle.basis.proofs.Tests.{not_both, lt_or_le}
 use Rattle.value.specs.Values.{in_range, is_zero, floor_rem}
 use Rattle.value.proofs.Words.{in_range_lem}
-use Rattle.value.proofs.Bounds.{mag_neg}
 
 -- signs in a product
 pub times_neg : (y q : ℤ) → y *ℤ neg_ℤ q ≡ neg_ℤ (y *ℤ q)
@@ -95,6 +94,10 @@ floored x (pos (suc b)) h = rw (le-ltb (suc b) 0 (omega arith)) (above x b)
 floored x (negsuc b) h =
     exchanged x b ∙ ap neg_ℤ (above (neg_ℤ x) b) ∙ ap (λ r. neg_ℤ (raised (pos (suc b)) r)) (rem_neg x b) ∙ lowered_is b (rem_z x (negsuc b))
 
+mag_neg : (r : ℕ) → mag (neg_ℤ (pos r)) ≤ r
+mag_neg zero = omega arith
+mag_neg (suc r) = omega arith
+
 -- so it is no farther from 0 than the divisor
 floor_mag : (x y : ℤ) → is_zero y ≡ false → mag (floor_rem x y) ≤ mag y
 floor_mag x (pos zero) e = absurd (not_both refl e)
@@ -102,8 +105,8 @@ floor_mag x (pos (suc b)) e = let w = above_is x b in rw w.2 (omega (arith, w.1)
 floor_mag x (negsuc b) e = let w = above_is (neg_ℤ x) b in rw (exchanged x b, w.2) (omega (arith, mag_neg w.0, w.1))
 
 -- and fits where the divisor does
-pub floor_in_range : (x y : ℤ) → is_zero y ≡ false → in_range y ≡ true → in_range (floor_rem x y) ≡ true
-floor_in_range x y e r = (in_range_lem (floor_rem x y)).1 (omega (arith, floor_mag x y e, (in_range_lem y).0 r))
-
-pub floor_fits : (x y : ℤ) → is_zero y ≡ false → SFits w64 y → SFits w64 (floor_rem x y)
+pub floor_fits : (x y : ℤ) → is_zero y ≡ false → SFits w32 y → SFits w32 (floor_rem x y)
 floor_fits x y e f = record { sfits = omega (arith, floor_mag x y e, f.sfits) }
+
+pub floor_in_range : (x y : ℤ) → is_zero y ≡ false → SFits w32 y → in_range (floor_rem x y) ≡ true
+floor_in_range x y e f = (in_range_lem (floor_rem x y)).1 (floor_fits x y e f).sfits
