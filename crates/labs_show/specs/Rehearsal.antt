@@ -1,11 +1,10 @@
 -- Load, then run.
-use Rattle.std.specs.Prelude.{ℕ, ◌≡◌, List, take, drop}
+use Rattle.std.specs.Prelude.{ℕ, ◌≡◌, List, take, drop, Result, Ok}
 use Rattle.table.specs.Checks.{passes, refuses}
 use Rattle.steps.specs.Steps.{load_of}
 use Rattle.steps.specs.Runs.{begun, Rehearsal, run_of}
 use Rattle.machine.specs.declared.Totals.{Totals}
-use Rattle.machine.specs.declared.Ran.{Ran}
-use Rattle.machine.specs.declared.Ran.TheVariants.{Done}
+use Rattle.table.specs.declared.refusals.Refused.{Refused}
 use Rattle.machine.specs.Answers.{Runs}
 use Rattle.labs_show.specs.Input.{table_end}
 use Rattle.lines.specs.Writing.{Fleet}
@@ -23,6 +22,6 @@ abbrev pub rehearsed_input : List ℕ → List ℕ → ℕ → List ℕ → Rehe
 rehearsed_input input = rehearsed (take (table_end input) input) (drop (table_end input) input)
 
 -- the answer, the state and the answer bytes are those of a rehearsal; where it is done, the state can be printed
-pub record Rehearses (o : Rehearsal) (r : Ran) (after bytes : List ℕ) : Type 0 where
+pub record Rehearses (o : Rehearsal) (r : Result Totals Refused) (after bytes : List ℕ) : Type 0 where
   pub runs : Runs o r after bytes
-  pub fleet : (counts : Totals) → r ≡ Done counts → Fleet after
+  pub fleet : (counts : Totals) → r ≡ Ok counts → Fleet after

@@ -5,15 +5,15 @@
 mod rehearsal; // rehearsal.rt: where the table ends; load, then run; the lines of that
 mod stdin; // stdin.rt: standard input, read to its end
 
-ghost use Rattle.std.specs.Prelude.{◌≡◌, ◌≤◌, length};
+ghost use Rattle.std.specs.Prelude.{◌≡◌, ◌+◌, ◌≤◌, length};
 ghost use Rattle.lines.specs.Sizes.{shown_bytes};
-ghost use Rattle.lines.specs.Writing.{Wrote};
+ghost use Rattle.lines.specs.Pages.{Writes};
 ghost use Rattle.labs_show.specs.Input.{input_bytes};
 ghost use Rattle.labs_show.specs.Printed.{printed};
 
-use lines::output_buffer;
-use rehearsal::show_rehearsal;
-use stdin::{Input, read_input};
+use lines::{Page, output_buffer};
+use rehearsal::{Lent, show_rehearsal};
+use stdin::read_input;
 
 const INPUT_BYTES: usize = 61455;
 
@@ -27,34 +27,38 @@ fn input_buffer() -> [u8; INPUT_BYTES]
     [0; INPUT_BYTES]
 }
 
-// What is printed of an input, at the start of a buffer; answers how many bytes there are.
-fn show(input: &[u8], out: &mut [u8]) -> usize
-    requires { shown_bytes ≤ length out.old }
-    ensures { Wrote (printed input.now) 0 out.old out.new result }
+// What is printed of an input.
+fn show(page: &mut Page, input: &[u8])
+    requires { page.old.len + shown_bytes ≤ length page.old.bytes.now }
+    ensures { Writes (printed input.now) page.old page.new }
 {
-    let mut state = [0u32; state::STATE_WORDS];
-    let mut scratch = [0u32; 8192];
-    let mut answers = [0u8; 8192];
-    show_rehearsal(input, &mut state, &mut scratch, &mut answers, out)
+    let mut lent = Lent {
+        state: [0; state::STATE_WORDS],
+        scratch: [0; 8192],
+        answers: [0; 8192],
+    };
+    show_rehearsal(page, input, &mut lent);
 }
 
 // Writes it to standard output.
 fn print(rt: &(impl Print + Eprint), input: &[u8]) {
     let mut out = output_buffer();
-    let n = show(input, &mut out);
-    if rt.write_all(&out[..n]).is_err() {
+    let mut page = Page {
+        bytes: &mut out,
+        len: 0,
+    };
+    show(&mut page, input);
+    let Page { bytes, len } = page;
+    if rt.write_all(&bytes[..len]).is_err() {
         let _ = rt.eprint("labs_show: cannot write\n");
     }
 }
 
 fn main(rt: HostRuntime) {
     let mut input = input_buffer();
-    let mut stdin = rt.stdin();
-    let got = read_input(&mut stdin, &mut input);
-    match got {
-        Input::Read(n) => print(&rt, &input[..n]),
-        Input::Failed => {
-            let _ = rt.eprint("labs_show: cannot read standard input\n");
-        }
-    }
+    let Ok(size) = read_input(&mut rt.stdin(), &mut input) else {
+        let _ = rt.eprint("labs_show: cannot read standard input\n");
+        return;
+    };
+    print(&rt, &input[..size]);
 }

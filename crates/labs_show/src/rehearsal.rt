@@ -1,75 +1,71 @@
 // The input's table and schedule; load, then run; and what is printed of that.
-ghost use Rattle.std.specs.Prelude.{◌≤◌, length};
+ghost use Rattle.std.specs.Prelude.{◌+◌, ◌≤◌, length};
 ghost use Rattle.lines.specs.Lines.{shown};
 ghost use Rattle.lines.specs.Sizes.{shown_bytes};
-ghost use Rattle.lines.specs.Writing.{Wrote};
+ghost use Rattle.lines.specs.Pages.{Writes};
 ghost use Rattle.labs_show.specs.Input.{TableEnd};
 ghost use Rattle.labs_show.specs.Rehearsal.{Rehearses, rehearsed, rehearsed_input};
 
-use lines::{refused_line, state_lines, totals_line};
-use machine::Ran;
-use opening::Answer;
+use lines::{Page, refused_line, state_lines, totals_line};
+use machine::Totals;
+use state::STATE_WORDS;
+use table::{HEADER_BYTES, Refused};
+
+// What the machine is lent.
+#[derive(Drop)]
+pub struct Lent {
+    pub state: [u32; STATE_WORDS],
+    pub scratch: [u32; 8192],
+    pub answers: [u8; 8192],
+}
 
 // Where the table ends and the schedule begins.
 fn table_end(input: &[u8]) -> usize
     ensures { TableEnd input.now result }
 {
-    if input.len() < table::HEADER_BYTES {
+    if input.len() < HEADER_BYTES {
         return input.len();
     }
-    let size = table::HEADER_BYTES + 5 * basis::u16_at(input, 0);
-    if size < input.len() {
-        size
-    } else {
-        input.len()
-    }
+    let size = HEADER_BYTES + 5 * basis::u16_at(input, 0);
+    size.min(input.len())
 }
 
 // Load, and where it is done run.
-fn rehearse(
-    table: &[u8],
-    schedule: &[u8],
-    state: &mut [u32],
-    scratch: &mut [u32],
-    answers: &mut [u8],
-) -> Ran
-    ensures { Rehearses (rehearsed table.now schedule.now state.old
-        (length scratch.old) answers.old) result state.new answers.new }
+fn rehearse(table: &[u8], schedule: &[u8], lent: &mut Lent) -> Result<Totals, Refused>
+    ensures { Rehearses (rehearsed table.now schedule.now lent.old.state (length lent.old.scratch) lent.old.answers)
+        result lent.new.state lent.new.answers }
 {
-    let loaded = machine::load(table, state, scratch);
-    match loaded {
-        Answer::Done => machine::run(table, state, scratch, schedule, answers),
-        Answer::Refused(number, place) => Ran::Refused(number, place),
-    }
+    machine::load(table, &mut lent.state, &mut lent.scratch)?;
+    machine::run(
+        table,
+        &mut lent.state,
+        &mut lent.scratch,
+        schedule,
+        &mut lent.answers,
+    )
 }
 
 // The same for a table and a schedule that stand one after the other.
-fn rehearse_input(input: &[u8], state: &mut [u32], scratch: &mut [u32], answers: &mut [u8]) -> Ran
-    ensures { Rehearses (rehearsed_input input.now state.old (length scratch.old) answers.old)
-        result state.new answers.new }
+fn rehearse_input(input: &[u8], lent: &mut Lent) -> Result<Totals, Refused>
+    ensures { Rehearses (rehearsed_input input.now lent.old.state (length lent.old.scratch) lent.old.answers)
+        result lent.new.state lent.new.answers }
 {
-    let end = table_end(input);
-    rehearse(&input[..end], &input[end..], state, scratch, answers)
+    let (table, schedule) = input.split_at(table_end(input));
+    rehearse(table, schedule, lent)
 }
 
-// Its lines, at the start of a buffer; answers how many bytes there are.
-pub fn show_rehearsal(
-    input: &[u8],
-    state: &mut [u32],
-    scratch: &mut [u32],
-    answers: &mut [u8],
-    out: &mut [u8],
-) -> usize
-    requires { shown_bytes ≤ length out.old }
-    ensures { Wrote (shown (rehearsed_input input.now state.old
-        (length scratch.old) answers.old)) 0 out.old out.new result }
+// Its lines.
+pub fn show_rehearsal(page: &mut Page, input: &[u8], lent: &mut Lent)
+    requires { page.old.len + shown_bytes ≤ length page.old.bytes.now }
+    ensures { Writes
+        (shown (rehearsed_input input.now lent.old.state (length lent.old.scratch) lent.old.answers))
+        page.old page.new }
 {
-    let ran = rehearse_input(input, state, scratch, answers);
-    match ran {
-        Ran::Done(totals) => {
-            let next = totals_line(totals, out, 0);
-            state_lines(state, out, next)
+    match rehearse_input(input, lent) {
+        Ok(totals) => {
+            totals_line(page, totals);
+            state_lines(page, &lent.state);
         }
-        Ran::Refused(number, place) => refused_line(number, place, out, 0),
+        Err(refused) => refused_line(page, refused.number(), refused.place()),
     }
 }

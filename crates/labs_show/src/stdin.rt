@@ -1,27 +1,21 @@
 // Standard input, read to its end.
-ghost use Rattle.labs_show.specs.Printed.{Holds};
+ghost use Rattle.std.specs.Prelude.{◌≤◌, IfOk, length};
 
+use std::io;
 use std::io::Read;
 use std::rt::Stdin;
 
-// How many bytes stand at the start of the buffer, or that a read failed.
-#[derive(Clone, Copy)]
-pub enum Input {
-    Read(usize),
-    Failed,
-}
-
-// Reads until the buffer is full or the input ends. A read that fails is not the end, whatever its reason.
-pub fn read_input(input: &mut Stdin, buffer: &mut [u8]) -> Input
-    ensures { Holds result buffer.new }
+// Reads until the buffer is full or the input ends; answers how many bytes stand at the start of the buffer. A read that
+// fails is not the end, whatever its reason.
+pub fn read_input(input: &mut Stdin, buffer: &mut [u8]) -> io::Result<usize>
+    ensures { IfOk result (λ size. size ≤ length buffer.new) }
 {
-    let mut n: usize = 0;
-    while n < buffer.len() {
-        match input.read(&mut buffer[n..]) {
-            Err(_) => return Input::Failed,
-            Ok(0) => return Input::Read(n),
-            Ok(more) => n += more,
+    let mut size = 0;
+    while size < buffer.len() {
+        match input.read(&mut buffer[size..])? {
+            0 => break,
+            more => size += more,
         }
     }
-    Input::Read(n)
+    Ok(size)
 }

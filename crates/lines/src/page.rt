@@ -4,6 +4,7 @@ ghost use Rattle.lines.specs.Text.{ascii, decimal, signed_decimal};
 ghost use Rattle.lines.specs.Lines.{value};
 ghost use Rattle.lines.specs.Pages.{HasRoom, Writes};
 
+#[derive(Drop)]
 pub struct Page<'a> {
     pub bytes: &'a mut [u8],
     pub len: usize,
