@@ -9,8 +9,13 @@ ghost use Rattle.evaluation.specs.Sets.{Connects};
 use super::AgentSets;
 use super::members::Members;
 use super::senders::Sender;
-use basis::plus_if;
+use basis::{NodeKind, plus_if};
 use table::Fleet;
+
+// Kinds below that of not are read as comparisons, as the definition reads them.
+const TRUE: u8 = NodeKind::True as u8;
+
+const NOT: u8 = NodeKind::Not as u8;
 
 const NOBODY: AgentSets = AgentSets {
     defined: 0,
@@ -21,16 +26,16 @@ const NOBODY: AgentSets = AgentSets {
 fn connect_all(kind: u8, a: AgentSets, b: AgentSets) -> AgentSets
     ensures { Connects kind a b result }
 {
-    match kind {
-        basis::kinds::NOT => AgentSets {
+    match NodeKind::try_from(kind) {
+        Ok(NodeKind::Not) => AgentSets {
             defined: a.defined,
             holding: a.defined ^ (a.defined & a.holding),
         },
-        basis::kinds::AND => AgentSets {
+        Ok(NodeKind::And) => AgentSets {
             defined: a.defined & b.defined,
             holding: a.holding & b.holding,
         },
-        basis::kinds::OR => AgentSets {
+        Ok(NodeKind::Or) => AgentSets {
             defined: a.defined & b.defined,
             holding: a.holding | b.holding,
         },
@@ -74,17 +79,17 @@ impl<'a> Sender<'a> {
             return NOBODY;
         }
         let kind = self.fleet.kind_at(node);
-        if kind == basis::kinds::TRUE {
+        if kind == TRUE {
             return AgentSets {
                 defined: agents,
                 holding: agents,
             };
         }
-        if kind < basis::kinds::NOT {
+        if kind < NOT {
             return self.compare_all(agents, node);
         }
         let a = self.truths_below(agents, node, self.fleet.p_at(node));
-        if kind == basis::kinds::NOT {
+        if kind == NOT {
             return connect_all(kind, a, a);
         }
         let b = self.truths_below(agents, node, self.fleet.q_at(node));

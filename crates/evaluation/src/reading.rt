@@ -6,6 +6,7 @@ ghost use Rattle.state.specs.Layout.{key_limit};
 ghost use Rattle.state.specs.Evaluation.{reads};
 ghost use Rattle.evaluation.specs.Reading.{Adds, reads_below, is_key};
 
+use basis::NodeKind;
 use table::{Fleet, KEYS};
 
 // The set with the key that a node is, if it is one.
@@ -15,7 +16,7 @@ fn own_key(fleet: &Fleet, node: usize, keys: u32) -> u32
     ensures { Adds (is_key (table_in fleet.now) node) keys result }
 {
     let key = fleet.p_at(node);
-    if fleet.kind_at(node) == basis::kinds::STIGMERGY && key < KEYS {
+    if fleet.kind_at(node) == NodeKind::Stigmergy as u8 && key < KEYS {
         basis::plus(keys, key)
     } else {
         keys

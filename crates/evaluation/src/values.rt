@@ -7,6 +7,7 @@ ghost use Rattle.evaluation.specs.Situated.{Situated};
 ghost use Rattle.evaluation.specs.Parties.{Party};
 
 use super::senders::Sender;
+use basis::NodeKind;
 use state::Store;
 use table::Fleet;
 use value::Value;
@@ -32,19 +33,18 @@ impl<'a> Sender<'a> {
         if limit <= node {
             return None;
         }
-        let kind = self.fleet.kind_at(node);
         let p = self.fleet.p_at(node);
         let q = self.fleet.q_at(node);
         let agent = agent_of(q, self.agent, receiver);
-        match kind {
-            basis::kinds::CONSTANT => Some(self.fleet.constant_at(node)),
-            basis::kinds::ATTRIBUTE => state::value_in(self.state, Store::Attributes(agent), p),
-            basis::kinds::STIGMERGY => state::value_in(self.state, Store::Entries(agent), p),
-            basis::kinds::ENVIRONMENT => state::value_in(self.state, Store::Environment, p),
+        match self.fleet.node_kind(node) {
+            Ok(NodeKind::Constant) => Some(self.fleet.constant_at(node)),
+            Ok(NodeKind::Attribute) => state::value_in(self.state, Store::Attributes(agent), p),
+            Ok(NodeKind::Stigmergy) => state::value_in(self.state, Store::Entries(agent), p),
+            Ok(NodeKind::Environment) => state::value_in(self.state, Store::Environment, p),
             _ => {
                 let a = self.value_below(receiver, node, p);
                 let b = self.value_below(receiver, node, q);
-                value::operate(kind, a, b)
+                value::operate(self.fleet.kind_at(node), a, b)
             }
         }
     }
