@@ -4,3 +4,4 @@ pub mod Numbers
 pub mod KeySets
 pub mod Lists
 pub mod Writing
+pub mod NodeKinds

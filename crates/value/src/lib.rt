@@ -6,7 +6,7 @@ ghost use Rattle.std.specs.Int.{w32, cast_unsigned};
 ghost use Rattle.value.specs.Values.{is_zero, floor_rem, arithmetic, operate as operate_of};
 ghost use Rattle.value.specs.Truths.{test_of, compare_values as compare_of};
 
-use basis::kinds;
+use basis::NodeKind;
 
 // A value: none where it is absent, or a signed 32-bit number as its two's complement word.
 pub type Value = Option<u32>;
@@ -43,12 +43,12 @@ fn floored_remainder(x: i32, y: i32) -> i32
 fn compute(kind: u8, x: i32, y: i32) -> Option<i32>
     ensures { option_map (cast_unsigned w32) result ≡ arithmetic kind x y }
 {
-    match kind {
-        kinds::PLUS => x.checked_add(y),
-        kinds::MINUS => x.checked_sub(y),
-        kinds::TIMES => x.checked_mul(y),
-        kinds::DIVIDE => x.checked_div(y),
-        kinds::REMAINDER if y != 0 => Some(floored_remainder(x, y)),
+    match NodeKind::try_from(kind) {
+        Ok(NodeKind::Plus) => x.checked_add(y),
+        Ok(NodeKind::Minus) => x.checked_sub(y),
+        Ok(NodeKind::Times) => x.checked_mul(y),
+        Ok(NodeKind::Divide) => x.checked_div(y),
+        Ok(NodeKind::Remainder) if y != 0 => Some(floored_remainder(x, y)),
         _ => None,
     }
 }
@@ -65,10 +65,10 @@ pub fn operate(kind: u8, a: Value, b: Value) -> Value
 fn test(kind: u8, a: u32, b: u32) -> bool
     ensures { result ≡ test_of kind a b }
 {
-    match kind {
-        kinds::EQUAL => a == b,
-        kinds::LESS => a.cast_signed() < b.cast_signed(),
-        kinds::GREATER => b.cast_signed() < a.cast_signed(),
+    match NodeKind::try_from(kind) {
+        Ok(NodeKind::Equal) => a == b,
+        Ok(NodeKind::Less) => a.cast_signed() < b.cast_signed(),
+        Ok(NodeKind::Greater) => b.cast_signed() < a.cast_signed(),
         _ => false,
     }
 }

@@ -1,25 +1,21 @@
 -- `evaluation::guards::connect_all` meets its contract: the kind picks the case.
 -- Assumes nothing.
 use mathlib.Core.Bool.{not, ◌&&◌, ◌||◌}
-use Prim.Native.Nat.{ℕ}
-use mathlib.Core.Path.{◌≡◌, refl, sym, ap, ◌∙◌}
+use mathlib.Core.Path.{◌≡◌, refl, sym}
 use borrow.Author.Tests.{ne_eqb}
 use Rattle.std.proofs.Common.{rules}
 use Rattle.basis.specs.KeySets.{has}
 use Rattle.basis.specs.NodeKinds.{number_of}
+use Rattle.basis.proofs.NodeKinds.{named_is}
 use Rattle.basis.specs.declared.node_kinds.NodeKind.{NodeKind}
 use Rattle.basis.specs.declared.node_kinds.NodeKind.TheVariants.{Not, And, Or}
 use Rattle.basis.proofs.KeySets.{has_both, has_either, has_without}
 use Rattle.evaluation.proofs.Sets.{made, found_none}
 use Rattle.evaluation.proofs.guards.connect_all.Goals as goal
 
--- the number of the kind that an arm names
-is : {n : ℕ} {j : NodeKind} (k : NodeKind) → j ≡ k → number_of j ≡ n → n ≡ number_of k
-is k e h = sym h ∙ ap number_of e
-
 pub returns-in-Ok-Not : goal.returns-in-Ok-Not
 returns-in-Ok-Not c =
-    λ agents f g a b. rw (is Not c.in-Ok-Not.field-0-is c.in-Ok-Not.ensures)
+    λ agents f g a b. rw (named_is Not c.in-Ok-Not.field-0-is c.in-Ok-Not.ensures)
     (record {
       defined = a.defined;
       holding = λ y. made (λ x z. x && not z) refl (has agents y) (f y).defined (f y).holds (has_without _ _ y) (a.defined y) (a.holding y);
@@ -27,7 +23,7 @@ returns-in-Ok-Not c =
 
 pub returns-in-Ok-And : goal.returns-in-Ok-And
 returns-in-Ok-And c =
-    λ agents f g a b. rw (is And c.in-Ok-And.field-0-is c.in-Ok-And.ensures)
+    λ agents f g a b. rw (named_is And c.in-Ok-And.field-0-is c.in-Ok-And.ensures)
     (record {
       defined = λ y. made ◌&&◌ refl (has agents y) (f y).defined (g y).defined (has_both _ _ y) (a.defined y) (b.defined y);
       holding = λ y. made ◌&&◌ refl (has agents y) (f y).holds (g y).holds (has_both _ _ y) (a.holding y) (b.holding y);
@@ -35,7 +31,7 @@ returns-in-Ok-And c =
 
 pub returns-in-Ok-Or : goal.returns-in-Ok-Or
 returns-in-Ok-Or c =
-    λ agents f g a b. rw (is Or c.in-Ok-Or.field-0-is c.in-Ok-Or.ensures)
+    λ agents f g a b. rw (named_is Or c.in-Ok-Or.field-0-is c.in-Ok-Or.ensures)
     (record {
       defined = λ y. made ◌&&◌ refl (has agents y) (f y).defined (g y).defined (has_both _ _ y) (a.defined y) (b.defined y);
       holding = λ y. made ◌||◌ refl (has agents y) (f y).holds (g y).holds (has_either _ _ y) (a.holding y) (b.holding y);
