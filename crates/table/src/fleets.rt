@@ -90,7 +90,7 @@ impl<'a> Fleet<'a> {
         if node < self.first_root() {
             return fields_of(kind);
         }
-        if kind != basis::kinds::ROOT {
+        if kind != NodeKind::Root as u8 {
             return NOTHING;
         }
         let p = if self.is_link_root(node) {

@@ -6,22 +6,33 @@ ghost use Rattle.table.specs.Nodes.{is_process, is_guard, is_expression, is_node
 use super::{Field, Fields};
 use basis::NodeKind;
 
+// The first and the last kinds of processes, guards and expressions.
+const CALL: u8 = NodeKind::Call as u8;
+
+const TRUE: u8 = NodeKind::True as u8;
+
+const OR: u8 = NodeKind::Or as u8;
+
+const CONSTANT: u8 = NodeKind::Constant as u8;
+
+const REMAINDER: u8 = NodeKind::Remainder as u8;
+
 pub fn is_process(kind: u8) -> bool
     ensures { result ≡ is_process kind }
 {
-    kind <= basis::kinds::CALL
+    kind <= CALL
 }
 
 pub fn is_guard(kind: u8) -> bool
     ensures { result ≡ is_guard kind }
 {
-    matches!(kind, basis::kinds::TRUE..=basis::kinds::OR)
+    matches!(kind, TRUE..=OR)
 }
 
 pub fn is_expression(kind: u8) -> bool
     ensures { result ≡ is_expression kind }
 {
-    matches!(kind, basis::kinds::CONSTANT..=basis::kinds::REMAINDER)
+    matches!(kind, CONSTANT..=REMAINDER)
 }
 
 impl Field {

@@ -11,13 +11,18 @@ ghost use Rattle.table.specs.Marks.{Shown, Descends, Visit, LowestOf};
 
 use super::marks::{LEFT, LINK, PROCESS, RIGHT, first_word, mark_both};
 use super::{Fleet, Reached, Refused};
-use basis::has;
+use basis::{NodeKind, has};
+
+// The first and the last kind of keys.
+const ATTRIBUTE: u8 = NodeKind::Attribute as u8;
+
+const ENVIRONMENT: u8 = NodeKind::Environment as u8;
 
 // Whether a kind is that of a key.
 pub fn is_key(kind: u8) -> bool
     ensures { result ≡ is_key_kind kind }
 {
-    matches!(kind, basis::kinds::ATTRIBUTE..=basis::kinds::ENVIRONMENT)
+    matches!(kind, ATTRIBUTE..=ENVIRONMENT)
 }
 
 // Whether a node of this kind and party is wrong, by whether a process and whether a link reaches it.
@@ -25,8 +30,7 @@ pub fn wrong_here(kind: u8, party: usize, by: Reached) -> bool
     ensures { result ≡ wrong_here kind party by.process by.link }
 {
     is_key(kind)
-        & ((by.process & (party != 0))
-            | (by.link & ((kind == basis::kinds::ENVIRONMENT) | (party == 0))))
+        & ((by.process & (party != 0)) | (by.link & ((kind == ENVIRONMENT) | (party == 0))))
 }
 
 // Hands on what reaches a node, and says whether it is wrong.
