@@ -15,12 +15,11 @@ fn own_key(fleet: &Fleet, node: usize, keys: u32) -> u32
     requires { node < fleet.now.sizes.nodes }
     ensures { Adds (is_key (table_in fleet.now) node) keys result }
 {
-    let key = fleet.p_at(node);
-    if fleet.kind_at(node) == NodeKind::Stigmergy as u8 && key < KEYS {
-        basis::plus(keys, key)
-    } else {
-        keys
+    if fleet.kind_at(node) != NodeKind::Stigmergy as u8 {
+        return keys;
     }
+    let key = fleet.p_at(node);
+    if key < KEYS { basis::plus(keys, key) } else { keys }
 }
 
 // The set with the keys that a node below the limit reads.

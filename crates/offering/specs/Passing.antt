@@ -18,13 +18,13 @@ pub record Passing (t : Table) (s : List ℕ) (x k : ℕ) : Type 0 where
   pub agent : x < t.sizes.agents
   pub key : k < t.sizes.stigmergy
 
--- entry e for key k could touch y, where the link reaches it: y's is older, or in a confirm newer (an absent one is older than any)
-abbrev pub touches : Entry → List ℕ → ℕ → Bool → Bool → ℕ → Bool
-touches e s k counts confirming y = counts && (newer e (entry_of s y k) || (confirming && newer (entry_of s y k) e))
+-- entry e could touch an agent who has f, where the link reaches it: f is older, or in a confirm newer (an absent one is older than any)
+abbrev pub touches : Entry → Entry → Bool → Bool → Bool
+touches e f counts confirming = counts && (newer e f || (confirming && newer f e))
 
--- the set of those below n
+-- the set of those below n, by their entries for key k
 abbrev pub touched : Entry → List ℕ → ℕ → Bool → Bool → ℕ → ℕ
-touched e s k counts confirming n = plus_all (touches e s k counts confirming) n 0
+touched e s k counts confirming n = plus_all (λ (y : ℕ). touches e (entry_of s y k) counts confirming) n 0
 
 -- the response of an agent whom an offer could touch and the link reaches, by the rule that inserts the entry
 abbrev pub rule_response : Insertion → Response

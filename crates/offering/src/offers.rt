@@ -27,9 +27,22 @@ impl Offer {
     ghost use Rattle.state.specs.Entries.{entry_of};
     ghost use Rattle.state.specs.Standing.{HasBlocks};
     ghost use Rattle.steps.specs.Offers.{offer_tally, offered};
-    ghost use Rattle.offering.specs.Passing.{Passing, Passed, touched};
+    ghost use Rattle.offering.specs.Passing.{Passing, Passed, touches, touched};
 
-    // The agents whom it could touch: those with an older entry, and in a confirm those with a newer one.
+    // Whether it could touch an agent with this entry: an older one, or in a confirm a newer one. By an `if`, which the loop
+    // over the agents is compiled apart by: as one expression it takes twice the time.
+    fn touches(&self, theirs: Entry) -> bool
+        ensures { let o = self.now in result ≡ touches o.entry theirs o.counts o.confirming }
+    {
+        let older = newer(self.entry, theirs);
+        if self.confirming {
+            self.counts & (older | newer(theirs, self.entry))
+        } else {
+            self.counts & older
+        }
+    }
+
+    // The agents whom it could touch.
     fn receivers(&self, state: &[u32], agents: usize) -> u32
         requires { HasBlocks state.now × (agents ≤ agent_limit) }
         ensures { let o = self.now in result ≡ touched o.entry state.now o.key o.counts o.confirming agents }
@@ -37,9 +50,7 @@ impl Offer {
         let mut touched = 0;
         for other in 0..agents {
             let theirs = entry_of(state, other, self.key);
-            let older = newer(self.entry, theirs);
-            let answers = self.confirming & newer(theirs, self.entry);
-            touched = plus_if(touched, other, self.counts & (older | answers));
+            touched = plus_if(touched, other, self.touches(theirs));
         }
         touched
     }

@@ -9,4 +9,4 @@ loop-other-init c = sym (plus_all_zero _ 0)
 
 pub loop-other-preserved : goal.loop-other-preserved
 loop-other-preserved c =
-    set_more _ _ c.loop-other.invariant (c.plus_if-touched.ensures ∙ rw (c.newer-older.ensures, c.newer.ensures, c.entry_of-theirs.ensures))
+    set_more _ _ c.loop-other.invariant (c.plus_if-touched.ensures ∙ rw (c.touches.ensures, c.entry_of-theirs.ensures))
