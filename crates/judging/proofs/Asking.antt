@@ -1,6 +1,6 @@
 -- The guards of a list, and those that are marked: whether they hold, and which keys they read.
 -- Assumes nothing.
-use Prim.Native.Nat.{ℕ, ◌+◌, ◌<◌, ◌≤◌}
+use Prim.Native.Nat.{ℕ, ◌+◌, ◌≤◌}
 use mathlib.Core.Bool.{Bool, true, false, not, cond, ◌&&◌, ◌||◌}
 use mathlib.Core.Logic.{⊎_elim}
 use mathlib.Core.Path.{◌≡◌, refl, sym, ap, ◌∙◌}
@@ -9,23 +9,25 @@ use native.Mathlib.Omega.{arith}
 use lib.Dec.{eqb}
 use lib.ListN.{replicate}
 use borrow.Author.Tests.{eqb-true, eq-eqb}
+use Rattle.std.specs.Prelude.{Ok, Err}
 use Rattle.basis.specs.KeySets.{plus_all}
 use Rattle.basis.specs.Numbers.{some_below}
 use Rattle.basis.proofs.Numbers.{some_at, some_witness}
 use Rattle.basis.proofs.Tests.{not_both, same_test, and_left, and_right, and_both, or_left, or_right, or_either, not_and}
 use Rattle.table.specs.Tables.{Table, kind_at}
 use Rattle.table.specs.Nodes.{is_guard}
+use Rattle.table.specs.declared.refusals.Refused.{Refused}
+use Rattle.table.specs.declared.refusals.Refused.TheVariants.{GuardFails}
 use Rattle.term.proofs.Each.{Each}
 use Rattle.term.specs.Accepted.{GuardNode}
 use Rattle.state.specs.Evaluation.{holds, reads}
 use Rattle.state.specs.Layout.{key_limit}
 use Rattle.evaluation.specs.Reading.{Adds}
 use Rattle.evaluation.proofs.Adding.{adds_same, adds_both, all_adds, adds_all}
-use Rattle.choice.specs.Marking.{has_mark, marked_guard, Next, is_in, Marked}
+use Rattle.choice.specs.Marking.{has_mark, marked_guard, Lowest, is_in, Marked}
 use Rattle.choice.proofs.Collecting.{zeros_none}
-use Rattle.choice.proofs.Searching.{some_skip, some_next}
+use Rattle.choice.proofs.Searching.{Passed, some_skip, some_next}
 use Rattle.steps.specs.Acts.{all_hold, guards_read}
-use Rattle.judging.specs.declared.Asked.TheVariants.{Fails, Hold}
 use Rattle.judging.specs.Guards.{GuardsMarked, guard_keys, asked_of}
 
 -- what every element has, an element has
@@ -80,6 +82,10 @@ module _ (p : ℕ → Bool) (f : List ℕ → Bool) (none : f [] ≡ false) (mor
       both : ℕ → Bool
       both b = marked_guard t.kinds ms b && p b
 
+-- up to the next marked guard there is none, and up to the last node where there is none more
+pub passed : {test : ℕ → Bool} {limit from r : ℕ} → Lowest test limit from r → Passed test from r
+passed low = record { ahead = low.ahead; none = low.none }
+
 module _ (t : Table) (was : List ℕ) (x : ℕ) where
   -- a marked guard below n does not hold
   abbrev pub some_fails : List ℕ → ℕ → Bool
@@ -94,37 +100,39 @@ module _ (t : Table) where
   abbrev pub marked_reads : List ℕ → ℕ → ℕ → Bool
   marked_reads marks n k = some_below (λ (b : ℕ). marked_guard t.kinds marks b && reads t b k) n
 
-  module _ (marks : List ℕ) {limit n m keys : ℕ} (next : Next (marked_guard t.kinds marks) limit n m) (so : Adds (marked_reads marks n) 0 keys) where
+  module _ (marks : List ℕ) {n keys : ℕ} (so : Adds (marked_reads marks n) 0 keys) where
     -- one guard more
-    pub reads_more : m < limit → {r : ℕ} → r ≡ plus_all (reads t m) key_limit keys → Adds (marked_reads marks (m + 1)) 0 r
-    reads_more h e = adds_same (λ k. some_next next (λ (b : ℕ). reads t b k) h) (adds_both so (all_adds (so.small (omega arith)) e))
+    pub reads_more : {limit m : ℕ} → Lowest (marked_guard t.kinds marks) limit n m → {r : ℕ} → r ≡ plus_all (reads t m) key_limit keys → Adds (marked_reads marks (m + 1)) 0 r
+    reads_more low e = adds_same (λ k. some_next (passed low) (λ (b : ℕ). reads t b k) low.is) (adds_both so (all_adds (so.small (omega arith)) e))
 
     -- no guard more
-    pub reads_all : t.sizes.nodes ≤ m → {gs : List ℕ} → GuardsMarked t gs marks → keys ≡ guard_keys t gs
-    reads_all h c = adds_all (omega arith) (adds_same (λ k. sym (some_marked (λ b. reads t b k) (λ gs. guards_read t gs k) refl (λ g gs. refl) c m h) ∙ some_skip next (λ (b : ℕ). reads t b k)) so)
+    pub reads_all : Passed (marked_guard t.kinds marks) n t.sizes.nodes → {gs : List ℕ} → GuardsMarked t gs marks → keys ≡ guard_keys t gs
+    reads_all last c =
+        adds_all (omega arith) (adds_same (λ k. sym (some_marked (λ b. reads t b k) (λ gs. guards_read t gs k) refl (λ g gs. refl) c t.sizes.nodes (omega arith))
+        ∙ some_skip last (λ (b : ℕ). reads t b k)) so)
 
 -- WHAT IS FOUND OF GUARDS
 module _ (t : Table) (was : List ℕ) (x : ℕ) (gs : List ℕ) where
-  pub asked_hold : {keys : ℕ} → all_hold t was x gs ≡ true → keys ≡ guard_keys t gs → Hold keys ≡ asked_of t was x gs
+  pub asked_hold : {keys : ℕ} → all_hold t was x gs ≡ true → keys ≡ guard_keys t gs → Ok keys ≡ asked_of t was x gs
   unfolding asked_of
   asked_hold e f = rw (asked_of, e, f)
 
-  pub asked_fails : all_hold t was x gs ≡ false → Fails ≡ asked_of t was x gs
+  pub asked_fails : all_hold t was x gs ≡ false → Err GuardFails ≡ asked_of t was x gs
   unfolding asked_of
   asked_fails e = rw (asked_of, e)
 
-  pub hold_asked : {keys : ℕ} → asked_of t was x gs ≡ Hold keys → (all_hold t was x gs ≡ true) × (keys ≡ guard_keys t gs)
+  pub hold_asked : {keys : ℕ} → Ok keys ≡ asked_of t was x gs → (all_hold t was x gs ≡ true) × (keys ≡ guard_keys t gs)
   unfolding asked_of
   hold_asked {keys} = by (all_hold t was x gs)
     where
-      by : (b : Bool) → cond b (Hold (guard_keys t gs)) Fails ≡ Hold keys → (b ≡ true) × (keys ≡ guard_keys t gs)
+      by : (b : Bool) → Ok keys ≡ cond b (Ok (guard_keys t gs)) (Err GuardFails) → (b ≡ true) × (keys ≡ guard_keys t gs)
       by true e = (refl, cc)
-      by false e = absurd (let z : ◌≡◌ {A = ℕ} 0 1 = cc in omega arith)
+      by false e = cc
 
-  pub fails_asked : asked_of t was x gs ≡ Fails → all_hold t was x gs ≡ false
+  pub fails_asked : {e : Refused} → Err e ≡ asked_of t was x gs → (all_hold t was x gs ≡ false) × (e ≡ GuardFails)
   unfolding asked_of
-  fails_asked = by (all_hold t was x gs)
+  fails_asked {e} = by (all_hold t was x gs)
     where
-      by : (b : Bool) → cond b (Hold (guard_keys t gs)) Fails ≡ Fails → b ≡ false
-      by true e = absurd (let z : ◌≡◌ {A = ℕ} 0 1 = cc in omega arith)
-      by false e = refl
+      by : (b : Bool) → Err e ≡ cond b (Ok (guard_keys t gs)) (Err GuardFails) → (b ≡ false) × (e ≡ GuardFails)
+      by true f = cc
+      by false f = (refl, cc)

@@ -1,68 +1,55 @@
 -- Refusals 15 to 17, in order.
 -- Assumes nothing.
-use Prim.Native.Nat.{ℕ}
-use mathlib.Core.Bool.{Bool, true, false, cond, ◌&&◌}
-use mathlib.Core.Path.{◌≡◌, refl, sym, ap, subst, ◌∙◌}
-use mathlib.Core.List.{List, [], ◌∷◌}
-use lib.Dec.{leb, ltb}
+use Rattle.std.proofs.Common.{ℕ, ◌<◌, ◌≤◌, Bool, true, false, ◌&&◌, ◌≡◌, refl, sym, ap, ◌∙◌, List, [], ◌∷◌, Some, None, Ok, Err, ltb, leb}
+use borrow.Author.Tests.{lt-ltb, le-ltb}
+use Rattle.table.specs.Checks.{refuse_if, first_of}
+use Rattle.table.specs.Tables.{Table}
+use Rattle.table.specs.declared.refusals.Refused.{Refused}
+use Rattle.table.specs.declared.refusals.Refused.TheVariants.{ExpressionAbsent, ClockAtEnd, ResidualTooLong}
+use Rattle.table.proofs.Checks.{first_refuses, first_both, none_passes}
+use Rattle.table.proofs.Refusing.{refused_first, passed_first}
 use Rattle.term.specs.declared.Label.{Label}
 use Rattle.term.specs.declared.Label.TheVariants.{Ticking, Acting}
-use Rattle.std.specs.Prelude.{None, Some}
-use Rattle.table.proofs.Checks.{first_refuses, first_later, none_passes}
-use Rattle.table.specs.Checks.{Refusal, refuse_if, first_of}
-use Rattle.table.specs.Tables.{Table}
 use Rattle.state.specs.Layout.{residual_words}
 use Rattle.state.specs.Entries.{clock_of, clock_limit}
-use Rattle.steps.specs.Acts.{value_for, is_absent, word_in, lacks_value, writes_entry, last_checks}
-use Rattle.judging.specs.declared.Judgement.{Judgement}
-use Rattle.judging.specs.declared.Judgement.TheVariants.{Refused, Allowed}
-use Rattle.judging.specs.Outcomes.{word_for, Ended, sized}
+use Rattle.steps.specs.Acts.{value_for, is_absent, word_in, lacks_value, writes_entry}
+use Rattle.judging.specs.Outcomes.{value_checks, Sets, Ended}
 
-module _ (t : Table) (was : List ℕ) (x : ℕ) (label : Label) (keys size : ℕ) where
-  -- 15
-  ends_absent : lacks_value t was x label ≡ true → Ended t was x label keys size (Refused 15)
-  ends_absent e = first_refuses (refuse_if 15 (lacks_value t was x label)) _ e
-
-  module _ (present : lacks_value t was x label ≡ false) where
-    abbrev long : List Refusal
-    long = refuse_if 17 (ltb residual_words size) ∷ []
-
-    abbrev full : Bool
-    full = writes_entry t label && leb clock_limit (clock_of was)
-
-    past_15 : first_of (last_checks t was x label size) ≡ first_of (refuse_if 16 full ∷ long)
-    past_15 = first_later (refuse_if 15 (lacks_value t was x label)) (refuse_if 16 full ∷ long) present
-
-    -- 16
-    ends_full : full ≡ true → Ended t was x label keys size (Refused 16)
-    ends_full e = past_15 ∙ first_refuses (refuse_if 16 full) long e
-
-    -- 17, or nothing
-    ends_sized : full ≡ false → (r : Judgement) → r ≡ sized label (word_for t was x label) keys size → Ended t was x label keys size r
-    unfolding sized
-    ends_sized e r f = subst (Ended t was x label keys size) (sym f) (by (ltb residual_words size) refl)
-      where
-        last : first_of (last_checks t was x label size) ≡ first_of long
-        last = past_15 ∙ first_later (refuse_if 16 full) long e
-
-        by : (b : Bool) → ltb residual_words size ≡ b → Ended t was x label keys size (cond b (Refused 17) (Allowed label (word_for t was x label) keys))
-        by true d = last ∙ first_refuses (refuse_if 17 (ltb residual_words size)) [] d
-        by false d = (last ∙ first_later (refuse_if 17 (ltb residual_words size)) [] d ∙ none_passes, refl, refl, refl)
-
+-- THE WORD THAT IS SET
 module _ (t : Table) (was : List ℕ) (x : ℕ) where
-  -- a tick
-  pub tick_ends : (keys size : ℕ) (r : Judgement) → r ≡ sized Ticking 0 keys size → Ended t was x Ticking keys size r
-  tick_ends keys size r f = ends_sized t was x Ticking keys size refl refl r f
+  pub tick_sets : Sets t was x Ticking (Ok 0)
+  unfolding first_of
+  tick_sets = record { check = refl; word = λ w e. cc }
 
-  -- an action, by its value
-  module _ (n keys size : ℕ) where
-    pub absent_ends : value_for t was x n ≡ None → Ended t was x (Acting n) keys size (Refused 15)
-    absent_ends e = ends_absent t was x (Acting n) keys size (ap is_absent e)
+  module _ (n : ℕ) where
+    pub absent_sets : value_for t was x n ≡ None → Sets t was x (Acting n) (Err ExpressionAbsent)
+    absent_sets e = record { check = sym (first_refuses (refuse_if 15 (lacks_value t was x (Acting n))) _ (ap is_absent e)); word = λ w f. cc }
 
-    -- and by the clock, as it has been read
-    module _ (word : ℕ) (present : value_for t was x n ≡ Some word) (clock : ℕ) (is : clock ≡ clock_of was) where
-      pub full_ends : (writes_entry t (Acting n) && leb clock_limit clock) ≡ true → Ended t was x (Acting n) keys size (Refused 16)
-      full_ends e = ends_full t was x (Acting n) keys size (ap is_absent present) (rw is at e)
+    -- of a value that is there, by the clock
+    module _ (word : ℕ) (present : value_for t was x n ≡ Some word) where
+      abbrev full : Bool
+      full = writes_entry t (Acting n) && leb clock_limit (clock_of was)
 
-      pub action_ends : (writes_entry t (Acting n) && leb clock_limit clock) ≡ false → (r : Judgement) → r ≡ sized (Acting n) word keys size → Ended t was x (Acting n) keys size r
-      action_ends e r f = ends_sized t was x (Acting n) keys size (ap is_absent present) (rw is at e) r (f ∙ ap (λ (v : ℕ). sized (Acting n) v keys size) (sym (ap word_in present)))
+      pub full_sets : full ≡ true → Sets t was x (Acting n) (Err ClockAtEnd)
+      unfolding first_of
+      full_sets e = record { check = rw (first_of, present, e); word = λ w f. cc }
+
+      pub action_sets : full ≡ false → Sets t was x (Acting n) (Ok word)
+      unfolding first_of
+      action_sets e = record { check = rw (first_of, present, e); word = λ w f. let same : word ≡ w = cc in sym same ∙ sym (ap word_in present) }
+
+-- AND THEN THE LENGTH
+module _ (t : Table) (was : List ℕ) (x : ℕ) (label : Label) (keys size : ℕ) where
+  pub value_ends : {e : Refused} → Sets t was x label (Err e) → Ended t was x label keys size (Err e)
+  value_ends {e} s = sym (refused_first (value_checks t was x label) (refuse_if 17 (ltb residual_words size) ∷ []) e s.check)
+
+  module _ (word : ℕ) (s : Sets t was x label (Ok word)) where
+    pub long_ends : residual_words < size → Ended t was x label keys size (Err ResidualTooLong)
+    long_ends h =
+        sym (passed_first (value_checks t was x label) (refuse_if 17 (ltb residual_words size) ∷ []) s.check
+        (sym (first_refuses (refuse_if 17 (ltb residual_words size)) [] (lt-ltb residual_words size h))))
+
+    pub short_ends : size ≤ residual_words → Ended t was x label keys size (Ok (record { label = label; value = word; keys = keys }))
+    short_ends h =
+        (sym (passed_first (value_checks t was x label) (refuse_if 17 (ltb residual_words size) ∷ []) s.check
+        (sym (first_both (refuse_if 17 (ltb residual_words size)) [] (le-ltb residual_words size h) none_passes))), refl, s.word word refl, refl)

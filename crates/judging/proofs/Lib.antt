@@ -1,5 +1,5 @@
 pub mod Wholes
 pub mod Asking
-pub mod Ending
 pub mod Ordering
+pub mod Ending
 pub mod Choosing
