@@ -7,7 +7,6 @@ mod header;
 mod kinds;
 mod marks;
 mod nodes;
-mod reading;
 mod refusals;
 mod wrong;
 
@@ -15,7 +14,6 @@ pub use bad::lowest_bad;
 pub use fleets::Fleet;
 pub use header::{AGENTS, HEADER_BYTES, KEYS, measure};
 pub use kinds::{is_guard, is_process};
-pub use reading::{first_root, p_at};
 pub use refusals::Refused;
 pub use wrong::lowest_wrong;
 
