@@ -5,9 +5,8 @@
 mod rehearsal; // rehearsal.rt: where the table ends; load, then run; the lines of that
 mod stdin; // stdin.rt: standard input, read to its end
 
-ghost use Rattle.std.specs.Prelude.{◌≡◌, ◌+◌, ◌≤◌, length};
-ghost use Rattle.lines.specs.Sizes.{shown_bytes};
-ghost use Rattle.lines.specs.Pages.{Writes};
+ghost use Rattle.std.specs.Prelude.{◌≡◌, length};
+ghost use Rattle.lines.specs.Pages.{HasRoomForAll, Writes};
 ghost use Rattle.labs_show.specs.Input.{input_bytes};
 ghost use Rattle.labs_show.specs.Printed.{printed};
 
@@ -29,7 +28,7 @@ fn input_buffer() -> [u8; INPUT_BYTES]
 
 // What is printed of an input.
 fn show(page: &mut Page, input: &[u8])
-    requires { page.old.len + shown_bytes ≤ length page.old.bytes.now }
+    requires { HasRoomForAll page.old }
     ensures { Writes (printed input.now) page.old page.new }
 {
     let mut lent = Lent {

@@ -1,8 +1,8 @@
 // The input's table and schedule; load, then run; and what is printed of that.
-ghost use Rattle.std.specs.Prelude.{◌+◌, ◌≤◌, length};
-ghost use Rattle.lines.specs.Lines.{shown};
-ghost use Rattle.lines.specs.Sizes.{shown_bytes};
-ghost use Rattle.lines.specs.Pages.{Writes};
+ghost use Rattle.std.specs.Prelude.{◌++◌, length};
+ghost use Rattle.lines.specs.Lines.{shown, totals_line, state_lines};
+ghost use Rattle.lines.specs.Writing.{Fleet};
+ghost use Rattle.lines.specs.Pages.{HasRoomForAll, Writes};
 ghost use Rattle.labs_show.specs.Input.{TableEnd};
 ghost use Rattle.labs_show.specs.Rehearsal.{Rehearses, rehearsed, rehearsed_input};
 
@@ -54,18 +54,24 @@ fn rehearse_input(input: &[u8], lent: &mut Lent) -> Result<Totals, Refused>
     rehearse(table, schedule, lent)
 }
 
-// Its lines.
+// The lines of a done run.
+fn run_lines(page: &mut Page, totals: Totals, state: &[u32])
+    requires { Fleet state.now × (HasRoomForAll page.old) }
+    ensures { Writes (totals_line totals ++ state_lines state.now) page.old page.new }
+{
+    totals_line(page, totals);
+    state_lines(page, state);
+}
+
+// The lines of a rehearsal.
 pub fn show_rehearsal(page: &mut Page, input: &[u8], lent: &mut Lent)
-    requires { page.old.len + shown_bytes ≤ length page.old.bytes.now }
+    requires { HasRoomForAll page.old }
     ensures { Writes
         (shown (rehearsed_input input.now lent.old.state (length lent.old.scratch) lent.old.answers))
         page.old page.new }
 {
     match rehearse_input(input, lent) {
-        Ok(totals) => {
-            totals_line(page, totals);
-            state_lines(page, &lent.state);
-        }
+        Ok(totals) => run_lines(page, totals, &lent.state),
         Err(refused) => refused_line(page, refused.number(), refused.place()),
     }
 }

@@ -5,15 +5,17 @@ use mathlib.Core.Path.{◌≡◌, refl, sym, ap, ◌∙◌}
 use mathlib.Core.List.{List}
 use native.Mathlib.Omega.{arith}
 use Rattle.std.specs.Prelude.{Result, Ok, Err, MatchResult}
+use Rattle.std.specs.Result.{ResultUnwrapsOrElse}
 use Rattle.table.specs.declared.refusals.Refused.{Refused}
 use Rattle.table.specs.Checks.{Check, place_of}
 use Rattle.table.specs.Refusals.{check_of, result_check}
 use Rattle.steps.specs.declared.Tally.{Tally}
+use Rattle.steps.specs.Tallies.{no_tally}
 use Rattle.steps.specs.Steps.{Outcome}
 use Rattle.steps.specs.Runs.{Rehearsal}
 use Rattle.opening.specs.Answers.{Answers}
 use Rattle.machine.specs.declared.Totals.{Totals}
-use Rattle.machine.specs.Answers.{step_tally, run_totals, Steps, Runs}
+use Rattle.machine.specs.Answers.{step_tally, totals, run_totals, Steps, Runs}
 use Rattle.rehearsal.specs.Results.{written, total_numbers}
 use Rattle.rehearsal.specs.Packing.{packed, packed_tally, AnswerPacked, StepPacked, RunPacked}
 use Rattle.rehearsal.proofs.Places.{Near}
@@ -30,6 +32,12 @@ packs : {A : Type 0} (P : A → Type 0) (r : Result A Refused) {check : Check} (
     → Packs P r n → ((x : A) → r ≡ Ok x → P x → n ≡ report) → n ≡ packed check report
 packs P (Ok x) n report e m h = h x refl m ∙ ap (λ (c : Check). packed c report) e
 packs P (Err f) n report e m h = m report ∙ ap (λ (c : Check). packed c report) e
+
+-- the totals of a run, or those that stand by default
+pub default_totals : {D : Totals → Type 0} → ((x : Totals) → D x → x ≡ totals 0 0 no_tally) → (r : Result Totals Refused) {counts : Totals}
+    → ResultUnwrapsOrElse r D counts → counts ≡ run_totals r
+default_totals d (Ok x) h = h
+default_totals d (Err e) h = d _ h
 
 module _ {n : ℕ} where
   -- a call that reports 0

@@ -10,7 +10,7 @@ use table::Refused;
 // 2^63, which marks a refusal.
 const REFUSED: u64 = 0x8000_0000_0000_0000;
 
-// A refusal and its place.
+// A refusal and its place: the same whatever a call reports.
 fn pack_refusal(refused: Refused) -> u64
     requires { place_of (check_of refused) ≤ 4096 }
     ensures { (report : ℕ) → result ≡ packed (check_of refused) report }
@@ -22,7 +22,8 @@ fn pack_refusal(refused: Refused) -> u64
 pub fn pack<T, F: FnOnce(T) -> u64>(answer: Result<T, Refused>, report: F) -> u64
     requires reports { F.IsAlwaysCallable report }
     requires near { place_of (result_check answer) ≤ 4096 }
-    ensures { MatchResult answer (λ done. F.post report done result) (λ refused. (report : ℕ) → result ≡ packed (check_of refused) report) }
+    ensures { MatchResult answer (λ done. F.post report done result)
+        (λ refused. (report : ℕ) → result ≡ packed (check_of refused) report) }
 {
     match answer {
         Ok(done) => report(done),
