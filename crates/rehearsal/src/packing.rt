@@ -25,10 +25,7 @@ pub fn pack<T, F: FnOnce(T) -> u64>(answer: Result<T, Refused>, report: F) -> u6
     ensures { MatchResult answer (λ done. F.post report done result)
         (λ refused. (report : ℕ) → result ≡ packed (check_of refused) report) }
 {
-    match answer {
-        Ok(done) => report(done),
-        Err(refused) => pack_refusal(refused),
-    }
+    answer.map_or_else(pack_refusal, report)
 }
 
 // What a step reports.
