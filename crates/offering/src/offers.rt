@@ -29,17 +29,11 @@ impl Offer {
     ghost use Rattle.steps.specs.Offers.{offer_tally, offered};
     ghost use Rattle.offering.specs.Passing.{Passing, Passed, touches, touched};
 
-    // Whether it could touch an agent with this entry: an older one, or in a confirm a newer one. By an `if`, which the loop
-    // over the agents is compiled apart by: as one expression it takes twice the time.
+    // Whether it could touch an agent with this entry: an older one, or in a confirm a newer one.
     fn touches(&self, theirs: Entry) -> bool
         ensures { let o = self.now in result ≡ touches o.entry theirs o.counts o.confirming }
     {
-        let older = newer(self.entry, theirs);
-        if self.confirming {
-            self.counts & (older | newer(theirs, self.entry))
-        } else {
-            self.counts & older
-        }
+        self.counts & (newer(self.entry, theirs) | (self.confirming & newer(theirs, self.entry)))
     }
 
     // The agents whom it could touch.
