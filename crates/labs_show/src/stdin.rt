@@ -5,8 +5,8 @@ use std::io;
 use std::io::Read;
 use std::rt::Stdin;
 
-// Reads until the buffer is full or the input ends; answers how many bytes stand at the start of the buffer. A read that
-// fails is not the end, whatever its reason.
+// Reads until the buffer is full or the input ends; answers how many bytes stand at the start of the buffer. A read
+// that fails is not the end, whatever its reason.
 pub fn read_input(input: &mut Stdin, buffer: &mut [u8]) -> io::Result<usize>
     ensures { IfOk result (λ size. size ≤ length buffer.new) }
 {

@@ -79,6 +79,10 @@ agent_lines s a =
     ++ pending_lines (ascii "c") a (zc_of s a)
     ++ pending_lines (ascii "p") a (zp_of s a)
 
+-- the agents below A
+abbrev pub fleet_lines : List ℕ → List ℕ
+fleet_lines s = each_below (agent_lines s) (get_or s agents_at 0)
+
 -- a state: the clock, the environment, and the agents below A
 unfoldable pub state_lines : List ℕ → List ℕ
 state_lines s = clock_line (clock_of s) ++ store_lines s Environment ++ each_below (agent_lines s) (get_or s agents_at 0)

@@ -3,8 +3,9 @@
 
 ghost use Rattle.std.specs.Prelude.{◌<◌};
 ghost use Rattle.table.specs.Tables.{agent_limit, key_limit};
-ghost use Rattle.state.specs.Standing.{Pair, HasBlocks, store_agent};
+ghost use Rattle.state.specs.Standing.{Pair, store_agent};
 ghost use Rattle.lines.specs.Lines.{value_line, key_line, store_lines, member_line, pending_lines};
+ghost use Rattle.lines.specs.Writing.{Fleet};
 ghost use Rattle.lines.specs.Pages.{HasRoom, Writes};
 
 use crate::page::Page;
@@ -12,31 +13,38 @@ use crate::rows::{attribute_line, entry_line, environment_line, pending_line};
 use state::{Store, entry_of, value_in};
 use table::KEYS;
 
+// A state that can be printed.
+#[derive(Clone, Copy)]
+pub struct State<'a> {
+    pub words: &'a [u32],
+    pub ghost fleet: { Fleet words.now },
+}
+
 // The line of a value.
-fn value_line(page: &mut Page, state: &[u32], store: Store, key: usize, word: u32)
-    requires { HasBlocks state.now × Pair store key × HasRoom (value_line state.now store key word) page.old }
-    ensures { Writes (value_line state.now store key word) page.old page.new }
+fn value_line(page: &mut Page, state: &State, store: Store, key: usize, word: u32)
+    requires { Pair store key × HasRoom (value_line state.now.words.now store key word) page.old }
+    ensures { Writes (value_line state.now.words.now store key word) page.old page.new }
 {
     match store {
         Store::Environment => environment_line(page, key, word),
         Store::Attributes(agent) => attribute_line(page, agent, key, word),
-        Store::Entries(agent) => entry_line(page, agent, key, entry_of(state, agent, key)),
+        Store::Entries(agent) => entry_line(page, agent, key, entry_of(state.words, agent, key)),
     }
 }
 
 // The line of a key that is present.
-fn key_line(page: &mut Page, state: &[u32], store: Store, key: usize)
-    requires { HasBlocks state.now × Pair store key × HasRoom (key_line state.now store key) page.old }
-    ensures { Writes (key_line state.now store key) page.old page.new }
+fn key_line(page: &mut Page, state: &State, store: Store, key: usize)
+    requires { Pair store key × HasRoom (key_line state.now.words.now store key) page.old }
+    ensures { Writes (key_line state.now.words.now store key) page.old page.new }
 {
-    if let Some(word) = value_in(state, store, key) {
+    if let Some(word) = value_in(state.words, store, key) {
         value_line(page, state, store, key, word);
     }
 }
 
-pub fn store_lines(page: &mut Page, state: &[u32], store: Store)
-    requires { HasBlocks state.now × (store_agent store < agent_limit) × HasRoom (store_lines state.now store) page.old }
-    ensures { Writes (store_lines state.now store) page.old page.new }
+pub fn store_lines(page: &mut Page, state: &State, store: Store)
+    requires { (store_agent store < agent_limit) × HasRoom (store_lines state.now.words.now store) page.old }
+    ensures { Writes (store_lines state.now.words.now store) page.old page.new }
 {
     for key in 0..KEYS {
         key_line(page, state, store, key);

@@ -1,5 +1,6 @@
-// The machine and the shelf with one number for an answer: each function calls theirs and packs what it answers; a run's
-// totals go to a lent buffer. rehearsal_c exports them for C and Rust.
+// The machine and the shelf with one number for an answer: each function calls theirs and packs what it answers; a
+// run's totals go to a lent buffer. rehearsal_c exports them for C and Rust, so the buffers stay parameters as in
+// include/rehearsal.h.
 #![tactic(auto)]
 
 mod packing; // packing.rt: answers as one number

@@ -1,5 +1,5 @@
 // The functions of rehearsal for C and Rust, under the same names and with the same clauses. A slice is a pointer and a
-// count.
+// count; parameters and answers are those of include/rehearsal.h, and so stay as they are.
 #![tactic(auto)]
 
 ghost use Rattle.std.specs.Prelude.{length};

@@ -5,4 +5,4 @@ use Rattle.lines.specs.Pages.{Writes}
 use Rattle.lines.proofs.fleet.fleet_lines.Given as goal
 
 abbrev pub invariant-loop-agent : goal.invariant-loop-agent
-invariant-loop-agent l = Writes (each_below (agent_lines l.state) l.agent) l.initial.page l.page
+invariant-loop-agent l = Writes (each_below (agent_lines l.state.words.now) l.agent) l.initial.page l.page

@@ -5,4 +5,4 @@ use Rattle.lines.specs.Pages.{Writes}
 use Rattle.lines.proofs.stores.store_lines.Given as goal
 
 abbrev pub invariant-loop-key : goal.invariant-loop-key
-invariant-loop-key l = Writes (each_below (key_line l.state l.store) l.key) l.initial.page l.page
+invariant-loop-key l = Writes (each_below (key_line l.state.words.now l.store) l.key) l.initial.page l.page
