@@ -15,9 +15,8 @@ use Rattle.term.specs.declared.Label.{Label}
 use Rattle.term.specs.declared.Label.TheVariants.{Ticking, Acting}
 use Rattle.term.specs.Terms.{Term, words}
 use Rattle.term.specs.Processes.{Derivation, derivation_at, process}
-use Rattle.term.specs.Accepted.{ActionNode, Labelled}
+use Rattle.term.specs.Accepted.{ActionNode, Labelled, Checked}
 use Rattle.term.proofs.Inside.{Inside as InsideTable}
-use Rattle.choice.specs.Turns.{Prepared}
 use Rattle.state.specs.declared.Store.{Store}
 use Rattle.state.specs.Layout.{zc_at, key_limit, residual_words, zc_of, term_in}
 use Rattle.state.proofs.Places.{Place, Zc, Zp, Clock, Mark, Word, Writer, Waits, Length, Residual, Inside, same}
@@ -30,7 +29,8 @@ use Rattle.state.proofs.Keep.{residual_kept}
 use Rattle.steps.specs.Acts.{writes_entry, chosen, guards_read, to_confirm, store_of, set_key, leave, acted}
 use Rattle.steps.proofs.Steps.{Able, act_able}
 use Rattle.steps.proofs.Acts.{chosen_inside, action_key, set_tick, set_key_other, set_length}
-use Rattle.judging.specs.declared.Judgement.TheVariants.{Allowed}
+use Rattle.std.specs.Prelude.{Ok}
+use Rattle.judging.specs.declared.Allowed.{Allowed}
 use Rattle.judging.specs.Judging.{Judges}
 use Rattle.judging.specs.Outcomes.{word_for}
 use Rattle.acting.specs.Acting.{Leaving, Setting}
@@ -45,26 +45,26 @@ record Still (x : ℕ) (q : Place) : Type 0 where
   word : (store : Store) (k : ℕ) → same q (Word store k) ≡ false
   writer : (k : ℕ) → same q (Writer x k) ≡ false
 
-module _ (t : Table) (scratch : List ℕ) (ready : Prepared t scratch) (was : List ℕ) (proper : Proper t was) (x : ℕ) (there : x < t.sizes.agents) where
+module _ (t : Table) (checked : Checked t) (was : List ℕ) (proper : Proper t was) (x : ℕ) (there : x < t.sizes.agents) where
   low : x < 32
-  low = omega (arith, ready.checked.sound.shaped.limits.agents)
+  low = omega (arith, checked.sound.shaped.limits.agents)
 
   blocks : HasBlocks was
   blocks = omega (arith, proper.whole)
 
   few : first_root t ≤ 65532
-  few = omega (arith, ready.checked.sound.shaped.limits.nodes)
+  few = omega (arith, checked.sound.shaped.limits.nodes)
 
   formed : ResidualFormed t was x
-  formed = (proper_facts t ready.checked.sound.shaped.limits was proper).formed.formed.residuals x there
+  formed = (proper_facts t checked.sound.shaped.limits was proper).formed.formed.residuals x there
 
   -- WHAT A LABEL'S KEY LEAVES
   label_other : (l : Label) → Labelled t l → (q : Place) → Still x q → SameAt (set_key t was x l) was q
   label_other Ticking h q s = ap (λ (u : List ℕ). word_at u q) (set_tick t was x)
-  label_other (Acting n) h q s = set_key_other t was x n (action_key t was x ready.checked.sound n h) q s.inside s.clock s.waits
+  label_other (Acting n) h q s = set_key_other t was x n (action_key t was x checked.sound n h) q s.inside s.clock s.waits
       (s.mark (store_of t x n) (p_at t n)) (s.word (store_of t x n) (p_at t n)) (s.writer (p_at t n))
 
-  module _ (c : ℕ) (label : Label) (v keys : ℕ) (j : Judges t was x c (Allowed label v keys)) where
+  module _ (c : ℕ) (a : Allowed) (j : Judges t was x c (Ok a)) where
     abbrev D : Derivation
     D = chosen t was x c
 
@@ -72,46 +72,44 @@ module _ (t : Table) (scratch : List ℕ) (ready : Prepared t scratch) (was : Li
     able = (act_able t was x c).0 j.0
 
     inside : InsideTable t D
-    inside = chosen_inside t was x ready.checked.sound formed.over c able.there
+    inside = chosen_inside t was x checked.sound formed.over c able.there
 
-    labelled : Labelled t label
+    labelled : Labelled t a.label
     labelled = subst (Labelled t) (sym j.1) inside.label
 
     within : (e : Label) → Labelled t e → LabelKey t e
     within Ticking h = tt
     within (Acting n) h = omega arith
 
-    pub allowed_gaining : Gaining t was x label keys
+    pub allowed_gaining : Gaining t was x a
     allowed_gaining =
         record {
-          shaped = ready.checked.sound.shaped;
           blocks = blocks;
           agent = low;
-          within = within label labelled;
+          within = within a.label labelled;
           small = rw j.3 (plus_all_small (guards_read t D.guards) key_limit key_limit 0 (omega arith) (omega arith));
         }
 
-    pub allowed_setting : (n : ℕ) → label ≡ Acting n → Setting t was x n v
+    pub allowed_setting : (n : ℕ) → a.label ≡ Acting n → Setting t was x n a.value
     allowed_setting n e =
         let l : Acting n ≡ D.label = sym e ∙ j.1 in
-        let a : ActionNode t n = subst (Labelled t) (sym l) inside.label in
+        let action : ActionNode t n = subst (Labelled t) (sym l) inside.label in
         record {
-          shaped = ready.checked.sound.shaped;
           blocks = blocks;
           agent = low;
-          action = a;
-          key = action_key t was x ready.checked.sound n a;
+          action = action;
+          key = action_key t was x checked.sound n action;
           room = λ k. able.room (ap (writes_entry t) (sym l) ∙ eq-eqb (kind_at t n) kind.set_stigmergy k);
           value = j.2 ∙ ap (word_for t was x) (sym l);
         }
 
     -- AFTER THE KEY AND ZC
-    module _ (g : ℕ) (key_set s : List ℕ) (set_key_lem : key_set ≡ set_key t was x label) (set-zc : s ≡ set key_set (zc_at x) g) where
+    module _ (g : ℕ) (key_set s : List ℕ) (set_key_lem : key_set ≡ set_key t was x a.label) (set-zc : s ≡ set key_set (zc_at x) g) where
       long : length s ≡ length was
-      long = ap (λ (u : List ℕ). length u) set-zc ∙ length-set key_set (zc_at x) g ∙ ap (λ (u : List ℕ). length u) set_key_lem ∙ set_length t was x label
+      long = ap (λ (u : List ℕ). length u) set-zc ∙ length-set key_set (zc_at x) g ∙ ap (λ (u : List ℕ). length u) set_key_lem ∙ set_length t was x a.label
 
       key_still : (q : Place) → Still x q → SameAt key_set was q
-      key_still q h = ap (λ (u : List ℕ). word_at u q) set_key_lem ∙ label_other label labelled q h
+      key_still q h = ap (λ (u : List ℕ). word_at u q) set_key_lem ∙ label_other a.label labelled q h
 
       still : (q : Place) → Still x q → same q (Waits Zc x) ≡ false → SameAt s was q
       still q h e = ap (λ (u : List ℕ). word_at u q) set-zc ∙ set_other key_set (Waits Zc x) g tt q h.inside e ∙ key_still q h
@@ -145,7 +143,7 @@ module _ (t : Table) (scratch : List ℕ) (ready : Prepared t scratch) (was : Li
       is_key_set = set_key_lem ∙ ap (set_key t was x) j.1
 
       -- the residual comes last
-      pub allowed_acted : Gains t was x label keys g → (out : List ℕ) → out ≡ leave x (words (chosen t s x c).leaving) s → out ≡ acted t was x (chosen t was x c)
+      pub allowed_acted : Gains t was x a g → (out : List ℕ) → out ≡ leave x (words (chosen t s x c).leaving) s → out ≡ acted t was x (chosen t was x c)
       unfolding acted
       allowed_acted gains out o =
           let e : g ≡ plus_all (to_confirm t was x D) key_limit (zc_of key_set x) = gains D j.1 j.3 ∙ ap (plus_all (to_confirm t was x D) key_limit) (sym zc_empty) in

@@ -5,12 +5,11 @@ use Rattle.table.specs.Tables.{Table, kind_at, p_at, agent_limit}
 use Rattle.term.specs.Terms.{words}
 use Rattle.term.specs.Processes.{all_few}
 use Rattle.term.specs.Accepted.{ActionNode}
-use Rattle.state.specs.declared.Store.{Store}
 use Rattle.state.specs.Layout.{key_limit, residual_words, term_in}
 use Rattle.state.specs.Entries.{clock_of, clock_limit}
-use Rattle.state.specs.Standing.{store_agent, HasBlocks}
+use Rattle.state.specs.Standing.{HasBlocks}
 use Rattle.state.specs.WellFormed.{residual_formed}
-use Rattle.steps.specs.Acts.{word_in, value_for, choices, chosen, store_of}
+use Rattle.steps.specs.Acts.{word_in, value_for, choices, chosen}
 
 -- what choice c of agent x's residual leaves has room
 pub record Leaving (t : Table) (s : List ℕ) (x c : ℕ) : Type 0 where
@@ -27,11 +26,6 @@ pub record Entering (s : List ℕ) (x k : ℕ) : Type 0 where
   pub agent : x < agent_limit
   pub key : k < key_limit
   pub room : clock_of s < clock_limit
-
--- the store that an action of a kind sets
-pub record Stored (kind x : ℕ) (r : Store) : Type 0 where
-  pub is : (t : Table) (n : ℕ) → kind_at t n ≡ kind → r ≡ store_of t x n
-  pub agent : store_agent r < agent_limit
 
 -- action n of agent x sets its key to word v
 pub record Setting (t : Table) (s : List ℕ) (x n v : ℕ) : Type 0 where

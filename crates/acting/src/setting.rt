@@ -1,26 +1,26 @@
 // The key that an action sets.
-ghost use Rattle.std.specs.Prelude.{◌≡◌, ℕ, ◌<◌, ◌≤◌};
-ghost use Rattle.basis.specs.Kinds as kinds;
-ghost use Rattle.table.specs.Tables.{agent_limit};
+ghost use Rattle.std.specs.Prelude.{◌≡◌, ℕ};
 ghost use Rattle.table.specs.Fleets.{table_in};
 ghost use Rattle.term.specs.declared.Label.TheVariants.{Acting};
-ghost use Rattle.steps.specs.Acts.{entered, set_key};
-ghost use Rattle.acting.specs.Acting.{Stored, Entering, Setting};
+ghost use Rattle.term.specs.Accepted.{ActionNode};
+ghost use Rattle.steps.specs.Acts.{store_of, entered, set_key};
+ghost use Rattle.acting.specs.Acting.{Entering, Setting};
 
+use basis::NodeKind;
 use judging::Allowed;
 use state::{Entry, Store, add_key, clock_of, put, put_entry, set_clock, zp_at};
 use table::Fleet;
 use term::Label;
 
-// The store that an action of a kind sets, which is no stigmergy write.
-fn store_of(kind: u8, agent: usize) -> Store
-    requires { (kinds.set_attribute ≤ kind) × (kind ≤ kinds.set_environment) × (kind ≡ kinds.set_stigmergy → ⊥) × (agent < agent_limit) }
-    ensures { Stored kind agent result }
+// The store in which an action of an agent sets its key.
+fn store_set(fleet: &Fleet, agent: usize, node: usize) -> Store
+    requires { ActionNode (table_in fleet.now) node }
+    ensures { result ≡ store_of (table_in fleet.now) agent node }
 {
-    if kind == basis::kinds::SET_ATTRIBUTE {
-        Store::Attributes(agent)
-    } else {
-        Store::Environment
+    match fleet.node_kind(node) {
+        Ok(NodeKind::SetAttribute) => Store::Attributes(agent),
+        Ok(NodeKind::SetStigmergy) => Store::Entries(agent),
+        _ => Store::Environment,
     }
 }
 
@@ -47,11 +47,9 @@ fn set_key(fleet: &Fleet, state: &mut [u32], agent: usize, node: usize, value: u
     ensures { state.new ≡ set_key (table_in fleet.now) state.old agent (Acting node) }
 {
     let key = fleet.p_at(node);
-    let kind = fleet.kind_at(node);
-    if kind == basis::kinds::SET_STIGMERGY {
-        write_entry(state, agent, key, value);
-    } else {
-        put(state, store_of(kind, agent), key, value, 1);
+    match store_set(fleet, agent, node) {
+        Store::Entries(_) => write_entry(state, agent, key, value),
+        store => put(state, store, key, value, 1),
     }
 }
 

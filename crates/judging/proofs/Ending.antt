@@ -50,6 +50,10 @@ module _ (t : Table) (was : List ℕ) (x : ℕ) (label : Label) (keys size : ℕ
         (sym (first_refuses (refuse_if 17 (ltb residual_words size)) [] (lt-ltb residual_words size h))))
 
     pub short_ends : size ≤ residual_words → Ended t was x label keys size (Ok (record { label = label; value = word; keys = keys }))
-    short_ends h =
-        (sym (passed_first (value_checks t was x label) (refuse_if 17 (ltb residual_words size) ∷ []) s.check
-        (sym (first_both (refuse_if 17 (ltb residual_words size)) [] (le-ltb residual_words size h) none_passes))), refl, s.word word refl, refl)
+    short_ends h = (
+      sym (passed_first (value_checks t was x label) (refuse_if 17 (ltb residual_words size) ∷ []) s.check
+          (sym (first_both (refuse_if 17 (ltb residual_words size)) [] (le-ltb residual_words size h) none_passes))),
+      refl,
+      s.word word refl,
+      refl,
+    )

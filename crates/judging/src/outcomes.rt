@@ -3,6 +3,7 @@ ghost use Rattle.table.specs.Fleets.{table_in};
 ghost use Rattle.judging.specs.Outcomes.{Doing, Sets, Ended};
 
 use crate::Allowed;
+use basis::NodeKind;
 use choice::Effect;
 use evaluation::value_of;
 use state::{RESIDUAL_WORDS, clock_of};
@@ -19,7 +20,7 @@ fn word_set(fleet: &Fleet, state: &[u32], agent: usize, label: Label) -> Result<
     };
     let value = value_of(fleet, state, agent, agent, fleet.q_at(node));
     let word = value.ok_or(Refused::ExpressionAbsent)?;
-    let stamps = fleet.kind_at(node) == basis::kinds::SET_STIGMERGY;
+    let stamps = fleet.kind_at(node) == NodeKind::SetStigmergy as u8;
     if stamps & (state::CLOCK_LIMIT <= clock_of(state)) {
         return Err(Refused::ClockAtEnd);
     }

@@ -32,11 +32,11 @@ returns-then-stamps-clock_of c =
     rw c.in-Acting.is
     (full_sets (table_in c.args.fleet.now) c.args.state.now c.args.agent c.in-Acting.node c.in_ok-word.word
     (value_is (goal.at.returns-then-stamps-clock_of c).After-value_of-value ∙ c.in_ok-word.ensures.ok_part)
-    (rw (c.kind_at-stamps.ensures, c.clock_of.ensures) at c.if-stamps-clock_of.true))
+    (rw (c.kind_at.ensures, c.clock_of.ensures) at c.if-stamps-clock_of.true))
 
 pub returns : goal.returns
 returns c =
     rw c.in-Acting.is
     (action_sets (table_in c.args.fleet.now) c.args.state.now c.args.agent c.in-Acting.node c.in_ok-word.word
     (value_is (goal.at.returns c).After-value_of-value ∙ c.in_ok-word.ensures.ok_part)
-    (rw (c.kind_at-stamps.ensures, c.clock_of.ensures) at c.if-stamps-clock_of.false))
+    (rw (c.kind_at.ensures, c.clock_of.ensures) at c.if-stamps-clock_of.false))
