@@ -19,16 +19,13 @@ sets d h = record { defined = d; holding = h }
 pub found_same : {w : ℕ} {f g : ℕ → Truth} {r : AgentSets} → ((y : ℕ) → f y ≡ g y) → Found w g r → Found w f r
 found_same e found = record { defined = λ y. rw (e y) (found.defined y); holding = λ y. rw (e y) (found.holding y) }
 
--- it is well defined for nobody; it holds for all; nobody is asked for
+-- it is well defined for nobody; it holds for all
 module _ {w : ℕ} {f : ℕ → Truth} where
   pub found_none : ((y : ℕ) → f y ≡ undefined) → Found w f (sets 0 0)
   found_none e = record { defined = λ y. rw (e y, and-false (has w y)) (has_nothing y); holding = λ y. rw (e y, and-false (has w y)) (has_nothing y) }
 
   pub found_all : ((y : ℕ) → f y ≡ truth true true) → Found w f (sets w w)
   found_all e = record { defined = λ y. rw (e y, and-true (has w y)); holding = λ y. rw (e y, and-true (has w y)) }
-
-  pub found_nobody : w ≡ 0 → Found w f (sets 0 0)
-  found_nobody e = rw e (record { defined = λ y. rw (has_nothing y); holding = λ y. rw (has_nothing y) })
 
 -- of one agent alone
 pub alone : (w y : ℕ) {b : Bool} → w ≡ plus 0 y → (has w y && b) ≡ b

@@ -19,7 +19,11 @@ fn own_key(fleet: &Fleet, node: usize, keys: u32) -> u32
         return keys;
     }
     let key = fleet.p_at(node);
-    if key < KEYS { basis::plus(keys, key) } else { keys }
+    if key < KEYS {
+        basis::plus(keys, key)
+    } else {
+        keys
+    }
 }
 
 // The set with the keys that a node below the limit reads.

@@ -1,13 +1,13 @@
 -- `value_below` meets its contract: what no arm names is an operation.
 -- Assumes nothing.
-use Prim.Native.Nat.{ℕ, ◌<◌, ◌≤◌}
+use Prim.Native.Nat.{ℕ, ◌<◌}
 use mathlib.Core.Path.{◌≡◌, sym}
 use borrow.Author.Tests.{ne_eqb}
 use Rattle.std.proofs.Common.{rules, List}
 use Rattle.basis.specs.NodeKinds.{number_of}
 use Rattle.basis.specs.declared.node_kinds.NodeKind.{NodeKind}
 use Rattle.basis.specs.declared.node_kinds.NodeKind.TheVariants.{Constant, Attribute, Stigmergy, Environment}
-use Rattle.value.specs.Values.{Value, operate}
+use Rattle.value.specs.Values.{operate}
 use Rattle.table.specs.Tables.{Table, kind_at, p_at, q_at}
 use Rattle.table.specs.Fleets.{table_in}
 use Rattle.state.specs.Evaluation.{value_step}
