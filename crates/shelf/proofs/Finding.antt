@@ -6,7 +6,7 @@ use Rattle.std.specs.Prelude.{ok_or}
 use Rattle.std.proofs.lemmas.List.{get_or-take, length-take-le, length-drop}
 use Rattle.std.proofs.lemmas.List.Sums.{position_or_len_is}
 use lib.Seq.{drop-drop}
-use borrow.Author.Tests.{ltb-true, ltb-false}
+use borrow.Author.Tests.{ltb-true, ltb-false, ne_eqb}
 use Rattle.basis.proofs.Numbers.{some_at, some_none, lowest_bound, lowest_passes, lowest_before}
 use Rattle.table.specs.declared.refusals.Refused.{Refused}
 use Rattle.state.specs.Layout.{state_words}
@@ -42,6 +42,17 @@ module _ (shelf : List ℕ) (name : ℕ) (room : place_limit ≤ length shelf) w
       by false l =
           let h = ltb-false (place_of shelf name) place_limit l in
           rw (is, l) (some_none named place_limit (λ k m. lowest_before named place_limit k (omega arith)))
+
+  -- another place, or none, is found
+  pub not_here : (r : Option ℕ) → Found (is_held shelf name) (place_of shelf name) r → (i : ℕ) → i < place_limit → (r ≡ Some i → ⊥) → eqb (place_of shelf name) i ≡ false
+  not_here r f i h d = ne_eqb _ _ (by r f d)
+    where
+      by : (r : Option ℕ) → Found (is_held shelf name) (place_of shelf name) r → (r ≡ Some i → ⊥) → place_of shelf name ≡ i → ⊥
+      by None f d e =
+          let low : place_of shelf name < place_limit = omega arith in
+          let held : is_held shelf name ≡ true = some_at named place_limit (place_of shelf name) low (lowest_passes named place_limit low) in
+          cc
+      by (Some r) f d e = d (ap Some (f.2 ∙ e))
 
 -- the part of a shelf where the state of a place stands, as code lends it
 module _ (shelf : List ℕ) (place : ℕ) {at : ℕ} (e : at ≡ saved_at place) where

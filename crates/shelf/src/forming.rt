@@ -1,23 +1,31 @@
-// Whether a shelf's words are well formed for a table: 9, after what was judged before.
-ghost use Rattle.std.specs.Prelude.{◌≡◌, ◌<◌, length, Ok};
+// Whether a shelf's words are well formed for a table: 9, of a shelf.
+ghost use Rattle.std.specs.Prelude.{◌≡◌, ◌<◌, [], ◌∷◌, length};
+ghost use Rattle.table.specs.Checks.{first_of};
+ghost use Rattle.table.specs.Refusals.{result_check};
 ghost use Rattle.table.specs.Fleets.{table_in};
-ghost use Rattle.table.specs.declared.fleets.Fleet.{Fleet};
 ghost use Rattle.steps.specs.Shelves.{place_limit, shelf_words, place_formed, shelf_formed};
-ghost use Rattle.shelf.specs.Shelving.{ShelfJudged};
+ghost use Rattle.steps.specs.Points.{shelf_check};
 
 use crate::places::{NAME_LIMIT, PLACES, place_of, saved_of};
 use table::{Fleet, Refused};
 use wellformed::well_formed;
 
+#[tactic(auto, unfolding(steps::specs::Shelves::place_formed))]
 fn place_formed(fleet: &Fleet, shelf: &[u32], place: usize) -> bool
     requires { (length shelf.now ≡ shelf_words) × (place < place_limit) }
     ensures { result ≡ place_formed shelf.now (table_in fleet.now) place }
 {
     let name = shelf[place];
-    name == 0
-        || (name <= NAME_LIMIT
-            && place_of(shelf, name) == Some(place)
-            && well_formed(fleet.sizes, fleet.kinds, saved_of(shelf, place)))
+    if name == 0 {
+        return true;
+    }
+    if NAME_LIMIT < name {
+        return false;
+    }
+    if place_of(shelf, name) != Some(place) {
+        return false;
+    }
+    well_formed(fleet.sizes, fleet.kinds, saved_of(shelf, place))
 }
 
 fn shelf_formed(fleet: &Fleet, shelf: &[u32]) -> bool
@@ -27,13 +35,12 @@ fn shelf_formed(fleet: &Fleet, shelf: &[u32]) -> bool
     (0..PLACES).all(|place| place_formed(fleet, shelf, place))
 }
 
-// What was judged before, and then the shelf.
-pub fn judge_shelf(shelf: &[u32], earlier: Result<Fleet, Refused>) -> Result<(), Refused>
-    requires { (f : Fleet) → earlier ≡ Ok f → length shelf.now ≡ shelf_words }
-    ensures { ShelfJudged shelf.now earlier result }
+// 9, of the shelf.
+pub fn judge_shelf(fleet: &Fleet, shelf: &[u32]) -> Result<(), Refused>
+    requires { length shelf.now ≡ shelf_words }
+    ensures { result_check result ≡ first_of (shelf_check (table_in fleet.now) shelf.now ∷ []) }
 {
-    let fleet = earlier?;
-    if shelf_formed(&fleet, shelf) {
+    if shelf_formed(fleet, shelf) {
         Ok(())
     } else {
         Err(Refused::StateNotWellFormed)
