@@ -63,22 +63,20 @@ module _ (t : Table) (s : List ℕ) (c : Counted t s) (n : ℕ) (h : n < first_r
   pub node_held : pair_at s n ≡ counts_of (node_process t n)
   node_held = c.nodes n h ∙ sym (held_true (node_process t n) node_few)
 
--- what is told of a term whose parts, if it has any, have few derivations
+-- what is told of a leaf, and of an operator's term whose parts have few derivations
 module _ (t : Table) (T : Term) (at : ℕ) (m : Measured) where
-  told_if : m.next.at ≡ at + length (words T) → m.counts ≡ counts_of (process t T) → all_few t T ≡ few (process t T) → ToldIf t T at (then_some (few_counts m.counts) m)
-  told_if e d f = by (few_counts m.counts) (ap few_counts d ∙ few_held (process t T) ∙ sym f)
-    where
-      by : (b : Bool) → b ≡ all_few t T → ToldIf t T at (then_some b m)
-      by true h = record { next = e; counts = d; few = sym h }
-      by false h = sym h
-
-  told_leaf : others T ≡ [] → m.next.at ≡ at + 1 → m.counts ≡ counts_of (process t T) → all_few t T ≡ few (process t T) → ToldIf t T at (then_some (few_counts m.counts) m)
-  told_leaf o e = told_if (e ∙ ap (λ (n : ℕ). at + n) (sym (ap length (words_first T ∙ ap (λ (l : List ℕ). first T ∷ l) o))))
+  told_leaf : others T ≡ [] → m.next.at ≡ at + 1 → m.counts ≡ counts_of (process t T) → all_few t T ≡ true → Told t T at m
+  told_leaf o e d f =
+      record { next = e ∙ ap (λ (n : ℕ). at + n) (sym (ap length (words_first T ∙ ap (λ (l : List ℕ). first T ∷ l) o))); counts = d; few = f }
 
   told_operator : (p q : Term) (a b : Measured) → Told t p (at + 1) a → Told t q a.next.at b → length (words T) ≡ 1 + length (words p) + length (words q)
       → all_few t T ≡ (few (process t T) && (all_few t p && all_few t q)) → m.next ≡ b.next → m.counts ≡ counts_of (process t T) → ToldIf t T at (then_some (few_counts m.counts) m)
   told_operator p q a b left right size all e d =
-      told_if (ap (λ (x : Cursor). x.at) e ∙ omega (arith, left.next, right.next, size)) d (all ∙ rw (left.few, right.few) (and-true (few (process t T))))
+      by (few_counts m.counts) (ap few_counts d ∙ few_held (process t T) ∙ sym (all ∙ rw (left.few, right.few) (and-true (few (process t T)))))
+    where
+      by : (b : Bool) → b ≡ all_few t T → ToldIf t T at (then_some b m)
+      by true h = record { next = ap (λ (x : Cursor). x.at) e ∙ omega (arith, left.next, right.next, size); counts = d; few = sym h }
+      by false h = sym h
 
 -- what is told of the two parts of an operator's term
 module _ (t : Table) {roots : ℕ} (same : first_root t ≡ roots) {s : List ℕ} (counted : Counted t s) (ws : List ℕ) (at : ℕ)
@@ -130,17 +128,17 @@ module _ (roots : ℕ) (s ws : List ℕ) (at : ℕ) where
       record { within = tt; right = λ t x k T rest o y. absurd (let w = term_within ws at T rest y in let n = words_some T in omega arith) }
 
   module _ (pairs : Pairs roots s) (w : ℕ) (next : Cursor) (read : read_at ws at ≡ Some (w, next)) where
-    pub found_leaf : (m : Measured) → is_operator w ≡ false → m.next ≡ next → m.counts ≡ leaf_counts roots s w → Found roots s ws at (then_some (few_counts m.counts) m)
+    pub found_leaf : (m : Measured) → is_operator w ≡ false → m.next ≡ next → m.counts ≡ leaf_counts roots s w → Found roots s ws at (Some m)
     unfolding leaf_counts words process all_few derivations
     found_leaf m e n d =
         let g = read_word ws at w next read in
         let z : m.next.at ≡ at + 1 = ap (λ (x : Cursor). x.at) n ∙ g.2 in
         record {
-          within = within_if ws at m (few_counts m.counts) (record { small = rw d (leaf_small roots s pairs w); on = omega arith; end = omega arith });
+          within = record { small = rw d (leaf_small roots s pairs w); on = omega arith; end = omega arith };
           right = λ t x k T rest o y. right t x k T o z (g.1 ∙ word_is ws at T rest y);
         }
       where
-        right : (t : Table) → first_root t ≡ roots → Counted t s → (T : Term) → Over t T → m.next.at ≡ at + 1 → w ≡ first T → ToldIf t T at (then_some (few_counts m.counts) m)
+        right : (t : Table) → first_root t ≡ roots → Counted t s → (T : Term) → Over t T → m.next.at ≡ at + 1 → w ≡ first T → Told t T at m
         right t x k (Seq p q) o z v = absurd (not_both (ap is_operator v) e)
         right t x k (Par p q) o z v = absurd (not_both (ap is_operator v) e)
         right t x k Tick o z v = told_leaf t Tick at m refl z (d ∙ ap (leaf_counts roots s) v ∙ sym counts_tick) refl
@@ -150,7 +148,8 @@ module _ (roots : ℕ) (s ws : List ℕ) (at : ℕ) where
         right t x k (Node n) o z v =
             let l = pairs.nodes in
             told_leaf t (Node n) at m refl z
-            (d ∙ ap (leaf_counts roots s) v ∙ (rw (leaf_counts, ne_eqb n tick_word (λ y. omega arith), lt-ltb n roots (omega arith)) (node_held t s k n o.0))) refl
+            (d ∙ ap (leaf_counts roots s) v ∙ (rw (leaf_counts, ne_eqb n tick_word (λ y. omega arith), lt-ltb n roots (omega arith)) (node_held t s k n o.0)))
+            (few_count (node_process t n) ∙ le-leb _ _ (node_few t s k n o.0))
 
     module _ (e : is_operator w ≡ true) where
       place : next.at ≡ at + 1

@@ -1,5 +1,5 @@
 -- One step from a residual towards its choice.
-use Rattle.std.specs.Prelude.{ℕ, ◌+◌, ◌-◌, ◌<◌, true, cond, ◌≡◌, List, [], ◌++◌, eqb, length, drop, Option, Some, None}
+use Rattle.std.specs.Prelude.{ℕ, ◌+◌, ◌-◌, ◌<◌, true, cond, ◌≡◌, List, [], ◌++◌, eqb, length, drop}
 use Rattle.table.specs.Tables.{Table}
 use Rattle.term.specs.declared.Label.TheVariants.{Ticking}
 use Rattle.term.specs.declared.Mode.{Mode}
@@ -81,8 +81,3 @@ Stepped t T g Ticked = (length (words T) ≡ 1) × Ended (going t T g) Ticking i
 Stepped t T g (Leaf h) = (length (words T) ≡ 1) × Reached t h × (going t T g ≡ chosen_at t h)
 Stepped t T g (Acts h after) = Acting t T g h after
 Stepped t T g (Joins h n after k) = Joining t T g h n after k
-
--- there is a step, and so much is said of it
-abbrev pub SteppedIf : Table → Term → Goal Cursor → Option Step → Type 0
-SteppedIf t T g None = ⊥
-SteppedIf t T g (Some r) = Stepped t T g r

@@ -48,18 +48,13 @@ pub fn measure(roots: usize, counts: &[u32], words: &[u32], from: Cursor) -> Opt
     ensures { Found roots counts.now words.now from.at result }
 {
     let (word, next) = from.read(words)?;
-    let found = if is_operator(word) {
-        let left = measure(roots, counts, words, next)?;
-        let right = measure(roots, counts, words, left.next)?;
-        Measured {
-            counts: combined(word, left.counts, right.counts),
-            next: right.next,
-        }
-    } else {
-        Measured {
-            counts: leaf(roots, counts, word),
-            next,
-        }
-    };
-    few(found.counts).then_some(found)
+    if !is_operator(word) {
+        let counts = leaf(roots, counts, word);
+        return Some(Measured { counts, next });
+    }
+    let left = measure(roots, counts, words, next)?;
+    let right = measure(roots, counts, words, left.next)?;
+    let counts = combined(word, left.counts, right.counts);
+    let next = right.next;
+    few(counts).then_some(Measured { counts, next })
 }

@@ -3,7 +3,7 @@ ghost use Rattle.std.specs.Prelude.{◌≡◌, ◌≤◌};
 ghost use Rattle.term.specs.Terms.{Term};
 ghost use Rattle.accept.specs.Accepted.{accepted_table};
 ghost use Rattle.choice.specs.Turns.{goal_of};
-ghost use Rattle.residual.specs.Steps.{whole_of, beside_of, pick_step, Stands, Stepped, SteppedIf};
+ghost use Rattle.residual.specs.Steps.{whole_of, beside_of, pick_step, Stands, Stepped};
 
 use crate::counting::measure;
 use crate::reading::is_operator;
@@ -61,32 +61,30 @@ fn toward(mode: Mode, left: Cursor, right: Cursor, end: Cursor, pick: Pick) -> S
     }
 }
 
-// Nothing at the end of the words, and nothing where a part has too many derivations.
-fn step_from(accepted: &Accepted, words: &[u32], target: Target) -> Option<Step>
-    ensures { (T : Term) → Stands (accepted_table accepted.now) T target words.now →
-        SteppedIf (accepted_table accepted.now) T target result }
-{
-    let Goal { from, mode, choice } = target;
-    let (word, next) = from.read(words)?;
-    if is_operator(word) {
-        let roots = accepted.fleet.first_root();
-        let left = measure(roots, accepted.counts, words, next)?;
-        let right = measure(roots, accepted.counts, words, left.next)?;
-        let more = beside(word, mode, right.counts);
-        let which = pick(mode, choice, more, left.counts, right.counts);
-        return Some(toward(mode, next, left.next, right.next, which));
-    }
-    if word == term::TICK_WORD {
-        return Some(Step::Ticked);
-    }
-    let goal = Goal::new(word as usize, mode, choice);
-    Some(Step::Leaf { goal })
-}
-
 // Where no term with that choice stands, any step will do.
 pub fn step_at(accepted: &Accepted, words: &[u32], target: Target) -> Step
     ensures { (T : Term) → Stands (accepted_table accepted.now) T target words.now →
         Stepped (accepted_table accepted.now) T target result }
 {
-    step_from(accepted, words, target).unwrap_or(Step::Ticked)
+    let Goal { from, mode, choice } = target;
+    let Some((word, next)) = from.read(words) else {
+        return Step::Ticked;
+    };
+    if is_operator(word) {
+        let roots = accepted.fleet.first_root();
+        let Some(left) = measure(roots, accepted.counts, words, next) else {
+            return Step::Ticked;
+        };
+        let Some(right) = measure(roots, accepted.counts, words, left.next) else {
+            return Step::Ticked;
+        };
+        let more = beside(word, mode, right.counts);
+        let which = pick(mode, choice, more, left.counts, right.counts);
+        return toward(mode, next, left.next, right.next, which);
+    }
+    if word == term::TICK_WORD {
+        return Step::Ticked;
+    }
+    let goal = Goal::new(word as usize, mode, choice);
+    Step::Leaf { goal }
 }
