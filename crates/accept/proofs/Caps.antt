@@ -3,16 +3,13 @@
 use Prim.Native.Nat.{ℕ, ◌+◌, ◌*◌, ◌≤◌, ◌<◌}
 use mathlib.Core.Path.{◌≡◌, refl, sym, ap, ◌∙◌}
 use mathlib.Core.Logic.{⊎_elim}
-use native.Mathlib.Nat.{mul-le-mul, mul-le-mul_right, zero-mul, mul_comm, eq-zero-or-pos}
+use native.Mathlib.Nat.{mul-le-mul_right, zero-mul, mul_comm, eq-zero-or-pos}
 use native.Mathlib.Omega.{arith}
 use Rattle.basis.proofs.Tests.{lt_or_le}
 use Rattle.term.specs.Terms.{Term}
 use Rattle.term.specs.Processes.{Process, idle, tick, act, choice, guarded, call, seq, par}
 use Rattle.term.specs.Choices.{action_count, tick_count}
 use Rattle.accept.specs.Counts.{capped, counts, Capped, choice_counts, seq_counts, par_counts, counts_of}
-
-pub product_bound : {x y : ℕ} → x ≤ 65536 → y ≤ 65536 → x * y ≤ 4294967296
-product_bound h g = mul-le-mul h g
 
 -- a sum and a product may be held before they are made or after
 cap_cap : (x : ℕ) → capped (capped x) ≡ capped x

@@ -1,6 +1,6 @@
 -- Words of nodes: what is stored at a node is there, and the words of the others stay; what that does to the nodes that are counted.
 -- Assumes nothing.
-use Prim.Native.Nat.{ℕ, ◌+◌, ◌*◌, ◌≤◌, ◌<◌}
+use Prim.Native.Nat.{ℕ, ◌+◌, ◌*◌, ◌<◌}
 use mathlib.Core.Bool.{Bool, true, false}
 use mathlib.Core.Path.{◌≡◌, sym, ap, ◌∙◌}
 use mathlib.Core.Logic.{⊎_elim}
@@ -12,8 +12,6 @@ use lib.Seq.{get_or-set_same, get_or-set_other}
 use borrow.Author.Tests.{le-leb, lt-leb}
 use Rattle.basis.proofs.Tests.{not_both, same_or_other}
 use Rattle.table.specs.Tables.{Table, first_root, body_at}
-use Rattle.table.specs.Sound.{Sound}
-use Rattle.term.specs.Acceptance.{scratch_words}
 use Rattle.term.specs.Exposure.{calls_below}
 use Rattle.term.specs.Processes.{process_at}
 use Rattle.accept.specs.Counts.{count_limit, counts_of, Capped}
@@ -112,16 +110,6 @@ pub led_counted : (s : List ℕ) (m n : ℕ) → 2 * m + 1 < length s → is_cou
 led_counted s m n h = lt-leb (get_or (led s m n) (2 * m) 0) count_limit (omega (arith, led_at s m n h))
 
 -- no node is counted yet
-pub held_start : {t : Table} {s : List ℕ} → Sound t → scratch_words t.sizes ≤ length s → ((k : ℕ) → k < first_root t → is_counted s k ≡ false) → Held t 0 s
-held_start sound h f =
-    record {
-      sound = sound;
-      words = h;
-      low = omega arith;
-      lower = λ d l. absurd (omega arith);
-      bodies = λ d l. absurd (omega arith);
-      nodes = λ k l e. absurd (not_both e (f k l));
-    }
 
 module _ {t : Table} {level : ℕ} {s : List ℕ} (held : Held t level s) where
   -- room for a node's pair

@@ -13,7 +13,7 @@ use Rattle.term.specs.Processes.{Process, idle, tick, act, choice, guarded, call
 use Rattle.term.specs.Exposure.{can_tick, calls_below, bad_call}
 use Rattle.term.proofs.Counting.{length_actions, length_ticks}
 use Rattle.term.proofs.Calls.{defined_body, level_same}
-use Rattle.accept.specs.Counts.{counts, counts_of}
+use Rattle.accept.specs.Counts.{counts_of}
 use Rattle.accept.specs.Scratch.{pair_at, is_counted, Settled, Held}
 
 -- processes with the same derivations have the same counts

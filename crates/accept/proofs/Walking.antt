@@ -77,9 +77,6 @@ module _ (t : Table) where
       pub long : length s ≡ length before
 
 module _ {t : Table} {level top : ℕ} where
-  pub walk_start : {s : List ℕ} → Held t level s → top < first_root t → is_counted s top ≡ false → Walk t level top s s top
-  walk_start h l e = record { held = h; inner = l; waits = e; kept = λ k x. x; ways = ([], refl); long = refl }
-
   module _ {before s : List ℕ} {n : ℕ} (w : Walk t level top before s n) where
     abbrev room : 2 * n + 1 < length s
     room = node_room w.held n w.inner

@@ -12,7 +12,7 @@ use Rattle.table.specs.declared.Field.{Field}
 use Rattle.table.specs.declared.Field.TheVariants.{Never, Zero, Process, Guard}
 use Rattle.table.specs.declared.Fields.{Fields}
 use Rattle.table.specs.Tables.{Table, kind_at, p_at, q_at, first_link_root, first_agent_root}
-use Rattle.table.specs.Nodes.{fields, fields_at, root_names, inner, fits, fitting, left_node, right_node, names}
+use Rattle.table.specs.Nodes.{fields, fields_at, root_names, fits, fitting, left_node, right_node, names}
 use Rattle.table.specs.Rules.{Limits, NamesByP, NamesByQ, inners, bodies_end, links_end, Row, Root, Node, Names}
 use Rattle.table.proofs.Promises.{inner_fields, root_fields}
 use Rattle.table.proofs.Rows.{and_iff, or_iff, eqb_iff, left_iff, right_iff, Says, says_iff, says_row, row_says}

@@ -20,7 +20,7 @@ use Rattle.table.specs.declared.Look.{Look}
 use Rattle.table.specs.Tables.{Table, p_at, q_at}
 use Rattle.table.specs.Nodes.{fields_at, is_node, fits, fitting, left_node, right_node, names}
 use Rattle.table.specs.Reach.{process_node, link_root}
-use Rattle.table.specs.Marks.{left_bit, right_bit, process_bit, link_bit, first_word, marking, is_marked, has_marked, changed, Shows, Shown, Mark, TwoMarks, Looked}
+use Rattle.table.specs.Marks.{left_bit, right_bit, process_bit, link_bit, first_word, is_marked, has_marked, changed, Shows, Shown, TwoMarks, Looked}
 use Rattle.table.proofs.Operands.{left_lower, right_lower}
 
 pub length_changed : (change : ℕ → ℕ) (words : List ℕ) (node : Option ℕ) → length (changed change words node) ≡ length words
@@ -34,16 +34,6 @@ marked_if words bit false x = refl
 pub below_if : {n : ℕ} (on : Bool) (x : ℕ) → (on ≡ true → x < n) → IfSome (then_some on x) (λ y. y < n)
 below_if true x h = h refl
 below_if false x h = tt {0}
-
-module _ {process link : Bool} where
-  pub marks_length : {a b : List ℕ} {f g : Option ℕ} {r : Bool} → TwoMarks process link a b f g r → length b ≡ length a
-  marks_length {a} {b} {f} {g} m =
-      let change = marking process link in
-      rw m.leaves (length_changed change (changed change a f) g ∙ length_changed change a f)
-
-  pub marks_both : {a b c : List ℕ} {f g : Option ℕ} {r s : Bool} → Mark process link a b f r → Mark process link b c g s
-      → TwoMarks process link a c f g (r || s)
-  marks_both m k = record { is = rw (m.is, k.is, m.leaves); leaves = rw (k.leaves, m.leaves) }
 
 -- a bit of every word after a change which gives it where d holds
 module _ (change : ℕ → ℕ) (j : ℕ) (d : Bool) (gives : (w : ℕ) → has (change w) j ≡ (d || has w j)) where
@@ -94,9 +84,6 @@ module _ (left right process link : Bool) where
   first_link = simp (has_plus_if, has_nothing) (or-false link)
 
 module _ (t : Table) where
-  pub shown_none : (words : List ℕ) → Shown t words 0
-  shown_none words = record { left = λ m h. absurd (omega arith); right = λ m h. absurd (omega arith); process = λ m h. absurd (omega arith); link = λ m h. absurd (omega arith) }
-
   pub shown_next : (words : List ℕ) (i : ℕ) {w : ℕ} → i < length words → Shown t words i
       → w ≡ first_word (left_node t i) (right_node t i) (process_node t i) (link_root t i) → Shown t (set words i w) (i + 1)
   shown_next words i l s d =

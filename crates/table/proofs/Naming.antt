@@ -59,9 +59,6 @@ module _ (t : Table) where
   pub record Turned (words : List ℕ) (i : ℕ) : Type 0 where
     pub names : Shows words named_bit i (named t i)
 
-  pub turned_none : (words : List ℕ) → Turned words 0
-  turned_none words = record { names = λ m h. absurd (omega arith) }
-
   -- a turn: node i's word is written, and what it names is marked
   module _ {words after : List ℕ} {i : ℕ} {r : Bool} (w : ℕ) (before : Turned words i) (fine : (k : ℕ) → k < i → bad_node t k ≡ false) (inside : i < length words)
       (good : fitting t i ≡ true) (d : has w named_bit ≡ false)

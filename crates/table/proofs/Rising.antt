@@ -32,9 +32,6 @@ module _ (t : Table) where
     pub clean : doubt ≡ false → (m : ℕ) → m < i → start m ≡ true → is_marked words bit m ≡ false
 
   module _ (bit : ℕ) (start test : ℕ → Bool) where
-    pub told_none : (words : List ℕ) (doubt : Bool) → Told words bit start test 0 doubt
-    told_none words doubt = record { here = λ m h. absurd (omega arith); up = λ m k h. absurd (omega arith); clean = λ e m h. absurd (omega arith) }
-
     -- node i is told, and the others keep the bit
     module _ (words after : List ℕ) {i : ℕ} {doubt more : Bool} (before : Told words bit start test i doubt)
         (good : (k : ℕ) → k < i + 1 → fitting t k ≡ true) (same : (k : ℕ) → k < i → is_marked after bit k ≡ is_marked words bit k)
@@ -165,9 +162,6 @@ module _ (t : Table) where
   pub record Informed (words : List ℕ) (i : ℕ) (doubt : Bool) : Type 0 where
     pub process : Told t words not_process_bit (process_node t) not_process i doubt
     pub link : Told t words not_link_bit (link_root t) not_link i doubt
-
-  pub informed_none : (words : List ℕ) (doubt : Bool) → Informed words 0 doubt
-  informed_none words doubt = record { process = told_none t _ _ _ words doubt; link = told_none t _ _ _ words doubt }
 
   -- what node i has from those that it names
   abbrev pub raised_at : List ℕ → ℕ → ℕ → Bool → Bool

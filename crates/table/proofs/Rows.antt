@@ -2,7 +2,7 @@
 -- Assumes nothing.
 use Prim.Native.Nat.{ℕ, ◌+◌, ◌-◌, ◌<◌, ◌≤◌}
 use mathlib.Core.Bool.{Bool, true, false, cond, not, ◌&&◌, ◌||◌}
-use mathlib.Core.Path.{◌≡◌, refl, sym, subst, ◌∙◌}
+use mathlib.Core.Path.{◌≡◌, refl, sym, subst}
 use mathlib.Core.Logic.{◌↔◌, ◌⊎◌, inl, inr, ⊎_elim}
 use mathlib.Core.List.{List, [], ◌∷◌}
 use native.Mathlib.Omega.{arith}
@@ -14,7 +14,7 @@ use Rattle.basis.proofs.Tests.{not_both, and_left, and_right, and_both, or_eithe
 use Rattle.table.specs.declared.Field.{Field}
 use Rattle.table.specs.declared.Field.TheVariants.{Never, Zero, Attribute, Stigmergy, Environment, Party, Definition, Process, Guard, Expression, Value}
 use Rattle.table.specs.declared.Fields.{Fields}
-use Rattle.table.specs.Tables.{Table, kind_at, p_at, q_at}
+use Rattle.table.specs.Tables.{Table, kind_at}
 use Rattle.table.specs.Nodes.{row, process_rows, guard_rows, expression_rows, row_of, fields_of, fields_at, is_node, is_process, is_guard, is_expression, fits, fitting}
 use Rattle.table.specs.Nodes as nodes
 use Rattle.table.specs.Rules.{NamesByP, NamesByQ, IsProcess, IsGuard, IsExpression, Row}

@@ -1,12 +1,11 @@
 -- The descending pass: nodes hand on to those that they name what reaches them.
 -- Assumes nothing.
-use Prim.Native.Nat.{ℕ, suc, ◌+◌, ◌<◌, ◌≤◌}
-use mathlib.Core.Bool.{Bool, true, false, cond, ◌&&◌, ◌||◌}
-use mathlib.Core.Path.{◌≡◌, refl, sym, ◌∙◌}
-use mathlib.Core.Logic.{◌⊎◌, inl, inr, ⊎_elim}
+use Prim.Native.Nat.{ℕ, ◌+◌, ◌<◌, ◌≤◌}
+use mathlib.Core.Bool.{Bool, true, false, ◌&&◌, ◌||◌}
+use mathlib.Core.Path.{◌≡◌, sym, ◌∙◌}
+use mathlib.Core.Logic.{⊎_elim}
 use mathlib.Core.List.{List}
 use native.Mathlib.Omega.{arith}
-use native.Mathlib.Numerals.{add-one}
 use lib.ListN.{length}
 use Rattle.std.specs.Prelude.{Option, Some, None}
 use Rattle.std.specs.Bool.{then_some}
@@ -115,13 +114,6 @@ LowestFrom test n i (Some x) = (x < n) × (test x ≡ true) × ((k : ℕ) → i 
 module _ (test : ℕ → Bool) (n : ℕ) where
   pub from_first : LowestFrom test n n None
   from_first k h g = absurd (omega arith)
-
-  pub from_here : (i : ℕ) → i < n → test i ≡ true → LowestFrom test n i (Some i)
-  from_here i h e = (h, e, λ k g l. absurd (omega arith))
-
-  pub from_lower : (i : ℕ) (o : Option ℕ) → test i ≡ false → LowestFrom test n (i + 1) o → LowestFrom test n i o
-  from_lower i None e f = λ k h g. ⊎_elim (λ (u : k ≡ i). rw u e) (λ (u : k ≡ i → ⊥). f k (omega (arith, u)) g) (same_or_other k i)
-  from_lower i (Some x) e f = (f.0, f.1, λ k h g. ⊎_elim (λ (u : k ≡ i). rw u e) (λ (u : k ≡ i → ⊥). f.2 k (omega (arith, u)) g) (same_or_other k i))
 
   pub from_all : (o : Option ℕ) → LowestFrom test n 0 o → LowestOf test n o
   from_all None f = λ k h. f k (omega arith) h

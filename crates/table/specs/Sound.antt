@@ -1,5 +1,5 @@
 -- What checks 1 to 5 leave of a table: sizes within limits, lists of the right lengths, no bad node, no wrong key.
-use Rattle.std.specs.Prelude.{ℕ, ◌*◌, ◌<◌, ◌≤◌, ◌≡◌, ◌↔◌, true, false, length}
+use Rattle.std.specs.Prelude.{ℕ, ◌*◌, ◌<◌, ◌≡◌, ◌↔◌, true, false, length}
 use Rattle.table.specs.Tables.{Table, within_limits, kind_at}
 use Rattle.table.specs.Rules.{Bad, Wrong}
 pub use Rattle.table.specs.Rules.{Limits}

@@ -1,9 +1,9 @@
 -- Numbers of 32 bits and their two's complement words: which numbers fit, and what a checked operation gives.
 -- Assumes nothing.
-use Prim.Native.Nat.{ℕ, zero, suc, ◌^◌, ◌<◌}
+use Prim.Native.Nat.{zero, suc, ◌^◌, ◌<◌}
 use mathlib.Core.Bool.{Bool, true, false, cond, and-true}
 use mathlib.Core.Logic.{◌↔◌}
-use mathlib.Core.Path.{◌≡◌, refl, sym, ap, ◌∙◌}
+use mathlib.Core.Path.{◌≡◌, refl, sym, ◌∙◌}
 use native.Mathlib.Omega.{arith}
 use lib.Dec.{leb}
 use lib.IntN.{ℤ, pos, negsuc}
@@ -15,7 +15,6 @@ use borrow.Author.Tests.{le-leb, leb-true}
 use Rattle.std.specs.Prelude.{Option, None, Some, option_map}
 use Rattle.std.specs.Option.{SomeIff}
 use Rattle.std.specs.Int.{CanDivide}
-use Rattle.basis.proofs.Tests.{not_both}
 use Rattle.value.specs.Values.{in_range, fit, is_zero}
 
 -- the range is one bound: `mag z` is n both for n and for -(n + 1)

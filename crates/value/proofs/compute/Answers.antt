@@ -5,7 +5,6 @@ use lib.IntN.{ℤ}
 use mathlib.Core.Path.{◌≡◌, sym}
 use Rattle.std.specs.Prelude.{None}
 use Rattle.std.proofs.Common.{rules}
-use native.Mathlib.Omega.{arith}
 use mir.Facts.{to_z-of_z}
 use borrow.Author.Tests.{ne_eqb}
 use Rattle.value.proofs.Words.{checked, divided, zero_bits, nonzero}
@@ -29,9 +28,6 @@ returns-in-Ok-Times c = rw (named_is Times c.in-Ok-Times.field-0-is c.in-Ok-Time
 pub returns-in-Ok-Divide : goal.returns-in-Ok-Divide
 returns-in-Ok-Divide c =
     rw (named_is Divide c.in-Ok-Divide.field-0-is c.in-Ok-Divide.ensures) (divided c.checked_div.result c.args.x c.args.y c.ranges.y (rw (to_z-of_z c.ranges.x, to_z-of_z c.ranges.y) at c.checked_div.ensures))
-
-pub floored_remainder-requires : goal.floored_remainder-requires
-floored_remainder-requires c = rw (to_z-of_z c.ranges.y) (nonzero c.args.y c.if-y-ne0.true)
 
 pub returns-in-Ok-Remainder : goal.returns-in-Ok-Remainder
 returns-in-Ok-Remainder c =

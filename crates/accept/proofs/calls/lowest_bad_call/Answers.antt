@@ -1,8 +1,8 @@
 -- `accept::calls::lowest_bad_call` meets its contract.
 -- Assumes nothing.
-use Prim.Native.Nat.{◌+◌, ◌<◌}
+use Prim.Native.Nat.{◌<◌}
 use mathlib.Core.Bool.{true, not}
-use mathlib.Core.Path.{◌≡◌, sym, ap, subst, ◌∙◌}
+use mathlib.Core.Path.{◌≡◌, sym, ap, subst}
 use native.Mathlib.Omega.{arith}
 use Rattle.basis.proofs.Numbers.{lowest_at}
 use Rattle.table.specs.Tables.{first_root}

@@ -1,23 +1,11 @@
 -- `accept::calls::settle` meets its contract: a walk down to a node that can be counted, and back up; `left` falls.
 -- Assumes nothing.
-use mathlib.Core.Path.{◌≡◌, refl, sym, subst, ◌∙◌}
 use native.Mathlib.Omega.{arith}
 use borrow.Author.Tests.{leb-false}
-use Rattle.basis.proofs.Tests.{not_both}
-use Rattle.table.specs.Tables.{Table}
-use Rattle.table.specs.Fleets.{table_in}
-use Rattle.accept.specs.Calls.{Visits}
-use Rattle.accept.specs.declared.Visit.{Visit}
-use Rattle.accept.specs.declared.Visit.TheVariants.{High}
 use Rattle.accept.proofs.Caps.{counts_small}
 use Rattle.accept.proofs.Cells.{node_room}
-use Rattle.accept.proofs.Walking.{walk_start, walk_done, walk_back, back_less, walk_down, down_less, walk_high}
+use Rattle.accept.proofs.Walking.{walk_done, walk_back, back_less, walk_down, down_less, walk_high}
 use Rattle.accept.proofs.calls.settle.Goals as goal
-
-pub leads_to-before-requires : goal.leads_to-before-requires
-leads_to-before-requires c =
-    let w = c.loop-c.invariant in
-    (node_room w.held _ w.inner, leb-false _ 65536 w.waits)
 
 pub store-requires : goal.store-requires
 store-requires c =
@@ -41,14 +29,6 @@ loop-c-preserved-in-Done c =
     let v = c.in-Done.ensures in
     rw c.store.ensures
     (walk_back c.loop-c.invariant v c.if-n-top.false c.leads_to-before.ensures)
-
-pub lead-requires : goal.lead-requires
-lead-requires c =
-    let w = c.loop-c.invariant in
-    let v = c.in-Part.ensures in
-    let h = v.0 in
-    let i = w.inner in
-    (node_room w.held _ (omega arith), omega (arith, w.held.sound.shaped.limits.nodes))
 
 pub loop-c-smaller : goal.loop-c-smaller
 loop-c-smaller c =

@@ -1,19 +1,16 @@
 -- `accept::nodes::visit` meets its contract.
 -- Assumes nothing.
-use Prim.Native.Nat.{ℕ, ◌+◌, ◌*◌, ◌≤◌, ◌<◌}
-use mathlib.Core.Bool.{true}
+use Prim.Native.Nat.{ℕ, ◌≤◌, ◌<◌}
 use mathlib.Core.Path.{◌≡◌, refl, sym, ap, ◌∙◌}
 use native.Mathlib.Omega.{arith}
 use Rattle.std.proofs.Common.{rules}
 use Rattle.basis.specs.NodeKinds.{number_of}
 use Rattle.basis.specs.declared.node_kinds.NodeKind.{NodeKind}
 use Rattle.basis.specs.declared.node_kinds.NodeKind.TheVariants.{Tick, SetAttribute, SetStigmergy, SetEnvironment, Sequence, Choice, Guarded, Parallel, Call}
-use lib.ListN.{length}
 use Rattle.table.specs.Tables.{kind_at, first_root}
 use Rattle.table.specs.Fleets.{table_in}
 use Rattle.table.proofs.Promises.{call_operands, body_process}
-use Rattle.accept.specs.Scratch.{pair_at, is_counted}
-use Rattle.accept.specs.Calls.{pair_visit, Visits}
+use Rattle.accept.specs.Scratch.{is_counted}
 use Rattle.accept.proofs.Cells.{node_room, held_small}
 use Rattle.accept.proofs.Visiting.{lower_nodes, tick_found, act_found, none_found, joined_found, guarded_found, guarded_part, call_found, high_found}
 use Rattle.accept.proofs.nodes.visit.Goals as goal

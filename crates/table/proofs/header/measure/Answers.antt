@@ -1,10 +1,7 @@
 -- `table::header::measure` meets its contract.
 -- Assumes nothing.
 use native.Mathlib.Omega.{arith}
-use mathlib.Core.Bool.{true}
-use mathlib.Core.Path.{◌≡◌, sym, subst, ◌∙◌}
-use Rattle.table.specs.Tables.{within_limits}
-use Rattle.table.specs.Sound.{Shaped}
+use mathlib.Core.Path.{sym, ◌∙◌}
 use Rattle.table.proofs.Limits.{lent_table, lent_shape}
 use Rattle.table.proofs.Measuring.{measure_1, measure_2, measure_3, measure_fine}
 use Rattle.table.proofs.header.measure.Goals as goal

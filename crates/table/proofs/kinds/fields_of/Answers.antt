@@ -1,6 +1,6 @@
 -- `fields_of` meets its contract: a byte that names no kind has no row.
 -- Assumes nothing.
-use Rattle.std.proofs.Common.{◌≡◌, ℕ, Bool, true, false, cond, refl, sym, ap, ◌∙◌}
+use Rattle.std.proofs.Common.{◌≡◌, ℕ, Bool, true, false, cond, refl, sym}
 use borrow.Author.Tests.{ne_eqb}
 use lib.Dec.{ltb}
 use Rattle.basis.specs.NodeKinds.{number_of}
@@ -8,7 +8,7 @@ use Rattle.basis.specs.declared.node_kinds.NodeKind.{NodeKind}
 use Rattle.basis.specs.declared.node_kinds.NodeKind.TheVariants.{Idle, Tick, SetAttribute, SetStigmergy, SetEnvironment, Sequence, Choice, Guarded, Parallel, Call, True, Equal, Less, Greater, Not, And, Or, Constant, Attribute, Stigmergy, Environment, Plus, Minus, Times, Divide, Remainder}
 use Rattle.table.specs.declared.Field.TheVariants.{Never}
 use Rattle.table.specs.declared.Fields.{Fields}
-use Rattle.table.specs.Nodes.{fields, fields_of, row_of, process_rows, guard_rows, expression_rows}
+use Rattle.table.specs.Nodes.{fields, row_of, process_rows, guard_rows, expression_rows}
 use Rattle.table.proofs.kinds.fields_of.Goals as goal
 
 module _ (k : ℕ) (none : (j : NodeKind) → number_of j ≡ k → ⊥) where

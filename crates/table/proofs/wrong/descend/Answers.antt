@@ -37,19 +37,6 @@ visit-requires c =
       above = subst (Above t l.scratch) e l.invariant.above;
     }
 
-pub loop-node-preserved : goal.loop-node-preserved
-loop-node-preserved c =
-    let t = table_in c.args.fleet.now in
-    let l = c.loop-node in
-    let v = c.visit.ensures in
-    let e : l.node ≡ l.node - 1 + 1 = omega arith in
-    record {
-      above = v.above;
-      lowest =
-          from_lower (wrong_key t) t.sizes.nodes (l.node - 1) l.lowest (sym v.is ∙ c.if-visit.false)
-          (subst (λ i. LowestFrom (wrong_key t) t.sizes.nodes i l.lowest) e l.invariant.lowest);
-    }
-
 pub returns : goal.returns
 returns c =
     let t = table_in c.args.fleet.now in
