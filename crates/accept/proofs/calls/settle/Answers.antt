@@ -1,7 +1,5 @@
 -- `accept::calls::settle` meets its contract: a walk down to a node that can be counted, and back up; `left` falls.
 -- Assumes nothing.
-use native.Mathlib.Omega.{arith}
-use borrow.Author.Tests.{leb-false}
 use Rattle.accept.proofs.Caps.{counts_small}
 use Rattle.accept.proofs.Cells.{node_room}
 use Rattle.accept.proofs.Walking.{walk_done, walk_back, back_less, walk_down, down_less, walk_high}

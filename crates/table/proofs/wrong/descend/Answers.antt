@@ -3,13 +3,13 @@
 use Prim.Native.Nat.{ℕ, ◌<◌, ◌+◌, ◌-◌}
 use native.Mathlib.Omega.{arith}
 use mathlib.Core.Bool.{true}
-use mathlib.Core.Path.{◌≡◌, sym, subst, ◌∙◌}
+use mathlib.Core.Path.{◌≡◌, subst}
 use Rattle.table.specs.Fleets.{table_in}
 use Rattle.table.specs.Nodes.{fitting}
 use Rattle.table.specs.Reach.{wrong_key}
 use Rattle.table.specs.Marks.{Above}
 use Rattle.table.proofs.Promises.{not_bad}
-use Rattle.table.proofs.Spreading.{above_first, LowestFrom, from_first, from_lower, from_all}
+use Rattle.table.proofs.Spreading.{above_first, LowestFrom, from_first, from_all}
 use Rattle.table.proofs.wrong.descend.Goals as goal
 use Rattle.table.proofs.wrong.descend.Goals.{Start}
 
