@@ -1,144 +1,120 @@
 -- What is found of a step, by its checks, and what is then answered.
 -- Assumes nothing.
-use Prim.Native.Nat.{ℕ, ◌<◌}
-use mathlib.Core.Bool.{Bool, true, false, not, cond}
-use mathlib.Core.Path.{◌≡◌, refl, sym, ap, subst, ◌∙◌}
-use mathlib.Core.Logic.{◌⊎◌, ⊎_elim}
-use mathlib.Core.List.{List, [], ◌∷◌}
-use lib.ListN.{get_or}
+use Rattle.std.proofs.Common.{ℕ, ◌<◌, Bool, true, false, not, cond, ◌≡◌, refl, sym, ap, subst, ◌∙◌, List, [], ◌∷◌, Result, Ok, Err, get_or}
+use Rattle.std.specs.Prelude.{MatchResult, IsOkAnd}
 use Rattle.basis.specs.KeySets.{has}
-use Rattle.basis.proofs.Tests.{not_both}
-use Rattle.table.specs.Checks.{Check, passes, refuses, refuse_if, first_of}
+use Rattle.table.specs.declared.refusals.Refused.{Refused}
+use Rattle.table.specs.declared.refusals.Refused.TheVariants.{StepOutOfRange, KeyNotInSet}
+use Rattle.table.specs.Checks.{Check, passes, refuses, refuse_if, first_of, number_of, place_of}
 use Rattle.table.specs.Tables.{Table}
+use Rattle.table.specs.Refusals.{check_of}
 use Rattle.table.proofs.Checks.{first_refuses, first_later, first_both, none_passes}
-use Rattle.term.specs.declared.Label.{Label}
+use Rattle.table.proofs.Refusing.{refuses_so}
 use Rattle.state.specs.Layout.{zc_at, zp_at}
 use Rattle.state.specs.WellFormed.{Proper}
 use Rattle.steps.specs.Acts.{act_checks, chosen, acted}
 use Rattle.steps.specs.declared.Tally.{Tally}
 use Rattle.steps.specs.Tallies.{no_tally}
-use Rattle.steps.specs.Offers.{offer_tally, sent}
-use Rattle.steps.specs.Steps.{Outcome, done, refused, outcome, out_of_range, own_checks, tally_of, after, step_in}
+use Rattle.steps.specs.Steps.{Outcome, refused, outcome, out_of_range, own_checks, tally_of, after, step_in}
 use Rattle.steps.proofs.Steps.{outcome_done, outcome_refused}
-use Rattle.judging.specs.declared.Judgement.TheVariants.{Refused as ActRefused, Allowed}
+use Rattle.judging.specs.declared.Allowed.{Allowed}
 use Rattle.judging.specs.Judging.{Judges}
-use Rattle.offering.specs.Passing.{Passing, Passed}
-use Rattle.machine.specs.declared.Judged.{Judged}
-use Rattle.machine.specs.declared.Judged.TheVariants.{Refused, Act, Offer}
-use Rattle.machine.specs.declared.Stepped.{Stepped}
-use Rattle.machine.specs.declared.Stepped.TheVariants.{Done as StepDone, Refused as StepRefused}
+use Rattle.offering.specs.Passing.{Passing}
+use Rattle.machine.specs.declared.checking.Planned.{Planned}
+use Rattle.machine.specs.declared.checking.Planned.TheVariants.{Act, Offer}
+use Rattle.machine.specs.declared.requests.Kind.{Kind}
+use Rattle.machine.specs.declared.requests.Request.{Request}
 use Rattle.machine.specs.Answers.{Steps}
-use Rattle.machine.specs.Stepping.{own_step, into, offer_kind, judged_offer, is_allowed, finished, Finishing, StepJudged}
+use Rattle.machine.specs.Requests.{byte_of, InRange, step_asked}
+use Rattle.machine.specs.Stepping.{own_step, stopped, into, offer_kind, judged_offer, finished, Finishes, StepJudged}
 
--- an outcome that is another
-pub steps_as : {o p : Outcome} → p ≡ o → {r : Stepped} {u : List ℕ} → Steps o r u → Steps p r u
-steps_as e {r} {u} s = subst (λ (o : Outcome). Steps o r u) (sym e) s
+-- REFUSED
+pub refused_so : (e : Refused) (was : List ℕ) → refused (number_of (check_of e)) (place_of (check_of e)) was ≡ stopped e was
+refused_so e was = ap (λ (c : Check). record { check = c; tally = no_tally; state = was }) (sym (refuses_so e))
 
--- an outcome that is known
-steps_done : {o : Outcome} {tally n : Tally} {s u : List ℕ} → o ≡ done tally s → n ≡ tally → u ≡ s → Steps o (StepDone n) u
-steps_done d e f = record { check = sym (ap (λ (o : Outcome). o.check) d); tally = e ∙ sym (ap (λ (o : Outcome). o.tally) d); state = f ∙ sym (ap (λ (o : Outcome). o.state) d) }
-
-pub steps_refused : {o : Outcome} {number place : ℕ} {was u : List ℕ} → o ≡ refused number place was → u ≡ was → Steps o (StepRefused number place) u
-steps_refused d f = record { check = sym (ap (λ (o : Outcome). o.check) d); tally = sym (ap (λ (o : Outcome). o.tally) d); state = f ∙ sym (ap (λ (o : Outcome). o.state) d) }
+pub outcome_stopped : (was : List ℕ) (tally : Tally) (s : List ℕ) (c : Check) (e : Refused) → c ≡ check_of e → outcome c was tally s ≡ stopped e was
+outcome_stopped was tally s c e h = outcome_refused was tally s c (h ∙ refuses_so e) ∙ refused_so e was
 
 -- JUDGED
-module _ (t : Table) (was : List ℕ) where
-  module _ (x c : ℕ) where
-    pub act_refused : {number : ℕ} → Judges t was x c (ActRefused number) → StepJudged t was x c (own_step t was 0 x c) (Refused number)
-    act_refused j = record { is = outcome_refused was no_tally (acted t was x (chosen t was x c)) (first_of (act_checks t was x c)) j; asked = tt }
+module _ (t : Table) (was : List ℕ) (q : Request) where
+  abbrev own : ℕ → Outcome
+  own kind = own_step t was kind q.agent q.number
 
-    pub act_allowed : Proper t was → x < t.sizes.agents → {label : Label} {value keys : ℕ} → Judges t was x c (Allowed label value keys)
-        → StepJudged t was x c (own_step t was 0 x c) (Act label value keys)
-    act_allowed p l j = record { is = outcome_done was no_tally (acted t was x (chosen t was x c)) (first_of (act_checks t was x c)) j.0; asked = (p, l, j) }
+  pub act_judged : Proper t was → q.agent < t.sizes.agents → (r : Result Allowed Refused) → Judges t was q.agent q.number r
+      → (s : Result Planned Refused) → MatchResult r (λ a. IsOkAnd s (λ p. p ≡ Act a)) (λ e. s ≡ Err e) → StepJudged t was q (own 0) s
+  act_judged proper there (Ok a) j (Ok p) e =
+      rw e (outcome_done was no_tally (acted t was q.agent (chosen t was q.agent q.number)) (first_of (act_checks t was q.agent q.number)) j.0, (proper, there, j))
+  act_judged proper there (Ok a) j (Err d) e = absurd e
+  act_judged proper there (Err d) j s e =
+      rw e (outcome_stopped was no_tally (acted t was q.agent (chosen t was q.agent q.number)) (first_of (act_checks t was q.agent q.number)) d j)
 
-  module _ (x k : ℕ) (confirming : Bool) where
-    abbrev kind : ℕ
-    kind = offer_kind confirming
-
+  module _ (confirming : Bool) where
     abbrev waits : Bool
-    waits = has (get_or was (cond confirming (zc_at x) (zp_at x)) 0) k
+    waits = has (get_or was (cond confirming (zc_at q.agent) (zp_at q.agent)) 0) q.number
 
-    offer_own : own_step t was kind x k ≡ outcome (first_of (refuse_if 18 (not waits) ∷ [])) was (tally_of t was kind x k) (after t was kind x k)
+    offer_own : own (offer_kind confirming)
+        ≡ outcome (first_of (refuse_if 18 (not waits) ∷ [])) was (tally_of t was (offer_kind confirming) q.agent q.number) (after t was (offer_kind confirming) q.agent q.number)
     offer_own = by confirming
       where
-        by : (b : Bool) → own_step t was (offer_kind b) x k
-            ≡ outcome (first_of (refuse_if 18 (not (has (get_or was (cond b (zc_at x) (zp_at x)) 0) k)) ∷ [])) was (tally_of t was (offer_kind b) x k) (after t was (offer_kind b) x k)
+        by : (b : Bool) → own (offer_kind b)
+            ≡ outcome (first_of (refuse_if 18 (not (has (get_or was (cond b (zc_at q.agent) (zp_at q.agent)) 0) q.number)) ∷ [])) was
+            (tally_of t was (offer_kind b) q.agent q.number) (after t was (offer_kind b) q.agent q.number)
         by true = refl
         by false = refl
 
-    pub offer_judged : Passing t was x k → StepJudged t was x k (own_step t was kind x k) (judged_offer was x k confirming)
-    offer_judged p = by waits refl
+    pub offer_judged : Passing t was q.agent q.number → {s : Result Planned Refused} → s ≡ judged_offer was q.agent q.number confirming → StepJudged t was q (own (offer_kind confirming)) s
+    offer_judged p e = rw e (by waits refl)
       where
-        by : (b : Bool) → waits ≡ b → StepJudged t was x k (own_step t was kind x k) (cond b (Offer confirming) (Refused 18))
-        by true h = record { is = offer_own ∙ outcome_done was _ _ _ (first_both (refuse_if 18 (not waits)) [] (ap not h) none_passes); asked = p }
-        by false h = record { is = offer_own ∙ outcome_refused was _ _ _ (first_refuses (refuse_if 18 (not waits)) [] (ap not h)); asked = tt }
+        by : (b : Bool) → waits ≡ b → StepJudged t was q (own (offer_kind confirming)) (cond b (Ok (Offer confirming)) (Err KeyNotInSet))
+        by true h = (offer_own ∙ outcome_done was _ _ _ (first_both (refuse_if 18 (not waits)) [] (ap not h) none_passes), p)
+        by false h = offer_own ∙ outcome_stopped was _ _ _ KeyNotInSet (first_refuses (refuse_if 18 (not waits)) [] (ap not h))
 
-  module _ (kind x number : ℕ) where
-    pub step_out : out_of_range t kind x number ≡ true → StepJudged t was x number (step_in t was kind x number) (Refused 10)
-    unfolding step_in
-    step_out e =
-        record {
-          is = outcome_refused was (tally_of t was kind x number) (after t was kind x number) (first_of (refuse_if 10 (out_of_range t kind x number) ∷ own_checks t was kind x number))
-              (first_refuses (refuse_if 10 (out_of_range t kind x number)) (own_checks t was kind x number) e);
-          asked = tt;
-        }
+  -- by 10, and then as its kind is
+  abbrev out : Bool
+  out = out_of_range t q.kind q.agent q.number
 
-    pub step_own : out_of_range t kind x number ≡ false → step_in t was kind x number ≡ own_step t was kind x number
-    unfolding step_in
-    step_own e =
-        ap (λ c. outcome c was (tally_of t was kind x number) (after t was kind x number))
-        (first_later (refuse_if 10 (out_of_range t kind x number)) (own_checks t was kind x number) e)
+  pub step_out : out ≡ true → StepJudged t was q (step_asked t was q) (Err StepOutOfRange)
+  unfolding step_in
+  step_out e =
+      outcome_stopped was (tally_of t was q.kind q.agent q.number) (after t was q.kind q.agent q.number) _ StepOutOfRange
+      (first_refuses (refuse_if 10 out) (own_checks t was q.kind q.agent q.number) e)
 
--- FINISHED
-module _ (t : Table) (s : List ℕ) (x number : ℕ) {r : Judged} where
-  pub finish_refused : {refusal : ℕ} → r ≡ Refused refusal → Steps (finished t s x number r) (StepRefused refusal 0) s
-  finish_refused e = steps_refused (ap (finished t s x number) e) refl
+  own_kind : (kind : Kind) → InRange t q (Ok kind) → step_asked t was q ≡ own (byte_of kind)
+  unfolding step_in
+  own_kind kind r =
+      ap (λ c. outcome c was (tally_of t was q.kind q.agent q.number) (after t was q.kind q.agent q.number))
+      (first_later (refuse_if 10 out) (own_checks t was q.kind q.agent q.number) r.0)
+      ∙ ap own (sym r.1)
 
-  pub finish_act : {label : Label} {value keys : ℕ} → r ≡ Act label value keys → {n : Tally} {u : List ℕ} → n ≡ no_tally → u ≡ acted t s x (chosen t s x number)
-      → Steps (finished t s x number r) (StepDone n) u
-  finish_act e f g = steps_done (ap (finished t s x number) e) f g
+  pub step_own : (kind : Kind) → InRange t q (Ok kind) → (s : Result Planned Refused) → StepJudged t was q (own (byte_of kind)) s → StepJudged t was q (step_asked t was q) s
+  step_own kind r s j = subst (λ (o : Outcome). StepJudged t was q o s) (sym (own_kind kind r)) j
 
-  pub finish_offer : {confirming : Bool} → r ≡ Offer confirming → {n : Tally} {u : List ℕ}
-      → Passed (offer_tally t s x number true t.sizes.agents) (sent t s x number true confirming t.sizes.agents) n u
-      → Steps (finished t s x number r) (StepDone n) u
-  finish_offer {confirming} e p = steps_done (ap (finished t s x number) e ∙ by confirming) p.answer p.state
-    where
-      by : (b : Bool) → finished t s x number (Offer b) ≡ done (offer_tally t s x number true t.sizes.agents) (sent t s x number true b t.sizes.agents)
-      by true = refl
-      by false = refl
+-- DONE, on the state that was judged or on a copy of it
+finished_passes : (t : Table) (s : List ℕ) (q : Request) (p : Planned) → (finished t s q p).check ≡ passes
+finished_passes t s q (Act allowed) = refl
+finished_passes t s q (Offer confirming) = refl
+
+pub steps_finished : (t : Table) (s : List ℕ) (q : Request) (p : Planned) {o : Outcome} → o ≡ finished t s q p
+    → {n : Tally} {u : List ℕ} → Finishes t s q p n u → Steps o (Ok n) u
+steps_finished t s q p e f = rw e (record { check = sym (finished_passes t s q p); tally = f.tally; state = f.state })
+
+pub into_finished : (t : Table) (s came : List ℕ) (q : Request) (p : Planned) {o : Outcome} → o ≡ finished t s q p → into came o ≡ finished t s q p
+unfolding outcome
+into_finished t s came q p e = rw (e, outcome_done came (finished t s q p).tally (finished t s q p).state _ (finished_passes t s q p)) (by p)
+  where
+    by : (p : Planned) → record { check = passes; tally = (finished t s q p).tally; state = (finished t s q p).state } ≡ finished t s q p
+    by (Act allowed) = refl
+    by (Offer confirming) = refl
+
+-- REFUSED, nothing is written
+pub steps_stopped : {o : Outcome} (e : Refused) (was : List ℕ) → o ≡ stopped e was → Steps o (Err e) was
+steps_stopped e was h = rw h (record { check = refl; tally = refl; state = refl })
+
+pub into_stopped : (e : Refused) (was came : List ℕ) {o : Outcome} → o ≡ stopped e was → into came o ≡ stopped e came
+into_stopped e was came h = rw h (outcome_stopped came no_tally was (check_of e) e refl)
 
 -- INTO A SECOND BUFFER goes what is into the first, by the same check
 pub into_outcome : (next was : List ℕ) (tally : Tally) (s : List ℕ) (c : Check) → into next (outcome c was tally s) ≡ outcome c next tally s
 unfolding outcome
 into_outcome next was tally s passes = refl
 into_outcome next was tally s (refuses number place) = refl
-
--- PREVIEWED: what is judged on one state is finished in a second buffer, which is a copy of it where the step is allowed and as it came where not
-abbrev pub Copied : Judged → List ℕ → List ℕ → List ℕ → Type 0
-Copied r was came next = ((is_allowed r ≡ true) × (next ≡ was)) ⊎ ((is_allowed r ≡ false) × (next ≡ came))
-
-module _ (t : Table) (was came : List ℕ) (x number : ℕ) where
-  refused_asked : (s : List ℕ) (r : Judged) → is_allowed r ≡ false → Finishing t s x number r
-  refused_asked s (Refused refusal) e = tt
-  refused_asked s (Act label value keys) e = absurd (not_both refl e)
-  refused_asked s (Offer confirming) e = absurd (not_both refl e)
-
-  pub copied_asked : (r : Judged) {next : List ℕ} → Copied r was came next → Finishing t was x number r → Finishing t next x number r
-  copied_asked r {next} c p =
-      ⊎_elim (λ (w : (is_allowed r ≡ true) × (next ≡ was)). subst (λ (s : List ℕ). Finishing t s x number r) (sym w.1) p)
-      (λ (w : (is_allowed r ≡ false) × (next ≡ came)). refused_asked next r w.0) c
-
-  allowed_into : (r : Judged) → is_allowed r ≡ true → into came (finished t was x number r) ≡ finished t was x number r
-  allowed_into (Refused refusal) e = absurd (not_both e refl)
-  allowed_into (Act label value keys) e = outcome_done came no_tally (after t was 0 x number) passes refl
-  allowed_into (Offer confirming) e = outcome_done came (tally_of t was (offer_kind confirming) x number) (after t was (offer_kind confirming) x number) passes refl
-
-  refused_into : (r : Judged) → is_allowed r ≡ false → into came (finished t was x number r) ≡ finished t came x number r
-  refused_into (Refused refusal) e = outcome_refused came no_tally was (refuses refusal 0) refl
-  refused_into (Act label value keys) e = absurd (not_both refl e)
-  refused_into (Offer confirming) e = absurd (not_both refl e)
-
-  pub copied_finished : (r : Judged) {next : List ℕ} → Copied r was came next → into came (finished t was x number r) ≡ finished t next x number r
-  copied_finished r {next} c =
-      ⊎_elim (λ (w : (is_allowed r ≡ true) × (next ≡ was)). allowed_into r w.0 ∙ ap (λ (s : List ℕ). finished t s x number r) (sym w.1))
-      (λ (w : (is_allowed r ≡ false) × (next ≡ came)). refused_into r w.0 ∙ ap (λ (s : List ℕ). finished t s x number r) (sym w.1)) c

@@ -2,7 +2,8 @@
 -- Assumes nothing.
 use Prim.Native.Nat.{ℕ, ◌+◌, ◌*◌, ◌<◌, ◌≤◌}
 use mathlib.Core.Bool.{Bool, true, false, not, ◌||◌}
-use mathlib.Core.Path.{◌≡◌, ap, ◌∙◌}
+use mathlib.Core.Logic.{◌⊎◌, ⊎_elim}
+use mathlib.Core.Path.{◌≡◌, ap, subst, ◌∙◌}
 use mathlib.Core.List.{List, [], ◌∷◌}
 use native.Mathlib.Omega.{arith}
 use lib.Dec.{eqb, ltb}
@@ -13,6 +14,7 @@ use Rattle.table.specs.Checks.{passes, refuses, refuse_if, first_of}
 use Rattle.table.proofs.Checks.{first_refuses, first_later}
 use Rattle.steps.specs.Runs.{step_limit, steps_of, schedule_checks}
 use Rattle.steps.proofs.Schedules.{schedule_checks_lem}
+use Rattle.machine.specs.Whole.{Whole}
 
 module _ (schedule answers : List ℕ) where
   abbrev n : ℕ
@@ -39,6 +41,9 @@ module _ (schedule answers : List ℕ) where
   pub schedule_long : step_limit < n → first_of (schedule_checks schedule answers) ≡ refuses 19 0
   schedule_long h = refused_19 (or_right (ltb (length schedule) 2) (odd || long) (or_right odd long (lt-ltb step_limit n h)))
 
+  pub schedule_wrong : (length schedule < 2) ⊎ ((length schedule ≡ 2 + 5 * n → ⊥) ⊎ (step_limit < n)) → first_of (schedule_checks schedule answers) ≡ refuses 19 0
+  schedule_wrong h = ⊎_elim schedule_short (λ g. ⊎_elim schedule_odd schedule_long g) h
+
   module _ (size : length schedule ≡ 2 + 5 * n) (few : n ≤ step_limit) where
     right : wrong ≡ false
     right = rw (le-ltb (length schedule) 2 (omega arith), eq-eqb (length schedule) (2 + 5 * n) size, le-ltb step_limit n few)
@@ -51,3 +56,7 @@ module _ (schedule answers : List ℕ) where
 
     pub schedule_passes : n ≤ length answers → first_of (schedule_checks schedule answers) ≡ passes
     schedule_passes h = (schedule_checks_lem schedule answers).1 (size, few, h)
+
+-- of the bytes that code has measured
+pub whole_is : (bytes : List ℕ) (n : ℕ) → Whole bytes n → Whole bytes (steps_of bytes)
+whole_is bytes n w = subst (λ (m : ℕ). Whole bytes m) w.is w

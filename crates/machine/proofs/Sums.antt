@@ -1,8 +1,7 @@
 -- The totals of a run.
 -- Assumes nothing.
-use Prim.Native.Nat.{ℕ, zero, suc, ◌+◌, ◌≤◌}
+use Prim.Native.Nat.{ℕ, zero, suc, ◌≤◌}
 use mathlib.Core.Bool.{true}
-use mathlib.Core.Path.{◌≡◌, sym, ap, ◌∙◌}
 use mathlib.Core.List.{List}
 use native.Mathlib.Omega.{arith}
 use Rattle.basis.specs.Numbers.{for_each}
@@ -12,30 +11,14 @@ use Rattle.table.specs.Tables.{Table, agent_limit}
 use Rattle.state.specs.declared.Insertion.{Insertion}
 use Rattle.state.specs.Entries.{is_add, is_update}
 use Rattle.steps.specs.declared.Tally.{Tally}
-use Rattle.steps.specs.Tallies.{tally, no_tally, add_tally}
+use Rattle.steps.specs.Tallies.{no_tally, add_tally}
 use Rattle.steps.specs.Offers.{inserts}
 use Rattle.steps.specs.Steps.{Outcome, outcome, tally_of, after, step_checks, step_in}
 use Rattle.steps.specs.Runs.{Progress, begun, added, ran, kind_in, agent_in, number_in}
 use Rattle.offering.specs.Passing.{TallyWithin}
-use Rattle.machine.specs.declared.Stepped.{Stepped}
-use Rattle.machine.specs.declared.Stepped.TheVariants.{Done, Refused}
 use Rattle.machine.specs.declared.Totals.{Totals}
-use Rattle.machine.specs.Answers.{totals, totals_of}
-use Rattle.machine.specs.Running.{tallied, TotalsWithin}
-
--- the totals with one more step, as code makes them
-module _ (c : Totals) {r : Stepped} where
-  pub added_done : {t u : Tally} → r ≡ Done t → u ≡ add_tally c.tally t → totals (c.done + 1) c.refused u ≡ tallied c r
-  added_done e g =
-      let f : c.refused ≡ c.refused + 0 = omega arith in
-      (λ i. totals (c.done + 1) (f i) (g i)) ∙ sym (ap (λ (a : Stepped). tallied c a) e)
-
-  pub added_refused : {number place : ℕ} → r ≡ Refused number place → totals c.done (c.refused + 1) c.tally ≡ tallied c r
-  added_refused e =
-      let f : c.done ≡ c.done + 0 = omega arith in
-      let a : c.tally.added ≡ c.tally.added + 0 = omega arith in
-      let b : c.tally.replaced ≡ c.tally.replaced + 0 = omega arith in
-      (λ i. totals (f i) (c.refused + 1) (tally (a i) (b i))) ∙ sym (ap (λ (a : Stepped). tallied c a) e)
+use Rattle.machine.specs.Answers.{totals_of}
+use Rattle.machine.specs.Running.{TotalsWithin}
 
 -- WHAT IS REPORTED IS SMALL, with one step more
 added_within : (n i : ℕ) (p : Progress) (o : Outcome) → TotalsWithin n (totals_of p) → TallyWithin 1 o.tally → TotalsWithin (suc n) (totals_of (added i p o))

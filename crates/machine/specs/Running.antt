@@ -1,5 +1,5 @@
 -- A schedule that may be run, and the totals of its steps.
-use Rattle.std.specs.Prelude.{ℕ, ◌+◌, ◌*◌, ◌<◌, ◌≤◌, cond, ◌≡◌, ◌⊎◌, List, length, Result, Ok, Err}
+use Rattle.std.specs.Prelude.{ℕ, ◌+◌, ◌*◌, ◌<◌, ◌≤◌, cond, ◌≡◌, ◌⊎◌, List, length, get_or, Result, Ok, Err}
 use Rattle.table.specs.Checks.{passes, first_of, passed}
 use Rattle.table.specs.declared.refusals.Refused.{Refused}
 use Rattle.table.specs.declared.refusals.Refused.TheVariants.{ScheduleLength}
@@ -13,6 +13,10 @@ use Rattle.machine.specs.declared.requests.Request.{Request}
 use Rattle.machine.specs.declared.Totals.{Totals}
 use Rattle.machine.specs.Answers.{step_tally, totals}
 use Rattle.machine.specs.Requests.{request}
+
+-- bytes, as a slice of them holds
+abbrev pub IsNarrow : List ℕ → Type 0
+IsNarrow bytes = (i : ℕ) → get_or bytes i 0 < 256
 
 -- 19, of a schedule's bytes
 abbrev pub Measures : List ℕ → Result Schedule Refused → Type 0

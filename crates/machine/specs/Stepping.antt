@@ -1,7 +1,7 @@
 -- A step of an accepted table and a well-formed state: what is found of it, and what is then done.
-use Rattle.std.specs.Prelude.{ℕ, ◌<◌, Bool, true, false, cond, ◌≡◌, List, get_or, Result, Ok, Err}
+use Rattle.std.specs.Prelude.{ℕ, ◌<◌, Bool, cond, ◌≡◌, List, get_or, Result, Ok, Err}
 use Rattle.basis.specs.KeySets.{has}
-use Rattle.table.specs.Checks.{Check, first_of}
+use Rattle.table.specs.Checks.{first_of}
 use Rattle.table.specs.Tables.{Table}
 use Rattle.table.specs.declared.refusals.Refused.{Refused}
 use Rattle.table.specs.declared.refusals.Refused.TheVariants.{KeyNotInSet}
@@ -20,6 +20,10 @@ use Rattle.machine.specs.declared.requests.Request.{Request}
 -- what a step that is in range comes to
 abbrev pub own_step : Table → List ℕ → ℕ → ℕ → ℕ → Outcome
 own_step t was kind x number = outcome (first_of (own_checks t was kind x number)) was (tally_of t was kind x number) (after t was kind x number)
+
+-- what a step that is refused comes to
+abbrev pub stopped : Refused → List ℕ → Outcome
+stopped e s = record { check = check_of e; tally = no_tally; state = s }
 
 -- what a step comes to, with the state after in a buffer that came as `next`
 abbrev pub into : List ℕ → Outcome → Outcome
@@ -51,4 +55,4 @@ pub record Finishes (t : Table) (s : List ℕ) (q : Request) (p : Planned) (coun
 -- the judgement of a step that comes to o
 abbrev pub StepJudged : Table → List ℕ → Request → Outcome → Result Planned Refused → Type 0
 StepJudged t was q o (Ok p) = (o ≡ finished t was q p) × Finishing t was q p
-StepJudged t was q o (Err e) = o ≡ record { check = check_of e; tally = no_tally; state = was }
+StepJudged t was q o (Err e) = o ≡ stopped e was

@@ -99,5 +99,5 @@ pub fn run(
         fleet,
         counts: scratch,
     };
-    Ok(run_steps(&accepted, state, schedule, answers))
+    Ok(run_steps(&accepted, state, &schedule, answers))
 }

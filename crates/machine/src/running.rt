@@ -1,10 +1,10 @@
 // A schedule: refusals 19 and 20, and its steps in turn.
-ghost use Rattle.std.specs.Prelude.{◌≡◌};
+ghost use Rattle.std.specs.Prelude.{◌≡◌, ◌≤◌, length};
 ghost use Rattle.accept.specs.Accepted.{accepted_table};
 ghost use Rattle.state.specs.WellFormed.{Proper};
 ghost use Rattle.steps.specs.Runs.{begun, ran};
 ghost use Rattle.machine.specs.Answers.{Reports};
-ghost use Rattle.machine.specs.Running.{Schedules, Runnable, CanTally, tallied};
+ghost use Rattle.machine.specs.Running.{IsNarrow, Schedules, CanTally, tallied};
 
 use crate::Totals;
 use crate::schedule::Schedule;
@@ -48,12 +48,14 @@ impl Totals {
 pub fn run_steps(
     accepted: &Accepted,
     state: &mut [u32],
-    schedule: Schedule,
+    schedule: &Schedule,
     answers: &mut [u8],
 ) -> Totals
     requires proper { Proper (accepted_table accepted.now) state.old }
-    requires runnable { Runnable schedule answers.old }
-    ensures { Reports (ran (accepted_table accepted.now) schedule.bytes.now schedule.steps (begun state.old answers.old))
+    requires bytes { IsNarrow (accepted_table accepted.now).operands }
+    requires room { schedule.now.steps ≤ length answers.old }
+    ensures { let s = schedule.now in Reports
+        (ran (accepted_table accepted.now) s.bytes.now s.steps (begun state.old answers.old))
         result state.new answers.new }
 {
     let mut totals = Totals::default();
