@@ -28,6 +28,7 @@ use Rattle.term.proofs.Exposed.{node_calls}
 use Rattle.accept.specs.declared.Counts.{Counts}
 use Rattle.accept.specs.Counts.{Capped, true_counts}
 use Rattle.accept.specs.Scratch.{pair_at}
+use Rattle.accept.specs.Prepared.{Prepared}
 use Rattle.choice.specs.declared.Goal.{Goal}
 use Rattle.choice.specs.declared.Pick.{Pick}
 use Rattle.choice.specs.declared.Pick.TheVariants.{LeftActs, RightActs, LeftTicks, RightTicks}
@@ -38,7 +39,7 @@ use Rattle.choice.specs.declared.Turn.{Turn}
 use Rattle.choice.specs.declared.Turn.TheVariants.{End, On}
 use Rattle.choice.specs.Chosen.{chosen_in}
 use Rattle.choice.specs.Picks.{acting_of, total_of, pick_of}
-use Rattle.choice.specs.Turns.{goal_of, pick_turn, choice_turn, Prepared, exposure, chosen_at, ahead, Reached, Nearer, side_guards, SideReached, Around, Ended, Onward, Turned}
+use Rattle.choice.specs.Turns.{goal_of, pick_turn, choice_turn, exposure, chosen_at, ahead, Reached, Nearer, side_guards, SideReached, Around, Ended, Onward, Turned}
 use Rattle.choice.proofs.Chosen.{no_idle, chosen_tick, chosen_act, chosen_guarded, chosen_choice_left, chosen_choice_right, chosen_same, count_same}
 use Rattle.choice.proofs.Picking.{acting_true, total_true, SeqPicked, ParPicked, seq_picked, par_picked}
 

@@ -9,7 +9,6 @@ use Rattle.term.specs.Processes.{Process, idle, tick, act, choice, guarded, call
 use Rattle.term.specs.Accepted.{GuardNode}
 use Rattle.term.specs.Choices.{count_in}
 use Rattle.term.specs.Exposure.{can_tick}
-pub use Rattle.accept.specs.Prepared.{Prepared}
 use Rattle.choice.specs.declared.Pick.{Pick}
 use Rattle.choice.specs.declared.Pick.TheVariants.{LeftActs, RightActs, LeftTicks, RightTicks}
 use Rattle.choice.specs.declared.Goal.{Goal}

@@ -15,7 +15,7 @@ use Rattle.term.specs.Processes.{Derivation, process, derivation_at}
 use Rattle.term.proofs.Counting.{length_derivations}
 use Rattle.term.proofs.Words.{whole_read}
 use Rattle.choice.specs.Picks.{total_of}
-use Rattle.choice.specs.Turns.{Prepared}
+use Rattle.accept.specs.Prepared.{Prepared}
 use Rattle.choice.specs.Marking.{WalkMarks}
 use Rattle.choice.proofs.Chosen.{chosen_any}
 use Rattle.choice.proofs.Collecting.{marked_none}

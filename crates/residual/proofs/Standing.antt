@@ -9,7 +9,7 @@ use lib.Seq.{take-append_seam}
 use Rattle.table.specs.Tables.{Table, first_root}
 use Rattle.term.specs.Terms.{Term, words}
 use Rattle.term.proofs.Words.{words_some}
-use Rattle.choice.specs.Turns.{Prepared}
+use Rattle.accept.specs.Prepared.{Prepared}
 use Rattle.choice.specs.declared.Goal.{Goal}
 use Rattle.residual.specs.declared.Cursor.{Cursor}
 use Rattle.residual.specs.Measures.{Pairs}
