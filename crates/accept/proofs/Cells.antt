@@ -2,7 +2,7 @@
 -- Assumes nothing.
 use Prim.Native.Nat.{ℕ, ◌+◌, ◌*◌, ◌<◌}
 use mathlib.Core.Bool.{Bool, true, false}
-use mathlib.Core.Path.{◌≡◌, sym, ap, ◌∙◌}
+use mathlib.Core.Path.{◌≡◌, refl, sym, ap, ◌∙◌}
 use mathlib.Core.Logic.{⊎_elim}
 use mathlib.Core.List.{List}
 use native.Mathlib.Omega.{arith}
@@ -10,6 +10,8 @@ use lib.Dec.{leb}
 use lib.ListN.{length, get_or, set, length-set}
 use lib.Seq.{get_or-set_same, get_or-set_other}
 use borrow.Author.Tests.{le-leb, lt-leb}
+use Rattle.std.specs.Prelude.{Some, None}
+use Rattle.std.specs.Bool.{then_some}
 use Rattle.basis.proofs.Tests.{not_both, same_or_other}
 use Rattle.table.specs.Tables.{Table, first_root, body_at}
 use Rattle.term.specs.Exposure.{calls_below}
@@ -60,6 +62,15 @@ led_other s m n k d = λ i. record { actions = a i; ticks = t i }
 
     t : get_or (led s m n) (2 * k + 1) 0 ≡ get_or s (2 * k + 1) 0
     t = get_or-set_other s (2 * m) (2 * k + 1) (back n) 0 (λ e. omega arith)
+
+-- what is found of a node's counts, where it is counted and where not
+pub found_there : (b : Bool) {x c : Counts} → Some c ≡ then_some b x → (b ≡ true) × (c ≡ x)
+found_there true e = (refl, cc)
+found_there false e = absurd (cc)
+
+pub not_found : (b : Bool) (x : Counts) → None ≡ then_some b x → b ≡ false
+not_found true x e = absurd (cc)
+not_found false x e = refl
 
 -- whether a node is counted, by its pair
 abbrev pub is_counts : Counts → Bool

@@ -8,7 +8,7 @@ ghost use Rattle.accept.specs.Scratch.{is_counted, Held};
 ghost use Rattle.accept.specs.Calls.{Settles, CallsJudged, CountsAt, NodesJudged};
 
 use crate::nodes::visit;
-use crate::words::{discard, is_counted, lead, leads_to, pair, store};
+use crate::words::{counted, discard, is_counted, lead, leads_to, store};
 use crate::{Counts, Visit};
 use table::{Fleet, Refused};
 
@@ -94,8 +94,8 @@ fn count_at(fleet: &Fleet, scratch: &mut [u32], n: usize) -> Counts
     requires by_index { (k : ℕ) → k < n → is_counted scratch.old k ≡ true }
     ensures { CountsAt (table_in fleet.now) n scratch.old scratch.new result }
 {
-    if is_counted(scratch, n) {
-        return pair(scratch, n);
+    if let Some(c) = counted(scratch, n) {
+        return c;
     }
     let Visit::Done(c) = visit(fleet, scratch, fleet.sizes.definitions, n) else {
         unreachable!()

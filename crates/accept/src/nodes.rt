@@ -10,7 +10,7 @@ ghost use Rattle.accept.specs.Calls.{pair_visit, Visits};
 
 use crate::Visit;
 use crate::sums::{ACTION, NONE, TICK, joined};
-use crate::words::{is_counted, pair};
+use crate::words::{counted, pair};
 use basis::NodeKind;
 use table::Fleet;
 
@@ -22,17 +22,15 @@ fn visit_pair(scratch: &[u32], kind: NodeKind, p: usize, q: usize) -> Visit
     requires capped_2 { is_counted scratch.now q ≡ true → Capped (pair_at scratch.now q) }
     ensures { result ≡ pair_visit scratch.now (number_of kind) p q }
 {
-    if !is_counted(scratch, p) {
+    let Some(left) = counted(scratch, p) else {
         return Visit::Part(p);
-    }
-    let left = pair(scratch, p);
-    if (kind == NodeKind::Sequence) & (left.ticks == 0) {
+    };
+    if kind == NodeKind::Sequence && left.ticks == 0 {
         return Visit::Done(left);
     }
-    if !is_counted(scratch, q) {
+    let Some(right) = counted(scratch, q) else {
         return Visit::Part(q);
-    }
-    let right = pair(scratch, q);
+    };
     Visit::Done(joined(kind, left, right))
 }
 
@@ -52,8 +50,10 @@ pub fn visit(fleet: &Fleet, scratch: &[u32], level: usize, n: usize) -> Visit
         Ok(kind @ (NodeKind::Sequence | NodeKind::Choice | NodeKind::Parallel)) => {
             visit_pair(scratch, kind, p, q)
         }
-        Ok(NodeKind::Guarded) if is_counted(scratch, q) => Visit::Done(pair(scratch, q)),
-        Ok(NodeKind::Guarded) => Visit::Part(q),
+        Ok(NodeKind::Guarded) => match counted(scratch, q) {
+            Some(c) => Visit::Done(c),
+            None => Visit::Part(q),
+        },
         Ok(NodeKind::Call) if p < level => Visit::Done(pair(scratch, fleet.body_at(p))),
         Ok(NodeKind::Call) => Visit::High,
         _ => Visit::Done(NONE),

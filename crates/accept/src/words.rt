@@ -1,6 +1,7 @@
 // A node's words: its actions at word 2n and its ticks at word 2n + 1. Where it is not counted, word 2n is above 65,536
 // and leads back to a node.
 ghost use Rattle.std.specs.Prelude.{false, ◌≡◌, ℕ, ◌+◌, ◌*◌, ◌≤◌, ◌<◌, length, get_or};
+ghost use Rattle.std.specs.Bool.{then_some};
 ghost use Rattle.table.specs.Sound.{Limits};
 ghost use Rattle.term.specs.Acceptance.{scratch_words};
 ghost use Rattle.accept.specs.Counts.{count_limit, Capped};
@@ -41,6 +42,14 @@ pub fn is_counted(scratch: &[u32], n: usize) -> bool
     ensures { result ≡ is_counted scratch.now n }
 {
     scratch[2 * n] <= COUNT_LIMIT
+}
+
+// The counts of node n, if it is counted.
+pub fn counted(scratch: &[u32], n: usize) -> Option<Counts>
+    requires { 2 * n + 1 < length scratch.now }
+    ensures { result ≡ then_some (is_counted scratch.now n) (pair_at scratch.now n) }
+{
+    is_counted(scratch, n).then(|| pair(scratch, n))
 }
 
 // Node m, which is not counted, leads back to node n.

@@ -28,7 +28,7 @@ const NOT_PROCESS: usize = 5;
 const NOT_LINK: usize = 6;
 
 // The last two as a set: they rise to a node from those that it names.
-const RISING: u32 = 96;
+const RISING: u32 = 1 << NOT_PROCESS | 1 << NOT_LINK;
 
 impl Reached {
     pub const NOT: Reached = Reached {
@@ -95,7 +95,7 @@ pub fn starts(fleet: &Fleet, node: usize) -> Reached
 pub fn is_doubted(by: Reached, word: u32) -> bool
     ensures { result ≡ doubted by.process by.link word }
 {
-    (by.process & has(word, NOT_PROCESS)) | (by.link & has(word, NOT_LINK))
+    by.process && has(word, NOT_PROCESS) || by.link && has(word, NOT_LINK)
 }
 
 // The word of a node before anything is handed on: whether p and q are nodes, whether it is a process node, a link's

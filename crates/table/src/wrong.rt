@@ -29,8 +29,7 @@ pub fn is_key(kind: u8) -> bool
 pub fn wrong_here(kind: u8, party: usize, by: Reached) -> bool
     ensures { result ≡ wrong_here kind party by.process by.link }
 {
-    is_key(kind)
-        & ((by.process & (party != 0)) | (by.link & ((kind == ENVIRONMENT) | (party == 0))))
+    is_key(kind) && (by.process && party != 0 || by.link && (kind == ENVIRONMENT || party == 0))
 }
 
 // Hands on what reaches a node, and says whether it is wrong.

@@ -6,7 +6,7 @@ use Rattle.accept.proofs.Fullness.{is_done, count_small, count_more}
 use Rattle.accept.proofs.calls.count_at.Goals as goal
 
 pub unreachable-requires : goal.unreachable-requires
-unreachable-requires c = is_done c.requires.held c.args.n c.requires.by_index c.visit.result c.visit.ensures c.in_default.not-Done
+unreachable-requires c = is_done c.requires.held c.args.n c.requires.by_index c.visit.result c.visit.ensures c.in_default-visit.not-Done
 
 pub store-requires : goal.store-requires
 store-requires c =

@@ -11,7 +11,7 @@ use Rattle.table.specs.Tables.{kind_at, first_root}
 use Rattle.table.specs.Fleets.{table_in}
 use Rattle.table.proofs.Promises.{call_operands, body_process}
 use Rattle.accept.specs.Scratch.{is_counted}
-use Rattle.accept.proofs.Cells.{node_room, held_small}
+use Rattle.accept.proofs.Cells.{found_there, not_found, node_room, held_small}
 use Rattle.accept.proofs.Visiting.{lower_nodes, tick_found, act_found, none_found, joined_found, guarded_found, guarded_part, call_found, high_found}
 use Rattle.accept.proofs.nodes.visit.Goals as goal
 use Rattle.accept.proofs.nodes.visit.Goals.{After-node_kind}
@@ -33,18 +33,13 @@ lower c a b =
     let w = lower_nodes c.requires.held l _ refl a b in
     (omega arith, omega arith)
 
-pub is_counted-requires : goal.is_counted-requires
-is_counted-requires c =
+pub counted-requires : goal.counted-requires
+counted-requires c =
     let e = rw c.in-Ok-Guarded.field-0-is at c.in-Ok-Guarded.ensures in
-    node_room c.requires.held _ (lower (goal.at.is_counted-requires c).After-node_kind (omega arith) (omega arith)).1
+    node_room c.requires.held _ (lower (goal.at.counted-requires c).After-node_kind (omega arith) (omega arith)).1
 
 pub pair-requires : goal.pair-requires
 pair-requires c =
-    let e = rw c.in-Ok-Guarded.field-0-is at c.in-Ok-Guarded.ensures in
-    node_room c.requires.held _ (lower (goal.at.pair-requires c).After-node_kind (omega arith) (omega arith)).1
-
-pub pair-requires-in-Ok-Call : goal.pair-requires-in-Ok-Call
-pair-requires-in-Ok-Call c =
     let t = table_in c.args.fleet.now in
     let h = c.requires.held in
     let e = c.body_at.ensures in
@@ -76,22 +71,23 @@ returns-in-Ok-SetAttribute c =
     let b : k ≤ 4 = search rules in
     act_found c.requires.held c.requires.n_bound a b
 
-pub returns-in-Ok-Guarded : goal.returns-in-Ok-Guarded
-returns-in-Ok-Guarded c =
+pub returns-in-Some : goal.returns-in-Some
+returns-in-Some c =
     let e = c.q_at-q.ensures.is in
-    rw (c.pair.ensures, e) (guarded_found c.requires.held c.requires.n_bound (sym (rw c.in-Ok-Guarded.field-0-is at c.in-Ok-Guarded.ensures))
-    (ap (is_counted c.args.scratch.now) (sym e) ∙ sym c.is_counted.ensures ∙ c.if-is_counted.true))
+    let w = found_there (is_counted c.args.scratch.now c.q_at-q.result) c.in-Some.ensures in
+    rw (w.1, e) (guarded_found c.requires.held c.requires.n_bound (sym (rw c.in-Ok-Guarded.field-0-is at c.in-Ok-Guarded.ensures))
+    (ap (is_counted c.args.scratch.now) (sym e) ∙ w.0))
 
-pub returns-in-Ok-Guarded-2 : goal.returns-in-Ok-Guarded-2
-returns-in-Ok-Guarded-2 c =
+pub returns-in-None : goal.returns-in-None
+returns-in-None c =
     let e = c.q_at-q.ensures.is in
     rw e (guarded_part c.requires.held c.requires.n_bound (sym (rw c.in-Ok-Guarded.field-0-is at c.in-Ok-Guarded.ensures))
-    (ap (is_counted c.args.scratch.now) (sym e) ∙ sym c.is_counted.ensures ∙ c.if-is_counted.false))
+    (ap (is_counted c.args.scratch.now) (sym e) ∙ not_found (is_counted c.args.scratch.now c.q_at-q.result) _ c.in-None.ensures))
 
 pub returns-in-Ok-Call : goal.returns-in-Ok-Call
 returns-in-Ok-Call c =
     let f = c.p_at-p.ensures.is in
-    rw (c.pair-in-Ok-Call.ensures, c.body_at.ensures, f) (call_found c.requires.held c.requires.n_bound (sym (rw c.in-Ok-Call.field-0-is at c.in-Ok-Call.ensures)) (omega arith))
+    rw (c.pair.ensures, c.body_at.ensures, f) (call_found c.requires.held c.requires.n_bound (sym (rw c.in-Ok-Call.field-0-is at c.in-Ok-Call.ensures)) (omega arith))
 
 pub returns-in-Ok-Call-2 : goal.returns-in-Ok-Call-2
 returns-in-Ok-Call-2 c =
