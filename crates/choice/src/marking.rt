@@ -3,7 +3,8 @@ ghost use Rattle.std.specs.Prelude.{◌≡◌, ◌-◌, ◌*◌, ◌%◌, ◌<�
 ghost use Rattle.accept.specs.Accepted.{accepted_table};
 ghost use Rattle.choice.specs.Turns.{chosen_at, side_guards, Reached, Sided};
 ghost use Rattle.choice.specs.Outcomes.{most, Walked};
-ghost use Rattle.choice.specs.Marking.{only_tick, has_mark, WithMark, marked_guard, zeros_after, Next, WalkMarks, Marked};
+ghost use Rattle.choice.specs.Marking.{only_tick, has_mark, WithMark, zeros_after, marked_guard, Next};
+ghost use Rattle.choice.specs.Marking.{WalkMarks, Marked};
 
 use crate::turns::turn_at;
 use crate::{Effect, Goal, Side, Turn};

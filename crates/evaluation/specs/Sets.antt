@@ -22,5 +22,5 @@ Connects kind a b r =
     (agents : ℕ) (f g : ℕ → Truth) → Found agents f a → Found agents g b → Found agents (λ (y : ℕ). connect kind (f y) (g y)) r
 
 -- an agent of the set w is taken, and v is left; nobody is where nobody is in it
-abbrev pub TakesLowest : ℕ → Option ℕ → ℕ → Type 0
-TakesLowest w r v = MatchOption r (w ≡ 0) (λ y. (y < 32) × (has w y ≡ true) × (v ≡ minus w y))
+abbrev pub TakesOne : ℕ → Option ℕ → ℕ → Type 0
+TakesOne w r v = MatchOption r (w ≡ 0) (λ y. (y < 32) × (has w y ≡ true) × (v ≡ minus w y))

@@ -1,6 +1,6 @@
 // The agents of a set, one by one.
 ghost use Rattle.std.specs.Iterator.{at_most};
-ghost use Rattle.evaluation.specs.Sets.{TakesLowest};
+ghost use Rattle.evaluation.specs.Sets.{TakesOne};
 
 // The agents that are left, the lowest first.
 #[derive(Clone, Copy)]
@@ -9,7 +9,7 @@ pub struct Members(pub u32);
 impl Iterator for Members {
     type Item = usize;
 
-    ghost next_gives = { λ s r t. TakesLowest s.0 r t.0 };
+    ghost next_gives = { λ s r t. TakesOne s.0 r t.0 };
 
     ghost remaining = { λ s. at_most s.0 };
 

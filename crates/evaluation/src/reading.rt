@@ -26,7 +26,8 @@ fn own_key(fleet: &Fleet, node: usize, keys: u32) -> u32
     }
 }
 
-// The set with the keys that a node below the limit reads.
+// The set with the keys that a node below the limit reads: its own, then those of its parts. An `if` for each part, since
+// a loop over two options would first have to make them.
 fn keys_below(fleet: &Fleet, limit: usize, node: usize, keys: u32) -> u32
     requires { limit ≤ fleet.now.sizes.nodes }
     ensures { Adds (reads_below (table_in fleet.now) limit node) keys result }

@@ -71,9 +71,10 @@ pub fn rewrite(accepted: &Accepted, words: &mut [u32], size: usize, c: u64) -> u
     requires size_in_bounds { size ≤ length words.old }
     requires whole { Whole (accepted_table accepted.now) (take size words.old) }
     requires taking { Taking (accepted_table accepted.now) (residual_term (take size words.old)) c }
-    requires c_in_bounds { length (words_of (derivation_at (process (accepted_table accepted.now) (residual_term (take size words.old))) c).leaving) ≤ length words.old }
-    ensures { let t = accepted_table accepted.now in
-        Rewritten (words_of (derivation_at (process t (residual_term (take size words.old))) c).leaving)
+    requires c_in_bounds { let T = residual_term (take size words.old) in
+        length (words_of (derivation_at (process (accepted_table accepted.now) T) c).leaving) ≤ length words.old }
+    ensures { let T = residual_term (take size words.old) in
+        Rewritten (words_of (derivation_at (process (accepted_table accepted.now) T) c).leaving)
         words.old result words.new }
 {
     let at = words.len() - size;

@@ -61,7 +61,8 @@ fn toward(mode: Mode, left: Cursor, right: Cursor, end: Cursor, pick: Pick) -> S
     }
 }
 
-// Where no term with that choice stands, any step will do.
+// Where no term with that choice stands, any step will do. No `?`: a step in an Option is copied out of it, and an act
+// took longer.
 pub fn step_at(accepted: &Accepted, words: &[u32], target: Target) -> Step
     ensures { (T : Term) → Stands (accepted_table accepted.now) T target words.now →
         Stepped (accepted_table accepted.now) T target result }

@@ -16,9 +16,10 @@ pub fn place(accepted: &Accepted, words: &mut [u32], at: usize, c: u64) -> Gap
     requires at_in_bounds { at ≤ length words.old }
     requires whole { Whole (accepted_table accepted.now) (drop at words.old) }
     requires taking { Taking (accepted_table accepted.now) (residual_term (drop at words.old)) c }
-    requires c_in_bounds { length (words_of (derivation_at (process (accepted_table accepted.now) (residual_term (drop at words.old))) c).leaving) ≤ length words.old }
-    ensures { let t = accepted_table accepted.now in
-        Placed (words_of (derivation_at (process t (residual_term (drop at words.old))) c).leaving)
+    requires c_in_bounds { let T = residual_term (drop at words.old) in
+        length (words_of (derivation_at (process (accepted_table accepted.now) T) c).leaving) ≤ length words.old }
+    ensures { let T = residual_term (drop at words.old) in
+        Placed (words_of (derivation_at (process (accepted_table accepted.now) T) c).leaving)
         (length words.old) result words.new }
 {
     let mut front: usize = 0;

@@ -32,7 +32,7 @@ pub fn put(state: &mut [u32], store: Store, key: usize, value: u32, mark: u32)
     state[mark_at(store, key)] = mark;
 }
 
-// The set of keys at a place gets a key.
+// The set of keys at a place gets a key. This and the next are one line each: a closure for the change would be longer.
 #[tactic(auto, unfolding(crate::specs::Layout::add_key))]
 pub fn add_key(state: &mut [u32], at: usize, key: usize)
     requires { (at < length state.old) × (key < 32) }
