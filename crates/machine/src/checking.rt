@@ -21,31 +21,26 @@ pub enum Planned {
 }
 
 // 18.
-fn judge_offer(
-    state: &[u32],
-    agent: usize,
-    key: usize,
-    confirming: bool,
-) -> Result<Planned, Refused>
-    requires { HasBlocks state.now × Pair (Entries agent) key }
-    ensures { result ≡ judged_offer state.now agent key confirming }
+fn judge_offer(state: &[u32], request: Request, confirming: bool) -> Result<Planned, Refused>
+    requires { HasBlocks state.now × Pair (Entries request.agent) request.number }
+    ensures { result ≡ judged_offer state.now request.agent request.number confirming }
 {
-    if basis::has(state[pending_at(agent, confirming)], key) {
+    let keys = state[pending_at(request.agent, confirming)];
+    if basis::has(keys, request.number) {
         Ok(Planned::Offer { confirming })
     } else {
         Err(Refused::KeyNotInSet)
     }
 }
 
+// 10 to 18.
 pub fn judge_step(accepted: &Accepted, state: &[u32], request: Request) -> Result<Planned, Refused>
     requires { Proper (accepted_table accepted.now) state.now }
     ensures { let t = accepted_table accepted.now in StepJudged t state.now request (step_asked t state.now request) result }
 {
-    let agent = request.agent;
-    let number = request.number;
     match request.kind_in(&accepted.fleet)? {
-        Kind::Act => judge(accepted, state, agent, number as u64).map(Planned::Act),
-        Kind::Propagate => judge_offer(state, agent, number, false),
-        Kind::Confirm => judge_offer(state, agent, number, true),
+        Kind::Act => judge(accepted, state, request.agent, request.number as u64).map(Planned::Act),
+        Kind::Propagate => judge_offer(state, request, false),
+        Kind::Confirm => judge_offer(state, request, true),
     }
 }

@@ -59,9 +59,9 @@ pub fn run_steps(
         result state.new answers.new }
 {
     let mut totals = Totals::default();
-    for i in 0..schedule.steps {
+    for (i, answer) in answers[..schedule.steps].iter_mut().enumerate() {
         let stepped = step_in(accepted, state, schedule.request_at(i));
-        answers[i] = stepped.map_or_else(|refusal| refusal.number(), |_| 0);
+        *answer = stepped.map_or_else(|refusal| refusal.number(), |_| 0);
         totals = totals.with(stepped);
     }
     totals

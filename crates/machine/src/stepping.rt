@@ -41,18 +41,18 @@ pub fn step_in(accepted: &Accepted, state: &mut [u32], request: Request) -> Resu
     Ok(finish(accepted, state, request, planned))
 }
 
-// The step is judged on the first state; the second buffer is written only where it is done.
+// The step is judged on a first state; the second one is written only where it is done.
 pub fn preview_in(
     accepted: &Accepted,
-    state: &[u32],
+    first: &[u32],
     request: Request,
-    next: &mut [u32],
+    second: &mut [u32],
 ) -> Result<Tally, Refused>
-    requires proper { Proper (accepted_table accepted.now) state.now }
-    requires state_len { length state.now ≡ length next.old }
-    ensures { Steps (into next.old (step_asked (accepted_table accepted.now) state.now request)) result next.new }
+    requires proper { Proper (accepted_table accepted.now) first.now }
+    requires first_len { length first.now ≡ length second.old }
+    ensures { Steps (into second.old (step_asked (accepted_table accepted.now) first.now request)) result second.new }
 {
-    let planned = judge_step(accepted, state, request)?;
-    copy(state, next);
-    Ok(finish(accepted, next, request, planned))
+    let planned = judge_step(accepted, first, request)?;
+    copy(first, second);
+    Ok(finish(accepted, second, request, planned))
 }

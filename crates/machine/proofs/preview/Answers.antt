@@ -13,8 +13,8 @@ returns-in_err-fleet c =
     let p = err_from_is_err_and c.from_residual.result c.from_residual.ensures.1 in
     rw (p.1, p.2) (preview_refused c.args.next.now c.args.kind c.args.agent c.args.number c.in_err-fleet.ensures)
 
-pub preview_in-requires-clause-state_len : goal.preview_in-requires-clause-state_len
-preview_in-requires-clause-state_len c =
+pub preview_in-requires-clause-first_len : goal.preview_in-requires-clause-first_len
+preview_in-requires-clause-first_len c =
     (c.in_ok-fleet.ensures.opened _ refl).proper.whole ∙ sym (eqb-true (length c.args.next.now) state_words (opened_fit c.in_ok-fleet.ensures))
 
 pub returns : goal.returns
