@@ -1,4 +1,6 @@
 // Nodes are settled: counted where each call that they expose is below a level. Refusals 6 and 7.
+// Fleet, words and level are no struct with `Held` as its ghost field: the level rises while the words are lent, so each
+// method by `&mut self` would have to promise besides that fleet and level stay, as the parameters now do by their types.
 ghost use Rattle.std.specs.Prelude.{true, ◌≡◌, ℕ, ◌≤◌, ◌<◌, length};
 ghost use Rattle.table.specs.Tables.{first_root};
 ghost use Rattle.table.specs.Fleets.{table_in};
@@ -86,8 +88,8 @@ pub fn lowest_bad_call(fleet: &Fleet, scratch: &mut [u32]) -> Result<(), Refused
     Ok(())
 }
 
-// Counts node n, if it is not counted yet. The nodes below it and the bodies of all definitions are, so a visit finds its
-// counts.
+// Counts node n, if it is not counted yet. The nodes below it and the bodies of all definitions are, so that a visit
+// finds its counts.
 fn count_at(fleet: &Fleet, scratch: &mut [u32], n: usize) -> Counts
     requires held { Held (table_in fleet.now) fleet.now.sizes.definitions scratch.old }
     requires n_bound { n < first_root (table_in fleet.now) }

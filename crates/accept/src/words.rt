@@ -1,5 +1,5 @@
 // A node's words: its actions at word 2n and its ticks at word 2n + 1. Where it is not counted, word 2n is above 65,536
-// and leads back to a node.
+// and leads back to a node. The C interface lends plain words, so no array of counts stands there.
 ghost use Rattle.std.specs.Prelude.{false, ◌≡◌, ℕ, ◌+◌, ◌*◌, ◌≤◌, ◌<◌, length, get_or};
 ghost use Rattle.std.specs.Bool.{then_some};
 ghost use Rattle.table.specs.Sound.{Limits};

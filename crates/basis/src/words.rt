@@ -1,4 +1,4 @@
-// Words cleared and copied.
+// Words cleared and copied. docs/ASSURANCE.md names these two, and says what they promise.
 ghost use Rattle.std.specs.Prelude.{◌≡◌, ◌++◌, ◌-◌, ◌≤◌, length, take, replicate};
 
 // The words from a place on become 0.

@@ -22,7 +22,7 @@ pub fn lowest_bad(fleet: &Fleet, scratch: &mut [u32]) -> Result<bool, Refused>
         scratch[node] = word;
         doubtful |= is_doubted(starts(fleet, node), word);
         let inner = node < first;
-        if inner && mark_both(scratch, look.left, look.right, Reached::NOT) {
+        if inner && mark_both(scratch, look, Reached::NOT) {
             return Err(Refused::BadNode(node));
         }
     }

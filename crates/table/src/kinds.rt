@@ -126,7 +126,6 @@ fn kind_fields(kind: NodeKind) -> Fields
 }
 
 // What the fields of a kind hold, roots aside. Nothing fits where a byte names no kind.
-#[tactic(auto, unfolding(crate::specs::Nodes::process_rows, crate::specs::Nodes::guard_rows, crate::specs::Nodes::expression_rows, crate::specs::Nodes::row_of))]
 pub fn fields_of(kind: u8) -> Fields
     ensures { result ≡ fields_of kind }
 {

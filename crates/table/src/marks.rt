@@ -1,4 +1,5 @@
-// A word for each node among lent ones, by its bits.
+// A word for each node among lent ones, by its bits: the C interface lends plain words, so no array of structs stands
+// there.
 ghost use Rattle.std.specs.Prelude.{◌≡◌, ◌<◌, IfSome, length};
 ghost use Rattle.table.specs.Tables.{kind_at, q_at};
 ghost use Rattle.table.specs.Fleets.{table_in};
@@ -132,12 +133,12 @@ fn mark(words: &mut [u32], node: Option<usize>, by: Reached) -> bool
 }
 
 // Marks the left and then the right, and says whether one was named before.
-pub fn mark_both(words: &mut [u32], left: Option<usize>, right: Option<usize>, by: Reached) -> bool
-    requires left { IfSome left (λ x. x < length words.old) }
-    requires right { IfSome right (λ x. x < length words.old) }
-    ensures { TwoMarks by.process by.link words.old words.new left right result }
+pub fn mark_both(words: &mut [u32], look: Look, by: Reached) -> bool
+    requires left { IfSome look.left (λ x. x < length words.old) }
+    requires right { IfSome look.right (λ x. x < length words.old) }
+    ensures { TwoMarks by.process by.link words.old words.new look.left look.right result }
 {
-    let a = mark(words, left, by);
-    let b = mark(words, right, by);
+    let a = mark(words, look.left, by);
+    let b = mark(words, look.right, by);
     a | b
 }

@@ -1,5 +1,6 @@
 // Refusal 5, where it is in doubt: the nodes in descending order, which hand on to those that they name what reaches
-// them.
+// them. Fleet and words are no struct that keeps the words long enough: its methods would have to promise besides that
+// the fleet stays.
 ghost use Rattle.std.specs.Prelude.{◌≡◌, false, [], ◌∷◌, ℕ, ◌<◌, ◌≤◌, length};
 ghost use Rattle.table.specs.Fleets.{table_in};
 ghost use Rattle.table.specs.Checks.{refuse_at, first_of};
@@ -10,7 +11,7 @@ ghost use Rattle.table.specs.Reach.{wrong_here, wrong_key};
 ghost use Rattle.table.specs.Marks.{Shown, Descends, Visit, LowestOf};
 
 use super::marks::{LEFT, LINK, PROCESS, RIGHT, first_word, mark_both};
-use super::{Fleet, Reached, Refused};
+use super::{Fleet, Look, Reached, Refused};
 use basis::{NodeKind, has};
 
 // The first and the last kind of keys.
@@ -44,9 +45,11 @@ fn visit(fleet: &Fleet, words: &mut [u32], node: usize) -> bool
     };
     let p = fleet.p_at(node);
     let q = fleet.q_at(node);
-    let left = has(word, LEFT).then_some(p);
-    let right = has(word, RIGHT).then_some(q);
-    mark_both(words, left, right, by);
+    let look = Look {
+        left: has(word, LEFT).then_some(p),
+        right: has(word, RIGHT).then_some(q),
+    };
+    mark_both(words, look, by);
     wrong_here(fleet.kind_at(node), q, by)
 }
 
