@@ -41,7 +41,7 @@ impl TryFrom<u8> for NodeKind {
 
     ghost try_from_gives = { Names };
 
-    // Inlined, a match on what it gives goes by the byte: a call made accepting a table a twentieth slower.
+    // Inlined, a match on what it gives goes by the byte: a call made accepting a table a tenth slower.
     #[inline(always)]
     fn try_from(byte: u8) -> Result<Self, UnknownKind> {
         match byte {
