@@ -28,7 +28,7 @@ impl TryFrom<u8> for Kind {
     }
 }
 
-// A kind of step, the agent that steps, and a choice of it or a key.
+// A kind of step, which may be any byte before refusal 10, the agent that steps, and a choice of it or a key.
 #[derive(Clone, Copy)]
 pub struct Request {
     pub kind: u8,

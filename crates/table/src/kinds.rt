@@ -6,7 +6,8 @@ ghost use Rattle.table.specs.Nodes.{is_process, is_guard, is_expression, is_node
 use super::{Field, Fields};
 use basis::NodeKind;
 
-// The first and the last kinds of processes, guards and expressions.
+// The first and the last kinds of processes, guards and expressions. Tests are of a byte, since before refusal 4 it may
+// be any.
 const CALL: u8 = NodeKind::Call as u8;
 
 const TRUE: u8 = NodeKind::True as u8;

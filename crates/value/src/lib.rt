@@ -53,7 +53,7 @@ fn compute(kind: u8, x: i32, y: i32) -> Option<i32>
     }
 }
 
-// The same on two values.
+// The same on two values. By a byte and no NodeKind here and below, since any byte has an answer.
 pub fn operate(kind: u8, a: Value, b: Value) -> Value
     ensures { result ≡ operate_of kind a b }
 {
