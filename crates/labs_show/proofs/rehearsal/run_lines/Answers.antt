@@ -1,10 +1,6 @@
 -- `labs_show::rehearsal::run_lines` meets its contract: what is printed of a done run fits.
 -- Assumes nothing.
-use Prim.Native.Nat.{◌+◌, ◌≤◌}
 use native.Mathlib.Omega.{arith}
-use lib.ListN.{length}
-use Rattle.lines.specs.Lines.{totals_line, state_lines}
-use Rattle.lines.specs.Sizes.{shown_bytes}
 use Rattle.lines.proofs.Sizes.{Counts, done_fits}
 use Rattle.lines.proofs.Writing.{wrote_length}
 use Rattle.lines.proofs.Pages.{writes_then}
