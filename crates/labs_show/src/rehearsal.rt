@@ -64,6 +64,7 @@ fn run_lines(page: &mut Page, totals: Totals, state: &[u32])
 }
 
 // The lines of a rehearsal.
+#[tactic(auto, using(lines::proofs::Sizes::refusal_fits))]
 pub fn show_rehearsal(page: &mut Page, input: &[u8], lent: &mut Lent)
     requires { HasRoomForAll page.old }
     ensures { Writes

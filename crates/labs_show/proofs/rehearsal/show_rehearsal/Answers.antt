@@ -1,22 +1,13 @@
 -- `labs_show::rehearsal::show_rehearsal` meets its contract.
 -- Assumes nothing.
 use mathlib.Core.Path.{sym, ◌∙◌}
-use native.Mathlib.Omega.{arith}
 use Rattle.lines.specs.Lines.{refused_line}
-use Rattle.lines.proofs.Sizes.{refusal_fits}
 use Rattle.lines.proofs.Pages.{writes_same}
 use Rattle.labs_show.proofs.Shown.{shown_done, shown_refused}
 use Rattle.labs_show.proofs.rehearsal.show_rehearsal.Goals as goal
 
 pub run_lines-requires : goal.run_lines-requires
 run_lines-requires c = (c.rehearse_input.ensures.fleet _ c.in-Ok.is, c.requires)
-
-pub refused_line-requires : goal.refused_line-requires
-refused_line-requires c =
-    let n = c.number in
-    let p = c.place in
-    let b = refusal_fits n.result p.result (omega (arith, n.type_inv)) (omega (arith, p.type_inv)) in
-    omega (arith, c.requires)
 
 pub returns-in-Ok : goal.returns-in-Ok
 returns-in-Ok c = writes_same (sym (shown_done c.rehearse_input.ensures _ c.in-Ok.is)) c.run_lines.ensures
