@@ -20,7 +20,7 @@ use Rattle.value.specs.Values.{signed_of, in_range, fit, is_zero, floor_z, floor
 use Rattle.value.specs.Truths.{test_of}
 use Rattle.value.proofs.Words.{in_range_lem, word_small}
 use Rattle.value.proofs.Bounds.{word_in_range}
-use Rattle.value.proofs.Floored.{times_neg, neg_times, rest_of, of_pos, above_is, exchanged}
+use Rattle.value.proofs.Floored.{times_neg, neg_times, rest_of, of_pos, above_is, exchanged, floor_fits}
 use Rattle.labs.specs.Numbers.{number, Divided, Operates, plus, minus, times, divide, remainder, ◌≺◌, Compares, equal, less, greater}
 
 pub no_value : {v : ℕ} → None ≡ Some v → ⊥
@@ -50,6 +50,11 @@ fit_is z w = (by (in_range z) refl, back)
         let e : signed_of w ≡ z = sym (number_is w h.0) ∙ h.1 in
         let f : Fits w32 w = Fits-of_lt h.0 in
         subst (λ (o : ℤ). fit o ≡ Some w) e (rw (word_in_range f, of_z-to_z f))
+
+-- a floored remainder is a value where the divisor is
+pub floor_in_range : (x y : ℤ) → is_zero y ≡ false → in_range y ≡ true → in_range (floor_rem x y) ≡ true
+floor_in_range x y e h =
+    (in_range_lem (floor_rem x y)).1 (floor_fits x y e (record { sfits = (in_range_lem y).0 h })).sfits
 
 -- DIVISION: signs are taken off, and what is left is division by a number above 0
 abs_neg : (z : ℤ) → nat_abs (neg_ℤ z) ≡ nat_abs z
