@@ -2,19 +2,18 @@
 -- Assumes nothing.
 use Prim.Native.Nat.{ℕ, zero, suc, ◌+◌, ◌-◌, ◌/◌, ◌%◌, ◌^◌, ◌<◌, ◌≤◌}
 use mathlib.Core.Logic.{⊎_elim}
-use mathlib.Core.Bool.{Bool, true, false}
-use mathlib.Core.Path.{◌≡◌, refl, sym, ap, ◌∙◌}
+use mathlib.Core.Path.{◌≡◌, sym, ap, ◌∙◌}
 use lib.IntN.{ℤ, pos, negsuc, nat_abs}
-use lib.Signed.{lt_z}
 use mathlib.Core.List.{List, [], ◌∷◌, ◌++◌}
 use native.Mathlib.Nat.{pow-suc, pow-le-pow_right, mod-lt, mod-eq_of_lt, le-div_iff_mul-le, div-lt_iff_lt-mul}
 use native.Mathlib.Omega.{arith}
 use lib.ListN.{length, length-append}
-use borrow.Author.Tests.{lt-ltb, le-ltb, ltb-true}
+use borrow.Author.Tests.{lt-ltb, le-ltb}
 use Rattle.basis.proofs.Tests.{lt_or_le}
 use Rattle.io.specs.Digits.{hex_digit_ascii, last_digits, IsDigitCount}
 use Rattle.lines.specs.Text.{ascii, digits_of, decimal, signed_decimal}
 use Rattle.lines.specs.Lines.{value}
+use Rattle.lines.specs.Pages.{sign}
 
 -- a number below 10 is one digit; another has a digit after those of its tenth
 digits_one : (most n : ℕ) → n < 10 → digits_of (suc most) n ≡ (48 + n) ∷ []
@@ -62,25 +61,11 @@ pub decimal_few : (k n : ℕ) → n < 10 ^ suc k → length (decimal n) ≤ suc 
 unfolding decimal
 decimal_few k n l = few k (suc n) n l
 
--- the sign of a number, before its digits
-pub sign : ℤ → List ℕ
-sign (pos n) = []
-sign (negsuc n) = ascii "-"
-
+-- the sign of a number, and its digits
 pub signed_is : (z : ℤ) {n : ℕ} → n ≡ nat_abs z → sign z ++ decimal n ≡ signed_decimal z
-unfolding sign signed_decimal
+unfolding signed_decimal
 signed_is (pos n) e = ap decimal e
 signed_is (negsuc n) e = ap (λ (d : ℕ). ascii "-" ++ decimal d) e
-
-pub sign_below : (z : ℤ) → lt_z z (pos 0) ≡ true → sign z ≡ ascii "-"
-unfolding sign
-sign_below (pos n) h = absurd (omega (arith, ltb-true n 0 h))
-sign_below (negsuc n) h = refl
-
-pub sign_above : (z : ℤ) → lt_z z (pos 0) ≡ false → sign z ≡ []
-unfolding sign
-sign_above (pos n) h = refl
-sign_above (negsuc n) h = absurd (let e : ◌≡◌ {A = Bool} true false = h in cc)
 
 -- the sign of a word
 pub value_low : (w : ℕ) → w < 2147483648 → value w ≡ decimal w

@@ -1,6 +1,7 @@
 -- What code asks of a page, and what it leaves there.
-use Rattle.std.specs.Prelude.{ℕ, ◌+◌, ◌≤◌, ◌≡◌, List, length}
+use Rattle.std.specs.Prelude.{ℕ, ◌+◌, ◌≤◌, ◌≡◌, List, [], length, ℤ, pos, negsuc}
 use Rattle.lines.specs.declared.page.Page.{Page}
+use Rattle.lines.specs.Text.{ascii}
 use Rattle.lines.specs.Sizes.{shown_bytes}
 use Rattle.lines.specs.Writing.{Wrote}
 
@@ -16,3 +17,8 @@ HasRoomForAll p = p.len + shown_bytes ≤ length p.bytes.now
 pub record Writes (text : List ℕ) (was now : Page) : Type 0 where
   pub wrote : Wrote text was.len was.bytes.now now.bytes.now now.len
   pub buffer : now.bytes.ghost_name ≡ was.bytes.ghost_name
+
+-- what stands before the digits of a number
+abbrev pub sign : ℤ → List ℕ
+sign (pos n) = []
+sign (negsuc n) = ascii "-"

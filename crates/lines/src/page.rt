@@ -1,13 +1,20 @@
 // A page: a lent buffer, and how many bytes of it are written. Text and numbers go after these.
-ghost use Rattle.std.specs.Prelude.{◌++◌};
+ghost use Rattle.std.specs.Prelude.{◌≡◌, ◌++◌};
 ghost use Rattle.lines.specs.Text.{ascii, decimal, signed_decimal};
 ghost use Rattle.lines.specs.Lines.{value};
-ghost use Rattle.lines.specs.Pages.{HasRoom, Writes};
+ghost use Rattle.lines.specs.Pages.{HasRoom, Writes, sign};
 
 #[derive(Drop)]
 pub struct Page<'a> {
     pub bytes: &'a mut [u8],
     pub len: usize,
+}
+
+// What stands before the digits of a number.
+fn sign(number: i32) -> &'static [u8]
+    ensures { result.now ≡ sign number }
+{
+    if number < 0 { b"-" } else { b"" }
 }
 
 impl Page<'_> {
@@ -53,9 +60,7 @@ impl Page<'_> {
         requires { HasRoom (signed_decimal number) self.old }
         ensures { Writes (signed_decimal number) self.old self.new }
     {
-        if number < 0 {
-            self.put(b"-");
-        }
+        self.put(sign(number));
         self.decimal(u64::from(number.unsigned_abs()));
     }
 
