@@ -4,7 +4,7 @@
 
 use std::collections::{BTreeMap, BTreeSet};
 use std::fs;
-use std::path::Path;
+use std::path::{Path, PathBuf};
 
 /// What a function's lowered form says of it.
 #[derive(Clone, Debug, Default, PartialEq, Eq)]
@@ -19,9 +19,10 @@ pub struct Function {
     pub arrays: Vec<String>,
     /// How many of its parameters are lent to be written: `&mut`, also inside a struct.
     pub lent: usize,
-    /// Whether it stores behind a pointer, to what is lent to it or to an array of its own, lends the toolchain anything
-    /// to write but the toolchain's own (the place of an iterator), or puts more than constants into a local that holds
-    /// an array.
+    /// Whether it stores behind a pointer, to what is lent to it or to an array of its own, or lends the toolchain
+    /// anything to write but the toolchain's own (the place of an iterator).
+    pub stores: bool,
+    /// Whether it stores so, or puts more than constants into a local that holds an array.
     pub writes: bool,
 }
 
@@ -30,20 +31,25 @@ pub type Functions = BTreeMap<String, Function>;
 
 /// The functions of the built libraries of a repository.
 pub fn functions(repository: &Path) -> Functions {
-    let crates = fs::read_dir(repository.join("crates")).expect("crates");
-    let folders: BTreeMap<String, _> = crates
+    let folders = fs::read_dir(repository.join("crates")).expect("crates");
+    let folders: Vec<PathBuf> = folders
         .map(|folder| folder.expect("a folder").path())
-        .map(|path| (path.file_name().unwrap().to_str().expect("a name").to_string(), path))
         .collect();
-    let crates: BTreeSet<&str> = folders.keys().map(String::as_str).collect();
+    let name_of = |folder: &PathBuf| {
+        let name = folder.file_name().unwrap();
+        name.to_str().expect("a name").to_string()
+    };
+    let names: Vec<String> = folders.iter().map(name_of).collect();
+    let crates: Crates = names.iter().map(String::as_str).collect();
     let mut all = Vec::new();
-    for (name, folder) in &folders {
+    for (name, folder) in names.iter().zip(&folders) {
         let file = folder.join(format!("out/rlib/{name}.rlib/toolchain/mir.json"));
         // A program and a static library have none.
         if file.exists() {
             let text = fs::read_to_string(file).expect("a built library");
-            let definitions = read(&text);
-            all.extend(definitions.parts().1.iter().map(|one| lowered(one, &crates)));
+            let library = read(&text);
+            let definitions = library.parts().1.iter();
+            all.extend(definitions.map(|one| lowered(one, &crates)));
         }
     }
     in_source(all, &crates)
@@ -83,13 +89,19 @@ struct Lowered {
 fn in_source(all: Vec<Lowered>, crates: &Crates) -> Functions {
     let names: BTreeSet<String> = all.iter().map(|one| one.name.clone()).collect();
     let mut functions = Functions::new();
-    for Lowered { name, calls, function } in all {
+    for Lowered {
+        name,
+        calls,
+        function,
+    } in all
+    {
         let Some(around) = source_name(&name, &names) else {
             continue;
         };
         let said = functions.entry(around.clone()).or_default();
         said.arrays.extend(function.arrays);
         said.arrays.sort();
+        said.stores |= function.stores;
         said.writes |= function.writes;
         // What a closure is lent, the function around it lends.
         said.lent += if around == name { function.lent } else { 0 };
@@ -100,7 +112,8 @@ fn in_source(all: Vec<Lowered>, crates: &Crates) -> Functions {
             }
             let methods = names.range(format!("{call}::")..format!("{call}:;"));
             let run = names.get(&call).into_iter().chain(methods);
-            said.calls.extend(run.filter_map(|name| source_name(name, &names)));
+            said.calls
+                .extend(run.filter_map(|name| source_name(name, &names)));
         }
         said.calls.remove(&around);
     }
@@ -108,8 +121,8 @@ fn in_source(all: Vec<Lowered>, crates: &Crates) -> Functions {
 }
 
 /// The source's name for a function: of a closure, `module::fn::function::closure`, that of the function around it; of
-/// the impl by which a function is passed on, `crate::crate++module++function+FnOnce::call_once`, that of the function.
-/// `Destruct++none` lets go what owns nothing, and is not in the source.
+/// the impl by which a function is passed on, `crate::crate++module++function+FnOnce::call_once`, that of the function;
+/// of a variant, `module::Type+Variant`, its own. `Destruct++none` lets go what owns nothing, and is not in the source.
 fn source_name(name: &str, names: &BTreeSet<String>) -> Option<String> {
     if let Some((module, rest)) = name.split_once("::fn::") {
         let ends = rest.match_indices("::").map(|(end, _)| &rest[..end]);
@@ -121,9 +134,9 @@ fn source_name(name: &str, names: &BTreeSet<String>) -> Option<String> {
         Some((_, "Destruct++none::drop")) => None,
         Some((_, passed)) if passed.contains("++") => {
             let (function, _) = passed.rsplit_once('+').unwrap();
-            Some(function.replace("++", "::"))
+            Some(function.replace("++", "::").replace('+', "::"))
         }
-        _ => Some(name.to_string()),
+        _ => Some(name.replace('+', "::")),
     }
 }
 
@@ -287,7 +300,12 @@ impl Known<'_, '_> {
             ("Struct", [_, fields]) => self.held(fields, given),
             ("Param", [number]) => given.get(number.number()).cloned().unwrap_or_default(),
             ("Named", [_, types]) => {
-                let given: Vec<Held> = types.parts().1.iter().map(|ty| self.held(ty, given)).collect();
+                let given: Vec<Held> = types
+                    .parts()
+                    .1
+                    .iter()
+                    .map(|ty| self.held(ty, given))
+                    .collect();
                 let made = self.types.get(type_name(ty));
                 self.held(made.expect("a declared type"), &given)
             }
@@ -357,8 +375,8 @@ impl Reading<'_> {
                 let name = function.name();
                 let lent = || operands.iter().map(|operand| self.lent(operand));
                 let lends = lent().any(|held| held.lends);
-                if !is_own(name, self.crates) {
-                    self.read.function.writes |= lent().any(|held| held.lends_words);
+                if !is_own(name, self.crates) && lent().any(|held| held.lends_words) {
+                    self.stores();
                 }
                 *self.read.calls.entry(name.to_string()).or_default() |= lends;
                 given
@@ -399,9 +417,16 @@ impl Reading<'_> {
     fn store(&mut self, place: &Json, constant: bool) {
         let local = place.field("local").number();
         let steps = place.field("steps").parts().1;
-        let behind = steps.iter().any(|step| step.name() == "Deref");
+        if steps.iter().any(|step| step.name() == "Deref") {
+            self.stores();
+        }
         let array = !self.holding[local].arrays.is_empty();
-        self.read.function.writes |= behind || array && !constant;
+        self.read.function.writes |= array && !constant;
+    }
+
+    fn stores(&mut self) {
+        self.read.function.stores = true;
+        self.read.function.writes = true;
     }
 }
 

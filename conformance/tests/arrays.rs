@@ -19,6 +19,9 @@ const CALLS: [&str; 3] = [
 /// The head of the list.
 const HEAD: &str = "| Module | Functions | Array that one keeps | What they write |";
 
+/// The head of the list of the toolchain's functions that they call.
+const LIBRARY_HEAD: &str = "| Module of the toolchain | Functions | What they are lent to write |";
+
 /// What is listed of a function: its arrays, the functions that may write them, and whether it writes itself.
 #[derive(Default)]
 struct Listed {
@@ -66,6 +69,34 @@ fn listed(page: &str) -> List {
     list
 }
 
+/// The toolchain's functions, and whether one is lent something to write: a row is a module, its functions, and those
+/// that are.
+fn listed_library(page: &str) -> BTreeMap<String, bool> {
+    let mut list = BTreeMap::new();
+    for row in rows(page, LIBRARY_HEAD) {
+        let [module, names, lent] = &row[..] else {
+            panic!("a row of three cells: {row:?}");
+        };
+        let lent = quoted(lent);
+        for name in quoted(names) {
+            list.insert(format!("{module}::{name}"), lent.contains(&name));
+        }
+    }
+    list
+}
+
+/// Those that the functions which calls run do call.
+fn called_library(all: &Functions, calls: &[&str]) -> BTreeMap<String, bool> {
+    let mut called = BTreeMap::new();
+    for (name, lent) in reached(all, calls)
+        .iter()
+        .flat_map(|run| &all[*run].library)
+    {
+        *called.entry(name.clone()).or_default() |= lent;
+    }
+    called
+}
+
 /// Where the functions that calls run differ from the list, a line for each difference.
 fn differences(all: &Functions, calls: &[&str], list: &List) -> Vec<String> {
     let run = reached(all, calls);
@@ -102,10 +133,10 @@ fn compare(all: &Functions, name: &str, listed: &Listed, lines: &mut Vec<String>
     }
 }
 
-/// Of all functions that a function runs, those that write may write its arrays.
+/// A function's arrays may be written by itself, and by those that it runs and that store behind a pointer.
 fn compare_writers(all: &Functions, name: &str, listed: &Listed, lines: &mut Vec<String>) {
     let mut writers = reached(all, &[name]);
-    writers.retain(|run| all[*run].writes);
+    writers.retain(|run| all[*run].stores || *run == name && all[name].writes);
     if !writers.iter().eq(&listed.writers) {
         let writers = Vec::from_iter(writers).join(", ");
         lines.push(format!("arrays of {name} may be written by {writers}"));
@@ -125,6 +156,12 @@ fn an_act_keeps_no_residual_in_an_array() {
          functions with their arrays, and what each array holds.\n{}",
         lines.join("\n")
     );
+}
+
+#[test]
+fn the_toolchains_functions_are_listed() {
+    let list = listed_library(&text("conformance/tests/act_functions.md"));
+    assert_eq!(called_library(&LIBRARY, &CALLS), list);
 }
 
 /// Once a table is accepted and a state is well formed, these two do a step: the first is lent nothing to write, and the
@@ -262,6 +299,43 @@ pub fn in_an_enum(kept: Kept) -> bool {
     }
 }
 
+pub fn filled(word: u32) -> u32 {
+    let mut words = [0u32; 63];
+    words.fill(word);
+    words[1]
+}
+
+pub fn copied(state: &[u32]) -> u32
+    requires { 63 ≤ length state.now }
+{
+    let mut words = [0u32; 63];
+    words.copy_from_slice(&state[..63]);
+    words[1]
+}
+
+pub fn in_an_option(word: Option<[u32; 3]>) -> bool {
+    word.is_some()
+}
+
+pub fn in_a_closure(word: Option<u32>) -> u32 {
+    word.map_or(0, |word| {
+        let words = [word; 3];
+        words[1]
+    })
+}
+
+pub fn by_name(word: Option<u32>) -> u32 {
+    word.map_or(0, repeated)
+}
+
+pub fn of_any_type<T: Copy>(value: T, count: usize) -> (T, usize) {
+    (value, count)
+}
+
+pub fn chosen(count: usize) -> usize {
+    of_any_type([0u32; 63], count).1
+}
+
 pub fn act(state: &mut [u32])
     requires { 63 ≤ length state.old }
 {
@@ -311,14 +385,21 @@ fn arrays_are_found_wherever_they_are_kept() {
         ("Spare::first", "[u32; 63], [u32; 63]", true),
         ("act", "", true),
         ("assigned", "[u32; 3]", true),
+        ("by_name", "", false),
+        ("chosen", "[u32; 63], [u32; 63]", true),
+        ("copied", "[u32; 63]", true),
         ("copy", "", true),
+        ("filled", "[u32; 63]", true),
+        ("in_a_closure", "[u32; 3]", true),
         ("in_a_struct", "[u32; 63], [u32; 63]", true),
         ("in_an_enum", "[u32; 63], [u32; 63]", true),
+        ("in_an_option", "[u32; 3], [u32; 3]", true),
         ("in_structs", "[u32; 63]", false),
         ("leave", "[u32; 63]", true),
         ("lent", "", false),
         ("marks", "[u32; 128]", false),
         ("nested", "[[bool; 3]; 21], [bool; 3]", true),
+        ("of_any_type", "", false),
         ("of_elements", "[u32; 3]", true),
         ("passed", "[u64; 63], [u64; 63]", true),
         ("passed_on", "[u32; 63]", true),
@@ -335,6 +416,14 @@ fn arrays_are_found_wherever_they_are_kept() {
     let names = KEPT.keys().filter(|name| name.starts_with("kept::"));
     assert_eq!(names.count(), wanted.len());
     assert_eq!(KEPT["kept::act"].calls, ["kept::leave".to_string()].into());
+    assert_eq!(
+        KEPT["kept::by_name"].calls,
+        ["kept::repeated".to_string()].into()
+    );
+    let library = &KEPT["kept::filled"].library;
+    assert!(library
+        .iter()
+        .eq([(&"core::slice::edits::slice+T::fill".to_string(), &true)]));
 }
 
 /// The check itself: of `act`, with the lists below.
