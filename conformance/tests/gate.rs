@@ -1,7 +1,7 @@
 //! What .ci/run says last, and its status, with commands that do nothing but what they are told.
 
 use std::fs;
-use std::os::unix::fs::{symlink, PermissionsExt};
+use std::os::unix::fs::PermissionsExt;
 use std::path::{Path, PathBuf};
 use std::process::Command;
 
@@ -53,14 +53,19 @@ fn repository(without: &str) -> PathBuf {
         fs::write(file, built).unwrap();
     }
     fs::copy(root().join(".ci/run"), folder.join(".ci/run")).unwrap();
-    let told = TOLD.replace("BASH", &found("bash"));
-    for command in COMMANDS.into_iter().filter(|command| *command != without) {
+    let bash = found("bash");
+    let put = |command: &str, script: &str| {
         let file = folder.join("commands").join(command);
-        fs::write(&file, &told).unwrap();
+        fs::write(&file, script).unwrap();
         fs::set_permissions(&file, fs::Permissions::from_mode(0o755)).unwrap();
+    };
+    let told = TOLD.replace("BASH", &bash);
+    for command in COMMANDS.into_iter().filter(|command| *command != without) {
+        put(command, &told);
     }
+    // No links, since rt ci takes none in a checkout, and what is written here stays.
     for tool in ["dirname", "mkdir", "cp"] {
-        symlink(found(tool), folder.join("commands").join(tool)).unwrap();
+        put(tool, &format!("#!{bash}\nexec {} \"$@\"\n", found(tool)));
     }
     folder
 }
