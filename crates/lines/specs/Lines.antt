@@ -83,9 +83,9 @@ agent_lines s a =
 abbrev pub fleet_lines : List ℕ → List ℕ
 fleet_lines s = each_below (agent_lines s) (get_or s agents_at 0)
 
--- a state: the clock, the environment, and the agents below A
+-- a state: the clock, the environment, and its agents
 unfoldable pub state_lines : List ℕ → List ℕ
-state_lines s = clock_line (clock_of s) ++ store_lines s Environment ++ each_below (agent_lines s) (get_or s agents_at 0)
+state_lines s = clock_line (clock_of s) ++ store_lines s Environment ++ fleet_lines s
 
 -- a rehearsal: the run's totals and the state after it; of a refused load or run the refusal, and nothing else
 unfoldable pub shown : Rehearsal → List ℕ

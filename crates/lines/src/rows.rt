@@ -30,6 +30,7 @@ pub fn totals_line(page: &mut Page, totals: Totals)
     tally_end(page, totals.tally);
 }
 
+// By number and place, since the definitions speak of these: any may be printed.
 pub fn refused_line(page: &mut Page, number: u8, place: usize)
     requires { HasRoom (refused_line number place) page.old }
     ensures { Writes (refused_line number place) page.old page.new }

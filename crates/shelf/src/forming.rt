@@ -16,16 +16,10 @@ fn place_formed(fleet: &Fleet, shelf: &[u32], place: usize) -> bool
     ensures { result ≡ place_formed shelf.now (table_in fleet.now) place }
 {
     let name = shelf[place];
-    if name == 0 {
-        return true;
-    }
-    if NAME_LIMIT < name {
-        return false;
-    }
-    if place_of(shelf, name) != Some(place) {
-        return false;
-    }
-    well_formed(fleet.sizes, fleet.kinds, saved_of(shelf, place))
+    name == 0
+        || name <= NAME_LIMIT
+            && place_of(shelf, name) == Some(place)
+            && well_formed(fleet.sizes, fleet.kinds, saved_of(shelf, place))
 }
 
 fn shelf_formed(fleet: &Fleet, shelf: &[u32]) -> bool
