@@ -1,18 +1,21 @@
-//! Functions as the compiler lowers them, in the form that a built library of the toolchain keeps of itself, its file
-//! mir.json: for each the functions that it calls, the arrays that it keeps, and whether it writes what is lent to it.
-//! What a closure does is said of the function that it stands in.
+//! Functions as the compiler lowers them, in the form that a built library keeps of itself, its file mir.json: for each
+//! the functions that it calls, the arrays that it keeps, and whether it writes what is lent to it. The toolchain's own
+//! libraries are read as the repository's are. What a closure does is said of the function that it stands in.
 
+use std::collections::btree_map::Entry;
 use std::collections::{BTreeMap, BTreeSet};
 use std::fs;
 use std::path::{Path, PathBuf};
+use std::process::Command;
 
 /// What a function's lowered form says of it.
 #[derive(Clone, Debug, Default, PartialEq, Eq)]
 pub struct Function {
-    /// The repository's functions that it calls, or passes on: closures, and methods of a type that a callee chooses.
-    pub calls: BTreeSet<String>,
-    /// The toolchain's functions that it calls, and whether one is lent something to write.
-    pub library: BTreeMap<String, bool>,
+    /// Whether it is the repository's, and not the toolchain's.
+    pub own: bool,
+    /// The functions that it calls, or passes on: closures, and methods of a type that a callee chooses. Of each,
+    /// whether it is lent something to write.
+    pub calls: BTreeMap<String, bool>,
     /// Those that its locals hold, parameters, result and temporaries among them, also inside a struct or an enum; not
     /// those behind a reference. In order, and each as often as it is held. An integer has no sign in this form and is
     /// shown as u8 to u64. A function with a type parameter does not know what that holds: its callers do.
@@ -29,33 +32,38 @@ pub struct Function {
 /// By their names: crate, module, function.
 pub type Functions = BTreeMap<String, Function>;
 
-/// The functions of the built libraries of a repository.
-pub fn functions(repository: &Path) -> Functions {
-    let folders = fs::read_dir(repository.join("crates")).expect("crates");
-    let folders: Vec<PathBuf> = folders
-        .map(|folder| folder.expect("a folder").path())
-        .collect();
-    let name_of = |folder: &PathBuf| {
-        let name = folder.file_name().unwrap();
-        name.to_str().expect("a name").to_string()
+/// The functions that are run where these are, a repository's and the toolchain's: they and all that they call.
+pub fn functions(repository: &Path, from: Vec<String>) -> Functions {
+    let folder = repository.join("crates");
+    let crates = fs::read_dir(&folder).expect("crates");
+    let crates = crates.map(|one| one.expect("a folder").file_name().into_string());
+    let crates = crates.map(|name| name.expect("a name")).collect();
+    let mut libraries = Libraries {
+        crates: &crates,
+        repository: folder,
+        toolchain: toolchain().join("rlibs"),
+        read: BTreeMap::new(),
     };
-    let names: Vec<String> = folders.iter().map(name_of).collect();
-    let crates: Crates = names.iter().map(String::as_str).collect();
-    let mut all = Vec::new();
-    for (name, folder) in names.iter().zip(&folders) {
-        let file = folder.join(format!("out/rlib/{name}.rlib/toolchain/mir.json"));
-        // A program and a static library have none.
-        if file.exists() {
-            let text = fs::read_to_string(file).expect("a built library");
-            let library = read(&text);
-            let definitions = library.parts().1.iter();
-            all.extend(definitions.map(|one| lowered(one, &crates)));
+    for name in &from {
+        let bounds = libraries.said(name).field("generics").field("bounds");
+        assert!(
+            bounds.parts().1.is_empty(),
+            "{name} leaves a type to its callers"
+        );
+    }
+    let mut waiting = from;
+    let mut all = AllLowered::new();
+    while let Some(name) = waiting.pop() {
+        if let Entry::Vacant(place) = all.entry(name) {
+            let one = lowered(libraries.said(place.key()), &crates);
+            waiting.extend(one.calls.keys().cloned());
+            place.insert(one);
         }
     }
     in_source(all, &crates)
 }
 
-/// The functions that are run where these are: they and all of the repository's that they call.
+/// The functions that are run where these are: they and all that they call.
 pub fn reached<'f>(functions: &'f Functions, from: &[&'f str]) -> BTreeSet<&'f str> {
     let mut all = BTreeSet::new();
     let mut waiting = from.to_vec();
@@ -63,57 +71,94 @@ pub fn reached<'f>(functions: &'f Functions, from: &[&'f str]) -> BTreeSet<&'f s
         if all.insert(name) {
             let function = functions.get(name);
             let function = function.unwrap_or_else(|| panic!("there is no function {name}"));
-            waiting.extend(function.calls.iter().map(String::as_str));
+            waiting.extend(function.calls.keys().map(String::as_str));
         }
     }
     all
 }
 
 /// The names of a repository's crates.
-type Crates<'c> = BTreeSet<&'c str>;
+type Crates = BTreeSet<String>;
+
+/// The crate that this is in.
+fn crate_of(name: &str) -> &str {
+    name.split("::").next().unwrap()
+}
 
 /// Whether this names something of the repository's.
 fn is_own(name: &str, crates: &Crates) -> bool {
-    crates.contains(name.split("::").next().unwrap())
+    crates.contains(crate_of(name))
 }
 
-/// A function under the name that the compiler has for it, and what it calls or passes on, which may be an impl.
+/// The toolchain's folder, in which its first page is.
+fn toolchain() -> PathBuf {
+    let output = Command::new("rt").arg("doc").output().expect("rt runs");
+    let page = String::from_utf8(output.stdout).expect("a path");
+    let folder = Path::new(page.trim()).parent();
+    folder.expect("a folder").to_path_buf()
+}
+
+/// The libraries of a repository and of the toolchain: each is read once a function of it is reached.
+struct Libraries<'c> {
+    crates: &'c Crates,
+    repository: PathBuf,
+    toolchain: PathBuf,
+    read: BTreeMap<String, Json<'static>>,
+}
+
+impl Libraries<'_> {
+    /// What is said of a function.
+    fn said(&mut self, name: &str) -> &Json<'static> {
+        let library = crate_of(name);
+        let open = || {
+            let folder = if is_own(name, self.crates) {
+                self.repository.join(format!("{library}/out/rlib"))
+            } else {
+                self.toolchain.clone()
+            };
+            let file = folder.join(format!("{library}.rlib/toolchain/mir.json"));
+            let text = fs::read_to_string(file);
+            let text = text.unwrap_or_else(|error| panic!("{name} is in no library: {error}"));
+            // What is read of it lasts as long as the program.
+            read(text.leak())
+        };
+        let definitions = self.read.entry(library.to_string()).or_insert_with(open);
+        // A definition is a name and what is said of the function.
+        let mut definitions = definitions.parts().1.iter().map(|one| one.parts().1);
+        let found = definitions.find(|one| one[0].name() == name);
+        &found.unwrap_or_else(|| panic!("there is no function {name}"))[1]
+    }
+}
+
+/// A function as the compiler has it, and what it calls or passes on.
 #[derive(Default)]
 struct Lowered {
-    name: String,
     calls: BTreeMap<String, bool>,
     function: Function,
 }
 
+/// By the names that the compiler has for them.
+type AllLowered = BTreeMap<String, Lowered>;
+
 /// The same under the names that the source has.
-fn in_source(all: Vec<Lowered>, crates: &Crates) -> Functions {
-    let names: BTreeSet<String> = all.iter().map(|one| one.name.clone()).collect();
+fn in_source(all: AllLowered, crates: &Crates) -> Functions {
     let mut functions = Functions::new();
-    for Lowered {
-        name,
-        calls,
-        function,
-    } in all
-    {
-        let Some(around) = source_name(&name, &names) else {
+    for (name, Lowered { calls, function }) in &all {
+        let Some(around) = source_name(name, &all) else {
             continue;
         };
         let said = functions.entry(around.clone()).or_default();
-        said.arrays.extend(function.arrays);
+        said.own = is_own(&around, crates);
+        said.arrays.extend(function.arrays.iter().cloned());
         said.arrays.sort();
         said.stores |= function.stores;
         said.writes |= function.writes;
         // What a closure is lent, the function around it lends.
-        said.lent += if around == name { function.lent } else { 0 };
+        said.lent += if around == *name { function.lent } else { 0 };
         for (call, lends) in calls {
-            if !is_own(&call, crates) {
-                *said.library.entry(call).or_default() |= lends;
-                continue;
+            if let Some(call) = source_name(call, &all) {
+                *said.calls.entry(call).or_default() |= lends;
             }
-            let methods = names.range(format!("{call}::")..format!("{call}:;"));
-            let run = names.get(&call).into_iter().chain(methods);
-            said.calls
-                .extend(run.filter_map(|name| source_name(name, &names)));
         }
         said.calls.remove(&around);
     }
@@ -123,21 +168,23 @@ fn in_source(all: Vec<Lowered>, crates: &Crates) -> Functions {
 /// The source's name for a function: of a closure, `module::fn::function::closure`, that of the function around it; of
 /// the impl by which a function is passed on, `crate::crate++module++function+FnOnce::call_once`, that of the function;
 /// of a variant, `module::Type+Variant`, its own. `Destruct++none` lets go what owns nothing, and is not in the source.
-fn source_name(name: &str, names: &BTreeSet<String>) -> Option<String> {
+fn source_name(name: &str, all: &AllLowered) -> Option<String> {
     if let Some((module, rest)) = name.split_once("::fn::") {
         let ends = rest.match_indices("::").map(|(end, _)| &rest[..end]);
         let mut around = ends.map(|function| format!("{module}::{function}"));
-        let found = around.find(|name| names.contains(name));
+        let found = around.find(|name| all.contains_key(name));
         return Some(found.unwrap_or_else(|| panic!("no function around {name}")));
     }
-    match name.split_once("::") {
-        Some((_, "Destruct++none::drop")) => None,
-        Some((_, passed)) if passed.contains("++") => {
-            let (function, _) = passed.rsplit_once('+').unwrap();
-            Some(function.replace("++", "::").replace('+', "::"))
-        }
-        _ => Some(name.replace('+', "::")),
+    let (_, passed) = name.split_once("::").expect("a crate");
+    if passed == "Destruct++none::drop" {
+        return None;
     }
+    let name = match passed.rsplit_once("+Fn") {
+        Some((function, _)) if passed.contains("++") => function.replace("++", "::"),
+        _ => name.to_string(),
+    };
+    let (module, last) = name.rsplit_once("::").expect("a module");
+    Some(format!("{module}::{}", last.replace('+', "::")))
 }
 
 /// A value of JSON: a word, which a number too is here; a list; or fields by their names.
@@ -170,10 +217,15 @@ impl<'j> Rest<'j> {
 
     fn word(&mut self) -> &'j str {
         if self.0.starts_with('"') {
-            let end = 2 + self.0[1..].find('"').expect("the end of a text");
-            let word = self.take(end).trim_matches('"');
-            assert!(!word.contains('\\'), "a text with an escape: {word}");
-            return word;
+            // Escapes are left as they are: a name has none.
+            let mut escaped = false;
+            let ends = |c: char| {
+                let ends = c == '"' && !escaped;
+                escaped = c == '\\' && !escaped;
+                ends
+            };
+            let end = 1 + self.0[1..].find(ends).expect("the end of a text");
+            return &self.take(end + 1)[1..end];
         }
         let ends = |c: char| ",:[]{}".contains(c) || c.is_whitespace();
         let end = self.0.find(ends).unwrap_or(self.0.len());
@@ -270,10 +322,10 @@ impl Held {
     }
 }
 
-/// The types that a function names, and the repository that it is of.
+/// The types that a function names, and the crates of the repository.
 struct Known<'t, 'j> {
     types: Types<'t, 'j>,
-    crates: &'t Crates<'t>,
+    crates: &'t Crates,
 }
 
 impl Known<'_, '_> {
@@ -323,10 +375,13 @@ fn type_name<'j>(ty: &Json<'j>) -> &'j str {
 fn shown(ty: &Json) -> String {
     match ty.parts() {
         ("Array", [element, length]) => {
-            let ("Lit", [length]) = length.parts() else {
-                panic!("a length of an unknown form: {}", length.name());
+            let length = match length.parts() {
+                ("Lit", [length]) => length.number().to_string(),
+                // Of a parameter: callers know it.
+                ("Param", _) => "_".to_string(),
+                (other, _) => panic!("a length of an unknown form: {other}"),
             };
-            format!("[{}; {}]", shown(element), length.number())
+            format!("[{}; {length}]", shown(element))
         }
         ("Int", [bits]) => format!("u{}", bits.number()),
         ("Bool", []) => "bool".to_string(),
@@ -345,14 +400,15 @@ fn is_constant(value: &Json) -> bool {
     }
 }
 
-/// A function whose statements are gone through, and what its locals hold.
-struct Reading<'c> {
+/// A function whose statements are gone through, what its locals hold, and the impls that it names.
+struct Reading<'r, 'j> {
     holding: Vec<Held>,
-    crates: &'c Crates<'c>,
+    impls: &'r Json<'j>,
+    crates: &'r Crates,
     read: Lowered,
 }
 
-impl Reading<'_> {
+impl Reading<'_, '_> {
     /// A body has each statement before those that it is made of, so all of them stand in one list.
     fn statement(&mut self, statement: &Json) {
         match statement.parts() {
@@ -381,23 +437,30 @@ impl Reading<'_> {
                 *self.read.calls.entry(name.to_string()).or_default() |= lends;
                 given
             }
-            // Of a bound: whoever chooses the type passes its methods on.
-            ("Method", [_, _, given]) => given,
+            ("Method", [of, _, given]) => {
+                self.pass_on(std::slice::from_ref(of));
+                given
+            }
             (other, _) => panic!("a callee of an unknown form: {other}"),
         };
-        self.pass_on(given.field("dicts"));
+        self.pass_on(given.field("dicts").parts().1);
     }
 
-    /// The impls that a call passes on.
-    fn pass_on(&mut self, impls: &Json) {
-        for one in impls.parts().1 {
+    /// The impls that a call passes on, or takes a method of.
+    fn pass_on(&mut self, impls: &[Json]) {
+        for one in impls {
             match one.parts() {
+                // Of a bound: whoever chooses the type passes it on.
                 ("Given", _) => {}
                 ("Impl", [name, _, impls]) => {
-                    if is_own(name.name(), self.crates) {
-                        self.read.calls.entry(name.name().to_string()).or_default();
+                    let mut declared = self.impls.parts().1.iter();
+                    let found = declared.find(|one| one.field("name").name() == name.name());
+                    let found = found.expect("a declared impl");
+                    for method in found.field("methods").parts().1 {
+                        let method = method.name().to_string();
+                        self.read.calls.entry(method).or_default();
                     }
-                    self.pass_on(impls);
+                    self.pass_on(impls.parts().1);
                 }
                 (other, _) => panic!("an impl of an unknown form: {other}"),
             }
@@ -430,11 +493,7 @@ impl Reading<'_> {
     }
 }
 
-/// A definition is a name and what is said of the function.
-fn lowered(definition: &Json, crates: &Crates) -> Lowered {
-    let ("", [name, said]) = definition.parts() else {
-        panic!("a definition of an unknown form");
-    };
+fn lowered(said: &Json, crates: &Crates) -> Lowered {
     let parameters = said.field("params").number();
     let declared = said.field("types").parts().1.iter();
     let types = declared
@@ -443,10 +502,10 @@ fn lowered(definition: &Json, crates: &Crates) -> Lowered {
     let known = Known { types, crates };
     let mut reading = Reading {
         holding: Vec::new(),
+        impls: said.field("generics").field("impls"),
         crates,
         read: Lowered::default(),
     };
-    reading.read.name = name.name().to_string();
     let function = &mut reading.read.function;
     // The result is local 0, and the parameters follow.
     for (number, local) in said.field("locals").parts().1.iter().enumerate() {

@@ -19,8 +19,9 @@ const CALLS: [&str; 3] = [
 /// The head of the list.
 const HEAD: &str = "| Module | Functions | Array that one keeps | What they write |";
 
-/// The head of the list of the toolchain's functions that they call.
-const LIBRARY_HEAD: &str = "| Module of the toolchain | Functions | What they are lent to write |";
+/// The head of the list of the toolchain's functions.
+const LIBRARY_HEAD: &str =
+    "| Module of the toolchain | Functions | Array that one keeps | What they are lent to write |";
 
 /// What is listed of a function: its arrays, the functions that may write them, and whether it writes itself.
 #[derive(Default)]
@@ -39,9 +40,9 @@ fn quoted(cell: &str) -> Vec<&str> {
 
 /// A row is a module, its functions, what one of them keeps (its name, the types of its arrays, the functions that may
 /// write these), and those of them that write.
-fn listed(page: &str) -> List {
+fn listed(page: &str, head: &str) -> List {
     let mut list = List::new();
-    for row in rows(page, HEAD) {
+    for row in rows(page, head) {
         let [module, names, kept, writers] = &row[..] else {
             panic!("a row of four cells: {row:?}");
         };
@@ -69,34 +70,6 @@ fn listed(page: &str) -> List {
     list
 }
 
-/// The toolchain's functions, and whether one is lent something to write: a row is a module, its functions, and those
-/// that are.
-fn listed_library(page: &str) -> BTreeMap<String, bool> {
-    let mut list = BTreeMap::new();
-    for row in rows(page, LIBRARY_HEAD) {
-        let [module, names, lent] = &row[..] else {
-            panic!("a row of three cells: {row:?}");
-        };
-        let lent = quoted(lent);
-        for name in quoted(names) {
-            list.insert(format!("{module}::{name}"), lent.contains(&name));
-        }
-    }
-    list
-}
-
-/// Those that the functions which calls run do call.
-fn called_library(all: &Functions, calls: &[&str]) -> BTreeMap<String, bool> {
-    let mut called = BTreeMap::new();
-    for (name, lent) in reached(all, calls)
-        .iter()
-        .flat_map(|run| &all[*run].library)
-    {
-        *called.entry(name.clone()).or_default() |= lent;
-    }
-    called
-}
-
 /// Where the functions that calls run differ from the list, a line for each difference.
 fn differences(all: &Functions, calls: &[&str], list: &List) -> Vec<String> {
     let run = reached(all, calls);
@@ -115,14 +88,15 @@ fn differences(all: &Functions, calls: &[&str], list: &List) -> Vec<String> {
 }
 
 fn compare(all: &Functions, name: &str, listed: &Listed, lines: &mut Vec<String>) {
-    let Function { arrays, writes, .. } = &all[name];
+    let arrays = &all[name].arrays;
     if *arrays != listed.arrays {
         let (kept, listed) = (arrays.join(", "), listed.arrays.join(", "));
         lines.push(format!(
             "{name} keeps arrays ({kept}), listed are ({listed})"
         ));
     }
-    if *writes != listed.writes {
+    let writes = is_writer(all, name);
+    if writes != listed.writes {
         lines.push(format!(
             "{name} writes: {writes}, listed: {}",
             listed.writes
@@ -131,6 +105,15 @@ fn compare(all: &Functions, name: &str, listed: &Listed, lines: &mut Vec<String>
     if !arrays.is_empty() {
         compare_writers(all, name, listed, lines);
     }
+}
+
+/// Whether a function is listed as writing: it writes, or is the toolchain's and is lent something to write.
+fn is_writer(all: &Functions, name: &str) -> bool {
+    let Function {
+        own, lent, writes, ..
+    } = all[name];
+    let lends = |by: &Function| by.calls.get(name) == Some(&true);
+    writes || !own && (lent > 0 || all.values().any(lends))
 }
 
 /// A function's arrays may be written by itself, and by those that it runs and that store behind a pointer.
@@ -144,11 +127,14 @@ fn compare_writers(all: &Functions, name: &str, listed: &Listed, lines: &mut Vec
 }
 
 /// The library's functions.
-static LIBRARY: LazyLock<Functions> = LazyLock::new(|| functions(&root()));
+static LIBRARY: LazyLock<Functions> =
+    LazyLock::new(|| functions(&root(), CALLS.map(String::from).into()));
 
 #[test]
 fn an_act_keeps_no_residual_in_an_array() {
-    let list = listed(&text("conformance/tests/act_functions.md"));
+    let page = text("conformance/tests/act_functions.md");
+    let mut list = listed(&page, HEAD);
+    list.extend(listed(&page, LIBRARY_HEAD));
     let lines = differences(&LIBRARY, &CALLS, &list);
     assert!(
         lines.is_empty(),
@@ -160,8 +146,10 @@ fn an_act_keeps_no_residual_in_an_array() {
 
 #[test]
 fn the_toolchains_functions_are_listed() {
-    let list = listed_library(&text("conformance/tests/act_functions.md"));
-    assert_eq!(called_library(&LIBRARY, &CALLS), list);
+    let list = listed(&text("conformance/tests/act_functions.md"), LIBRARY_HEAD);
+    let mut run = reached(&LIBRARY, &CALLS);
+    run.retain(|name| !LIBRARY[*name].own);
+    assert!(run.iter().eq(list.keys()), "these are run: {run:?}");
 }
 
 /// Once a table is accepted and a state is well formed, these two do a step: the first is lent nothing to write, and the
@@ -181,7 +169,10 @@ fn an_act_is_lent_nothing_to_write_but_the_state() {
         "machine::stepping::preview_in",
     ] {
         let calls = &LIBRARY[by].calls;
-        assert!(STEP.iter().all(|(name, _)| calls.contains(*name)), "{by}");
+        assert!(
+            STEP.iter().all(|(name, _)| calls.contains_key(*name)),
+            "{by}"
+        );
     }
 }
 
@@ -336,6 +327,14 @@ pub fn chosen(count: usize) -> usize {
     of_any_type([0u32; 63], count).1
 }
 
+pub fn turned(word: u32) -> u32 {
+    word.swap_bytes()
+}
+
+pub fn turned_by_name(word: Option<u32>) -> u32 {
+    word.map_or(0, u32::swap_bytes)
+}
+
 pub fn act(state: &mut [u32])
     requires { 63 ≤ length state.old }
 {
@@ -373,7 +372,15 @@ static KEPT: LazyLock<Functions> = LazyLock::new(|| {
     let output = output.expect("rt runs");
     let said = String::from_utf8_lossy(&output.stdout);
     assert!(output.status.success(), "rt lib: {said}");
-    let found = functions(&folder);
+    // All but `copy`, which `leave` calls, and `of_any_type`, for which `chosen` chooses the type.
+    let run = SOURCE
+        .lines()
+        .filter_map(|line| line.strip_prefix("pub fn ")?.split_once('('));
+    let run = run
+        .map(|(name, _)| name)
+        .filter(|name| !name.contains('<'))
+        .chain(["Spare::first"]);
+    let found = functions(&folder, run.map(|name| format!("kept::{name}")).collect());
     let _ = fs::remove_dir_all(&folder);
     found
 });
@@ -404,6 +411,8 @@ fn arrays_are_found_wherever_they_are_kept() {
         ("passed", "[u64; 63], [u64; 63]", true),
         ("passed_on", "[u32; 63]", true),
         ("repeated", "[u32; 63]", true),
+        ("turned", "", false),
+        ("turned_by_name", "", false),
         ("two", "[u32; 128], [u32; 128]", false),
     ];
     for (name, arrays, writes) in wanted {
@@ -415,15 +424,25 @@ fn arrays_are_found_wherever_they_are_kept() {
     assert_eq!(["act", "copy", "lent", "two"].map(lent), [1, 1, 0, 0]);
     let names = KEPT.keys().filter(|name| name.starts_with("kept::"));
     assert_eq!(names.count(), wanted.len());
-    assert_eq!(KEPT["kept::act"].calls, ["kept::leave".to_string()].into());
-    assert_eq!(
-        KEPT["kept::by_name"].calls,
-        ["kept::repeated".to_string()].into()
-    );
-    let library = &KEPT["kept::filled"].library;
-    assert!(library
-        .iter()
-        .eq([(&"core::slice::edits::slice+T::fill".to_string(), &true)]));
+    let calls = |name: &str| KEPT[&format!("kept::{name}")].calls.keys();
+    let map_or = "core::option::Option::map_or";
+    assert!(calls("act").eq(["kept::leave"]));
+    assert!(calls("by_name").eq([map_or, "kept::repeated"]));
+    assert!(KEPT["kept::filled"].calls["core::slice::edits::slice+T::fill"]);
+}
+
+/// An array that only a function of the toolchain keeps is found too.
+#[test]
+fn arrays_are_found_in_the_toolchain() {
+    for name in ["kept::turned", "kept::turned_by_name"] {
+        let lines = differences(&KEPT, &[name], &List::new());
+        for line in [
+            "core::int::u32::swap_bytes is run by an act, and not listed",
+            "core::int::u32::swap_bytes keeps arrays ([u8; 4]), listed are ()",
+        ] {
+            assert!(lines.iter().any(|found| found == line), "{name}: {lines:?}");
+        }
+    }
 }
 
 /// The check itself: of `act`, with the lists below.
@@ -432,7 +451,7 @@ fn a_spare_residual_is_refused() {
     let lines = |kept: &str, writers: &str| {
         let row = format!("| kept | `act`, `leave`, `copy` | {kept} | {writers} |");
         let page = format!("\n{HEAD}\n|---|---|---|---|\n{row}\n");
-        differences(&KEPT, &["kept::act"], &listed(&page))
+        differences(&KEPT, &["kept::act"], &listed(&page, HEAD))
     };
     let writers = "`act`, `leave`, `copy`";
     let by = "arrays of kept::leave may be written by kept::copy, kept::leave";

@@ -17,7 +17,7 @@ pub fn u16_at(bytes: &[u8], at: usize) -> usize
     requires { at + 1 < length bytes.now }
     ensures { U16 bytes.now at result }
 {
-    u16::from_le_bytes([bytes[at], bytes[at + 1]]).into()
+    usize::from(bytes[at]) + 256 * usize::from(bytes[at + 1])
 }
 
 // The 32-bit number at a place, low half first.
@@ -25,7 +25,7 @@ pub fn u32_at(bytes: &[u8], at: usize) -> u32
     requires { at + 3 < length bytes.now }
     ensures { result ≡ u32_at bytes.now at }
 {
-    u32::from_le_bytes([bytes[at], bytes[at + 1], bytes[at + 2], bytes[at + 3]])
+    (u16_at(bytes, at) + 65536 * u16_at(bytes, at + 2)) as u32
 }
 
 // The word of the set of one key.

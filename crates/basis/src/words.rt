@@ -9,10 +9,13 @@ pub fn clear(words: &mut [u32], from: usize)
     words[from..].fill(0);
 }
 
-// All words become those of a slice of the same length.
+// All words become those of a slice of the same length. One by one, since `copy_from_slice` would have a caller in C
+// bring memmove.
 pub fn copy(from: &[u32], to: &mut [u32])
     requires { length from.now ≡ length to.old }
     ensures { to.new ≡ from.now }
 {
-    to.copy_from_slice(from);
+    for i in 0..from.len() {
+        to[i] = from[i];
+    }
 }

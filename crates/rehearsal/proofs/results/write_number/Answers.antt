@@ -1,0 +1,8 @@
+-- `rehearsal::results::write_number` meets its contract.
+-- Assumes nothing.
+use mathlib.Core.Path.{sym}
+use lib.Seq.{set_out}
+use Rattle.rehearsal.proofs.results.write_number.Goals as goal
+
+pub returns-else-at-out : goal.returns-else-at-out
+returns-else-at-out c = sym (set_out _ _ _ c.if-at-out.false)
