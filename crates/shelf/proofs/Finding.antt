@@ -1,47 +1,31 @@
 -- Which place a name has, and what is read and written there, as code finds it.
 -- Assumes nothing.
-use Rattle.std.proofs.Common.{ℕ, ◌+◌, ◌-◌, ◌≤◌, ◌<◌, Bool, true, false, ◌≡◌, refl, sym, ap, ◌∙◌, cond, List, ◌++◌, Option, Some, None, Result, Ok, Err, length, get_or, set, take, drop, eqb, ltb, arith}
-use Rattle.std.specs.List.{position, position_or_len}
-use Rattle.std.specs.Prelude.{ok_or}
-use Rattle.std.proofs.lemmas.List.{get_or-take, length-take-le, length-drop}
-use Rattle.std.proofs.lemmas.List.Sums.{position_or_len_is}
+use Rattle.std.proofs.Common.{ℕ, ◌+◌, ◌-◌, ◌≤◌, ◌<◌, Bool, true, false, ◌≡◌, sym, ap, ◌∙◌, List, ◌++◌, Option, Some, None, Ok, Err, length, set, take, drop, eqb, arith}
+use Rattle.std.specs.Prelude.{ok_or, MatchOption}
+use Rattle.std.proofs.lemmas.List.{length-take-le, length-drop}
 use lib.Seq.{drop-drop}
-use borrow.Author.Tests.{ltb-true, ltb-false, ne_eqb}
-use Rattle.basis.proofs.Numbers.{some_at, some_none, lowest_bound, lowest_passes, lowest_before}
+use borrow.Author.Tests.{ne_eqb}
+use Rattle.basis.proofs.Numbers.{some_at, some_none, lowest_at, lowest_passes}
 use Rattle.table.specs.declared.refusals.Refused.{Refused}
 use Rattle.state.specs.Layout.{state_words}
 use Rattle.steps.specs.Shelves.{place_limit, saved_at, shelf_words, name_of, saved_of, is_held, place_of, put_saved, put_name}
 use Rattle.shelf.specs.Shelving.{Found}
 
--- the first of the names that is this one
-module _ (shelf : List ℕ) (name : ℕ) (room : place_limit ≤ length shelf) where
+-- the first of the places that has this name
+module _ (shelf : List ℕ) (name : ℕ) where
   abbrev named : ℕ → Bool
   named i = eqb (name_of shelf i) name
 
-  abbrev names : List ℕ
-  names = take place_limit shelf
+  -- r, as a search from the first place on finds it
+  abbrev pub Searched : Option ℕ → Type 0
+  Searched r =
+      MatchOption r ((k : ℕ) → 0 ≤ k → k < place_limit → named k ≡ false)
+      (λ (i : ℕ). (0 ≤ i) × (i < place_limit) × (named i ≡ true) × ((k : ℕ) → 0 ≤ k → k < i → named k ≡ false))
 
-  first_is : position_or_len (λ w. eqb w name) names ≡ place_of shelf name
-  first_is =
-      let n = length-take-le place_limit shelf room in
-      let l = lowest_bound named place_limit in
-      position_or_len_is (λ w. eqb w name) names (place_of shelf name) 0 (omega arith)
-      (λ k h. rw (get_or-take place_limit shelf k 0 (omega arith)) (lowest_before named place_limit k h))
-      (λ h. rw (get_or-take place_limit shelf (place_of shelf name) 0 (omega arith)) (lowest_passes named place_limit (omega arith)))
-
-  pub first_found : (r : Option ℕ) → r ≡ position (λ w. eqb w name) names → Found (is_held shelf name) (place_of shelf name) r
-  first_found r e = by (ltb (place_of shelf name) place_limit) refl
-    where
-      is : r ≡ cond (ltb (place_of shelf name) place_limit) (Some (place_of shelf name)) None
-      is = e ∙ rw (first_is, length-take-le place_limit shelf room)
-
-      by : (b : Bool) → ltb (place_of shelf name) place_limit ≡ b → Found (is_held shelf name) (place_of shelf name) r
-      by true l =
-          let h = ltb-true (place_of shelf name) place_limit l in
-          rw (is, l) (h, some_at named place_limit (place_of shelf name) h (lowest_passes named place_limit h), refl)
-      by false l =
-          let h = ltb-false (place_of shelf name) place_limit l in
-          rw (is, l) (some_none named place_limit (λ k m. lowest_before named place_limit k (omega arith)))
+  pub first_found : (r : Option ℕ) → Searched r → Found (is_held shelf name) (place_of shelf name) r
+  first_found None f = some_none named place_limit (λ k h. f k (omega arith) h)
+  first_found (Some r) m =
+      (m.1, some_at named place_limit r m.1 m.2, sym (lowest_at named place_limit r m.1 m.2 (λ k h. m.3 k (omega arith) h)))
 
   -- another place, or none, is found
   pub not_here : (r : Option ℕ) → Found (is_held shelf name) (place_of shelf name) r → (i : ℕ) → i < place_limit → (r ≡ Some i → ⊥) → eqb (place_of shelf name) i ≡ false

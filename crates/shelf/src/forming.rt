@@ -1,10 +1,8 @@
-// Whether a shelf's words are well formed for a table: 9, of a shelf.
-ghost use Rattle.std.specs.Prelude.{◌≡◌, ◌<◌, [], ◌∷◌, length};
-ghost use Rattle.table.specs.Checks.{first_of};
-ghost use Rattle.table.specs.Refusals.{result_check};
+// Whether a shelf's words are well formed for a table: 9, after what was judged before.
+ghost use Rattle.std.specs.Prelude.{◌≡◌, ◌<◌, IfOk, length};
 ghost use Rattle.table.specs.Fleets.{table_in};
 ghost use Rattle.steps.specs.Shelves.{place_limit, shelf_words, place_formed, shelf_formed};
-ghost use Rattle.steps.specs.Points.{shelf_check};
+ghost use Rattle.shelf.specs.Shelving.{ShelfJudged};
 
 use crate::places::{NAME_LIMIT, PLACES, place_of, saved_of};
 use table::{Fleet, Refused};
@@ -29,12 +27,13 @@ fn shelf_formed(fleet: &Fleet, shelf: &[u32]) -> bool
     (0..PLACES).all(|place| place_formed(fleet, shelf, place))
 }
 
-// 9, of the shelf.
-pub fn judge_shelf(fleet: &Fleet, shelf: &[u32]) -> Result<(), Refused>
-    requires { length shelf.now ≡ shelf_words }
-    ensures { result_check result ≡ first_of (shelf_check (table_in fleet.now) shelf.now ∷ []) }
+// What was judged before, and then 9 of the shelf.
+pub fn judge_shelf(earlier: Result<Fleet, Refused>, shelf: &[u32]) -> Result<(), Refused>
+    requires { IfOk earlier (λ fleet. length shelf.now ≡ shelf_words) }
+    ensures { ShelfJudged earlier.entry shelf.now result }
 {
-    if shelf_formed(fleet, shelf) {
+    let fleet = earlier?;
+    if shelf_formed(&fleet, shelf) {
         Ok(())
     } else {
         Err(Refused::StateNotWellFormed)

@@ -26,8 +26,8 @@ pub fn save(
     ensures { Changes (save_of table.now state.now (length scratch.old) shelf.old name)
         result shelf.new }
 {
-    let fleet = open(table, state, shelf.len() == SHELF_WORDS, scratch)?;
-    judge_shelf(&fleet, shelf)?;
+    let opened = open(table, state, shelf.len() == SHELF_WORDS, scratch);
+    judge_shelf(opened, shelf)?;
     save_in(state, shelf, name)
 }
 
@@ -42,8 +42,8 @@ pub fn restore(
     ensures { Changes (restore_of table.now state.old (length scratch.old) shelf.now name)
         result state.new }
 {
-    let fleet = open(table, state, shelf.len() == SHELF_WORDS, scratch)?;
-    judge_shelf(&fleet, shelf)?;
+    let opened = open(table, state, shelf.len() == SHELF_WORDS, scratch);
+    judge_shelf(opened, shelf)?;
     restore_in(state, shelf, name)
 }
 
@@ -51,7 +51,7 @@ pub fn restore(
 pub fn drop(table: &[u8], scratch: &mut [u32], shelf: &mut [u32], name: u32) -> Result<(), Refused>
     ensures { Changes (drop_of table.now (length scratch.old) shelf.old name) result shelf.new }
 {
-    let fleet = accept::accept(table, shelf.len() == SHELF_WORDS, scratch)?;
-    judge_shelf(&fleet, shelf)?;
+    let accepted = accept::accept(table, shelf.len() == SHELF_WORDS, scratch);
+    judge_shelf(accepted, shelf)?;
     drop_in(shelf, name)
 }

@@ -35,7 +35,7 @@ pub fn place_of(shelf: &[u32], name: u32) -> Option<usize>
     requires { place_limit ≤ length shelf.now }
     ensures { Found (is_held shelf.now name) (place_of shelf.now name) result }
 {
-    shelf[..PLACES].iter().position(|word| *word == name)
+    (0..PLACES).find(|place| shelf[*place] == name)
 }
 
 // The place where a name is saved: the one that it holds, or else the lowest free one.

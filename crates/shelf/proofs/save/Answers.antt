@@ -1,58 +1,50 @@
 -- `shelf::save` meets its contract.
 -- Assumes nothing.
-use mathlib.Core.Bool.{true}
-use mathlib.Core.Path.{◌≡◌, refl, sym, ap, ◌∙◌}
 use borrow.Author.Tests.{eqb-true}
-use Rattle.std.proofs.Common.{length, List, ℕ, [], ◌∷◌}
+use Rattle.std.proofs.Common.{length, List, ◌≡◌, Ok}
 use Rattle.std.proofs.lemmas.Result.{err_from_is_err_and}
-use Rattle.table.specs.Tables.{Table, table_of}
+use Rattle.table.specs.Tables.{table_of}
+use Rattle.table.specs.declared.fleets.Fleet.{Fleet}
 use Rattle.table.specs.Fleets.{table_in}
-use Rattle.table.specs.Checks.{Refusal, first_of}
+use Rattle.table.specs.Checks.{Refusal}
 use Rattle.steps.specs.Steps.{state_checks_with}
 use Rattle.opening.proofs.Opened.{opened_fit}
 use Rattle.steps.specs.Shelves.{is_whole_shelf, shelf_words}
-use Rattle.steps.specs.Points.{shelf_check, save_checks, saved, save_of}
-use Rattle.shelf.proofs.Judging.{refused_earlier, refused_shelf, then_own, of_table}
+use Rattle.steps.specs.Points.{save_checks, saved, save_of}
+use Rattle.shelf.proofs.Judging.{whole_where, judged_fleet, judged_refused, judged_passed}
 use Rattle.shelf.proofs.save.Goals as goal
-use Rattle.shelf.proofs.save.Goals.{Start, In_ok-fleet}
+use Rattle.shelf.proofs.save.Goals.{After-open-opened}
 
-abbrev earlier : Start → List Refusal
+abbrev earlier : After-open-opened → List Refusal
 earlier c = state_checks_with (is_whole_shelf c.args.shelf.now) c.args.table.now c.args.state.now (length c.args.scratch.now)
 
-abbrev of_shelf : Start → Refusal
-of_shelf c = shelf_check (table_of c.args.table.now) c.args.shelf.now
-
 -- the shelf has its length, and the fleet is the table's
-whole : (c : In_ok-fleet) → length c.args.shelf.now ≡ shelf_words
-whole c = eqb-true _ _ (opened_fit c.in_ok-fleet.ensures)
+whole : (c : After-open-opened) (f : Fleet) → c.open-opened.result ≡ Ok f → length c.args.shelf.now ≡ shelf_words
+whole c f e = eqb-true _ _ (opened_fit (rw e at c.open-opened.ensures))
 
-same : (c : In_ok-fleet) → table_in c.in_ok-fleet.fleet ≡ table_of c.args.table.now
-same c = (c.in_ok-fleet.ensures.opened _ refl).fleet
-
-pub returns-in_err-fleet : goal.returns-in_err-fleet
-unfolding save_of
-returns-in_err-fleet c =
-    let p = err_from_is_err_and c.from_residual.result c.from_residual.ensures.1 in
-    let a = (goal.at.returns-in_err-fleet c).Start in
-    rw (p.1, p.2) (refused_earlier (earlier a) (of_shelf a) (save_checks c.args.shelf.now c.args.name) c.args.shelf.now (saved c.args.state.now c.args.shelf.now c.args.name) c.in_err-fleet.ensures.check)
+same : (c : After-open-opened) (f : Fleet) → c.open-opened.result ≡ Ok f → table_in f ≡ table_of c.args.table.now
+same c f e = (c.open-opened.ensures.opened f e).fleet
 
 pub judge_shelf-requires : goal.judge_shelf-requires
-judge_shelf-requires c = whole (goal.at.judge_shelf-requires c).In_ok-fleet
+judge_shelf-requires c = whole_where c.open-opened.result c.args.shelf.now (whole (goal.at.judge_shelf-requires c).After-open-opened)
 
 pub returns-in_err-judge_shelf : goal.returns-in_err-judge_shelf
 unfolding save_of
 returns-in_err-judge_shelf c =
-    let p = err_from_is_err_and c.from_residual-in_err-judge_shelf.result c.from_residual-in_err-judge_shelf.ensures.1 in
-    let a = (goal.at.returns-in_err-judge_shelf c).Start in
-    let s = of_table c.args.table.now c.in_ok-fleet.fleet c.args.shelf.now (same (goal.at.returns-in_err-judge_shelf c).In_ok-fleet) c.in_err-judge_shelf.ensures in
-    rw (p.1, p.2) (refused_shelf (earlier a) (of_shelf a) (save_checks c.args.shelf.now c.args.name) c.args.shelf.now (saved c.args.state.now c.args.shelf.now c.args.name) c.in_ok-fleet.ensures.check s)
+    let p = err_from_is_err_and c.from_residual.result c.from_residual.ensures.1 in
+    let a = (goal.at.returns-in_err-judge_shelf c).After-open-opened in
+    rw (p.1, p.2)
+    (judged_refused c.args.table.now c.args.shelf.now (earlier a) (save_checks c.args.shelf.now c.args.name) c.args.shelf.now
+    (saved c.args.state.now c.args.shelf.now c.args.name) c.open-opened.result c.open-opened.ensures.check (same a) c.in_err-judge_shelf.ensures)
 
 pub save_in-requires : goal.save_in-requires
-save_in-requires c = ((c.in_ok-fleet.ensures.opened _ refl).proper.whole, whole (goal.at.save_in-requires c).In_ok-fleet)
+save_in-requires c =
+    let j = judged_fleet c.open-opened.result c.args.shelf.now c.in_ok-judge_shelf.ensures in
+    ((c.open-opened.ensures.opened j.0 j.1).proper.whole, whole (goal.at.save_in-requires c).After-open-opened j.0 j.1)
 
 pub returns : goal.returns
 unfolding save_of
 returns c =
-    let a = (goal.at.returns c).Start in
-    let s = of_table c.args.table.now c.in_ok-fleet.fleet c.args.shelf.now (same (goal.at.returns c).In_ok-fleet) c.in_ok-judge_shelf.ensures in
-    then_own (earlier a) (of_shelf a) (save_checks c.args.shelf.now c.args.name) c.args.shelf.now (saved c.args.state.now c.args.shelf.now c.args.name) c.in_ok-fleet.ensures.check s c.save_in.ensures
+    let a = (goal.at.returns c).After-open-opened in
+    judged_passed c.args.table.now c.args.shelf.now (earlier a) (save_checks c.args.shelf.now c.args.name) c.args.shelf.now
+    (saved c.args.state.now c.args.shelf.now c.args.name) c.open-opened.result c.open-opened.ensures.check (same a) c.in_ok-judge_shelf.ensures c.save_in.ensures

@@ -8,8 +8,10 @@ use Rattle.shelf.proofs.forming.judge_shelf.Goals as goal
 
 pub returns-then-shelf_formed : goal.returns-then-shelf_formed
 returns-then-shelf_formed c =
-    sym (first_both (shelf_check (table_in c.args.fleet.now) c.args.shelf.now) _ (ap not (sym c.shelf_formed.ensures ∙ c.if-shelf_formed.true)) none_passes)
+    rw c.in_ok-fleet.was
+    (sym (first_both (shelf_check (table_in c.in_ok-fleet.fleet) c.args.shelf.now) _ (ap not (sym c.shelf_formed.ensures ∙ c.if-shelf_formed.true)) none_passes))
 
 pub returns-else-shelf_formed : goal.returns-else-shelf_formed
 returns-else-shelf_formed c =
-    sym (first_refuses (shelf_check (table_in c.args.fleet.now) c.args.shelf.now) _ (ap not (sym c.shelf_formed.ensures ∙ c.if-shelf_formed.false)))
+    rw c.in_ok-fleet.was
+    (sym (first_refuses (shelf_check (table_in c.in_ok-fleet.fleet) c.args.shelf.now) _ (ap not (sym c.shelf_formed.ensures ∙ c.if-shelf_formed.false))))
