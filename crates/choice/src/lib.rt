@@ -5,7 +5,7 @@ mod goals; // goals.rt: where a walk goes to
 pub mod picks; // picks.rt: which part of a sequence or a parallel a choice is of
 pub mod turns; // turns.rt: one step from a node towards its choice
 pub mod writing; // writing.rt: what a node's choice leaves, written between two places
-mod outcomes; // outcomes.rt: what a derivation does, and how many words it leaves
+pub mod outcomes; // outcomes.rt: what a derivation does, and how many words it leaves
 pub mod marking; // marking.rt: the walk to a node's choice: its guards, as marks, and what it does
 
 use term::{Label, Mode};

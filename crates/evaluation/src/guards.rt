@@ -48,7 +48,8 @@ impl<'a> Sender<'a> {
     ghost use Rattle.state.specs.Walks.{truth_below};
     ghost use Rattle.evaluation.specs.Sets.{comparison, Found};
 
-    // A comparison for each agent of a set.
+    // A comparison for each agent of a set. Not inlined, so that its locals take no room in each level of a guard's walk.
+    #[inline(never)]
     fn compare_all(&self, agents: u32, node: usize) -> AgentSets
         requires { node < self.now.fleet.sizes.nodes }
         ensures { Found agents
