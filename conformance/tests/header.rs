@@ -293,6 +293,20 @@ fn every_refusal_of_the_header_is_explained() {
     }
 }
 
+/// What the library has a caller bring.
+#[test]
+fn the_library_needs_memset_alone() {
+    let archive = include().join("../target/staticlib/librehearsal.a");
+    let output = Command::new("nm").arg("-u").arg(archive).output();
+    let output = output.expect("nm, which comes with cc, can be run");
+    assert!(output.status.success());
+    let text = String::from_utf8(output.stdout).unwrap();
+    let names = text
+        .lines()
+        .filter_map(|line| line.trim().strip_prefix("U "));
+    assert!(names.eq(["memset"]), "{text}");
+}
+
 /// Threads that share a table, a state that they preview and save, and a shelf that they restore it from, each with
 /// other buffers of its own.
 #[test]
